@@ -1,0 +1,5 @@
+pub mod Move
+pub mod Task
+pub mod Sweep
+pub mod Meter
+pub mod Frame

@@ -1,0 +1,50 @@
+-- What a move answers, for every input, and what every lent buffer then holds. Assumes nothing.
+use mathlib.Core.Path.{_≡_}
+use mathlib.Core.Bool.{true, false}
+use mathlib.Core.List.{List}
+use Prim.Native.Nat.{ℕ}
+use lib.IntN.{ℤ}
+use Rattle.paper.specs.declared.Answer.{Answer}
+use Rattle.paper.specs.declared.Answer.the-variants.{Refused, Idle, Moved}
+use Rattle.paper.specs.Panel.Input.{graph, Call, Choices, Buffers}
+use Rattle.paper.specs.Panel.Takes.{takesGreys}
+use Rattle.paper.specs.Site.Acting.{SomeActs, NoneActs}
+use Rattle.paper.specs.Site.Bonds.{holds, holdsGrey}
+use Rattle.paper.specs.Component.Labels.{Labels}
+use Rattle.paper.specs.Component.Sizes.{Counted, Largest}
+use Rattle.paper.specs.Move.Moving.{Moves}
+use Rattle.paper.specs.Refusal.Rule.{Kept, Broken}
+use Rattle.paper.specs.Refusal.Rules.{When, rules}
+
+-- labels, counts and sizes are those of the spins before the move
+pub record Seen (c : Call) (b b′ : Buffers) : Type 0 where
+  pub labels : Labels (graph c) (holds c (b .spins)) (b′ .labels)
+  pub grey-labels : When (takesGreys c) (Labels (graph c) (holdsGrey c (b .spins)) (b′ .greyLabels))
+  pub grey-kept : takesGreys c ≡ false → b′ .greyLabels ≡ b .greyLabels
+  pub counts : Counted (b′ .labels) (b′ .counts)
+  pub sizes : Largest (b′ .labels) (b′ .sizes)
+
+-- refused with the number r: nothing is written
+pub record Refuses (c : Call) (p : Choices) (b : Buffers) (r : ℕ) (b′ : Buffers) : Type 0 where
+  pub why : Broken (rules c p b) r
+  pub kept : b′ ≡ b
+
+-- idle: no site acts
+pub record Rests (c : Call) (p : Choices) (b b′ : Buffers) : Type 0 where
+  pub valid : Kept (rules c p b)
+  pub none : NoneActs c (b .spins)
+  pub still : b′ .spins ≡ b .spins
+  pub seen : Seen c b b′
+
+-- any other accepted call. To observe moves no site
+pub record Goes (c : Call) (p : Choices) (b b′ : Buffers) : Type 0 where
+  pub valid : Kept (rules c p b)
+  pub some : SomeActs c (b .spins)
+  pub moved : Moves c p (b .spins) (b′ .labels) (b′ .greyLabels) (b′ .spins)
+  pub seen : Seen c b b′
+
+-- the answer a may be given to the call c with the choices p and the lent buffers b, which then hold b′
+abbrev pub Answers : Call → Choices → Buffers → Answer → Buffers → Type 0
+Answers c p b (Refused r) b′ = Refuses c p b r b′
+Answers c p b Idle b′ = Rests c p b b′
+Answers c p b Moved b′ = Goes c p b b′

@@ -1,0 +1,99 @@
+-- What a sweep answers, for every input: each task is the move that it would be alone. Assumes nothing.
+use Prim.Native.Nat.{ℕ, zero, suc, _+_, _*_, _≤_, _<_}
+use mathlib.Core.Path.{_≡_}
+use mathlib.Core.Logic.{_≢_}
+use mathlib.Core.Bool.{Bool, true, false, cond}
+use mathlib.Core.List.{List, [], _∷_, _++_}
+use lib.ListN.{length, getD}
+use lib.IntN.{ℤ}
+use lib.Ieee.{Float, nan}
+use Rattle.paper.specs.declared.Answer.{Answer}
+use Rattle.paper.specs.declared.SweepAnswer.{SweepAnswer}
+use Rattle.paper.specs.declared.SweepAnswer.the-variants.{Fault, Swept}
+use Rattle.paper.specs.Panel.Input.{Call, Choices, Buffers, spin, pattern, size, system}
+use Rattle.paper.specs.Panel.Takes.{takesCuts, takesFlips, takesPerms, takesGreys, takesReference, takesSeed, entries}
+use Rattle.paper.specs.Refusal.Rule.{Rule, rule, Kept, Broken}
+use Rattle.paper.specs.Refusal.Rules.{When, Ranged, Spins, Inverse, Permutes, SmallCouplings, Warm, choiceRules}
+use Rattle.paper.specs.Answer.Move.{Answers}
+use Rattle.paper.specs.Answer.Task.{Sweep, groups, tasks, masked, part, taskCall, taskChoices, areas, idleTasks, movedTasks}
+
+-- what all tasks share
+abbrev pub common : Sweep → Call
+common w = taskCall w 0
+
+pub record SweepRanged (w : Sweep) : Type 0 where
+  pub ranged : Ranged (w .lattice) (w .mode) (w .members)
+  pub all : w .t * w .r ≡ w .lattice .s
+  pub enough : w .members ≤ w .r
+
+pub record SweepExact (w : Sweep) (b : Buffers) : Type 0 where
+  pub spins : length (b .spins) ≡ w .lattice .s * w .lattice .n
+  pub fwd : length (w .lattice .fwd) ≡ w .lattice .n * w .lattice .d
+  pub bwd : length (w .lattice .bwd) ≡ w .lattice .n * w .lattice .d
+  pub order : length (w .order) ≡ w .lattice .s
+  pub masks : length (w .masks) ≡ w .t
+  pub couplings : When (takesCuts (common w)) (length (w .lattice .couplings) ≡ w .lattice .n * w .lattice .d)
+  pub temperatures : When (takesCuts (common w)) (length (w .temperatures) ≡ w .t)
+  pub cuts : When (takesCuts (common w)) (length (w .cuts) ≡ tasks w * (w .lattice .n * w .lattice .d))
+  pub flips : When (takesFlips (common w)) (length (w .flips) ≡ tasks w * w .lattice .n)
+  pub perms : When (takesPerms (common w)) (length (w .perms) ≡ tasks w * (entries (w .form) (w .lattice .n) * w .members))
+  pub greys : When (takesGreys (common w)) (length (w .greys) ≡ tasks w * entries (w .form) (w .lattice .n))
+  pub references : When (takesReference (common w)) (length (w .references) ≡ tasks w)
+  pub seeds : When (takesSeed (common w)) (length (w .seeds) ≡ tasks w)
+  pub labels : length (b .labels) ≡ tasks w * w .lattice .n
+  pub grey-labels : When (takesGreys (common w)) (length (b .greyLabels) ≡ tasks w * w .lattice .n)
+  pub counts : length (b .counts) ≡ tasks w * (w .lattice .n + 1)
+  pub sizes : length (b .sizes) ≡ tasks w * 4
+
+-- unmasked tasks in ascending order, each through 8, 9, 10 on the spins before the sweep
+abbrev pub taskRules : Sweep → Buffers → ℕ → List Rule
+taskRules w b zero = []
+taskRules w b (suc k) = taskRules w b k ++ cond (masked w k) [] (choiceRules (taskCall w k) (taskChoices w k) (b .spins))
+
+abbrev pub sweepRules : Sweep → Buffers → List Rule
+sweepRules w b =
+    rule 1 (SweepRanged w)
+    ∷ rule 2 (SweepExact w b)
+    ∷ rule 3 (Spins (b .spins))
+    ∷ rule 4 (Inverse (w .lattice))
+    ∷ rule 5 (Permutes (w .lattice .s) (λ k. getD (w .order) k 0))
+    ∷ rule 6 (When (takesCuts (common w)) (SmallCouplings (w .lattice .couplings)))
+    ∷ rule 7 (When (takesCuts (common w)) ((j : ℕ) → j < w .t → Warm (getD (w .temperatures) j nan)))
+    ∷ rule 9 ((j : ℕ) → j < w .t → getD (w .masks) j 0 ≤ 1)
+    ∷ taskRules w b (tasks w)
+
+-- the task k, alone on the spins before the sweep, would leave the spins xs: its group's rows are those, and its areas are its outputs
+pub record Done (w : Sweep) (b b′ : Buffers) (k : ℕ) : Type 0 where
+  pub answer : Answer
+  pub spins : List ℤ
+  pub answers : Answers (taskCall w k) (taskChoices w k) (areas w b (b .spins) k) answer (areas w b′ spins k)
+  pub rows : (i x : ℕ) → i < w .lattice .n → x < w .members → pattern (taskCall w k) (b′ .spins) i x ≡ pattern (taskCall w k) spins i x
+
+-- the system t is in no unmasked task's group
+abbrev pub Unmoved : Sweep → ℕ → Type 0
+Unmoved w t = (k x : ℕ) → k < tasks w → masked w k ≡ false → x < w .members → t ≢ system (taskCall w k) x
+
+pub record SameLengths (b b′ : Buffers) : Type 0 where
+  pub spins : length (b′ .spins) ≡ length (b .spins)
+  pub labels : length (b′ .labels) ≡ length (b .labels)
+  pub counts : length (b′ .counts) ≡ length (b .counts)
+  pub sizes : length (b′ .sizes) ≡ length (b .sizes)
+  pub grey-labels : length (b′ .greyLabels) ≡ length (b .greyLabels)
+
+pub record Sweeps (w : Sweep) (b : Buffers) (idle moved : ℕ) (b′ : Buffers) : Type 0 where
+  pub valid : Kept (sweepRules w b)
+  pub idles : idle ≡ idleTasks w (b .spins)
+  pub moveds : moved ≡ movedTasks w (b .spins)
+  pub lengths : SameLengths b b′
+  pub each : (k : ℕ) → k < tasks w → masked w k ≡ false → Done w b b′ k
+  pub skipped : (k : ℕ) → k < tasks w → masked w k ≡ true → areas w b′ (b .spins) k ≡ areas w b (b .spins) k
+  pub others : (i t : ℕ) → i < w .lattice .n → Unmoved w t → spin (w .lattice .n) (b′ .spins) t i ≡ spin (w .lattice .n) (b .spins) t i
+  pub grey-kept : takesGreys (common w) ≡ false → b′ .greyLabels ≡ b .greyLabels
+
+pub record SweepRefuses (w : Sweep) (b : Buffers) (r : ℕ) (b′ : Buffers) : Type 0 where
+  pub why : Broken (sweepRules w b) r
+  pub kept : b′ ≡ b
+
+abbrev pub SweepAnswers : Sweep → Buffers → SweepAnswer → Buffers → Type 0
+SweepAnswers w b (Fault r) b′ = SweepRefuses w b r b′
+SweepAnswers w b (Swept idle moved) b′ = Sweeps w b idle moved b′

@@ -1,0 +1,103 @@
+-- A sweep: its tasks, each a move with its own areas. Assumes nothing.
+use Prim.Native.Nat.{ℕ, zero, suc, _+_, _*_, _/_, _%_, _≤_, _<_}
+use mathlib.Core.Path.{_≡_}
+use mathlib.Core.Bool.{Bool, true, false, not, cond, _&&_}
+use mathlib.Core.List.{List, [], _∷_}
+use lib.Dec.{eqb, ltb}
+use lib.ListN.{length, getD, take, drop}
+use lib.IntN.{ℤ}
+use lib.Ieee.{Float, nan}
+use Rattle.paper.specs.declared.Group.{Group}
+use Rattle.paper.specs.declared.Mode.{Mode}
+use Rattle.paper.specs.declared.Form.{Form}
+use Rattle.paper.specs.Panel.Input.{Lattice, Call, Choices, Buffers, size}
+use Rattle.paper.specs.Panel.Takes.{entries}
+use Rattle.paper.specs.Site.Acting.{acts}
+use Rattle.paper.specs.Component.Sizes.{countWhere}
+
+-- t temperatures of r replicas; groups of `members` systems. The last six are the tasks' areas, at the task's number
+pub record Sweep : Type 0 where
+  pub mode : Mode
+  pub form : Form
+  pub lattice : Lattice
+  pub t : ℕ
+  pub r : ℕ
+  pub members : ℕ
+  pub order : List ℕ
+  pub masks : List ℕ
+  pub temperatures : List Float
+  pub cuts : List Float
+  pub references : List ℕ
+  pub seeds : List ℕ
+  pub flips : List ℕ
+  pub perms : List ℕ
+  pub greys : List ℕ
+
+-- groups at each temperature, and tasks
+abbrev pub groups : Sweep → ℕ
+groups w = w .r / w .members
+
+abbrev pub tasks : Sweep → ℕ
+tasks w = w .t * groups w
+
+-- task k = j * groups + g is of temperature j and has the g-th run of its order entries
+abbrev pub temperatureOf : Sweep → ℕ → ℕ
+temperatureOf w k = k / groups w
+
+abbrev pub orderAt : Sweep → ℕ → ℕ → ℕ
+orderAt w k x = getD (w .order) (temperatureOf w k * w .r + (k % groups w) * w .members + x) 0
+
+-- a mask byte 1 masks its temperature
+abbrev pub masked : Sweep → ℕ → Bool
+masked w k = eqb (getD (w .masks) (temperatureOf w k) 0) 1
+
+-- m numbers f 0, f 1, ..
+unfoldable pub table : ℕ → (ℕ → ℕ) → List ℕ
+table zero f = []
+table (suc m) f = f 0 ∷ table m (λ k. f (suc k))
+
+-- the part number k of those with m elements each
+abbrev pub part : {A : Type 0} → ℕ → ℕ → List A → List A
+part k m xs = take m (drop (k * m) xs)
+
+abbrev pub groupOf : Sweep → ℕ → Group
+groupOf w k = record { len = w .members; systems = table 8 (λ x. cond (ltb x (w .members)) (orderAt w k x) 0) }
+
+abbrev pub taskCall : Sweep → ℕ → Call
+taskCall w k = record {
+  mode = w .mode;
+  form = w .form;
+  lattice = w .lattice;
+  group = groupOf w k;
+  temperature = getD (w .temperatures) (temperatureOf w k) nan;
+  cuts = part k (w .lattice .n * w .lattice .d) (w .cuts);
+  reference = getD (w .references) k 0;
+  seed = getD (w .seeds) k 0;
+}
+
+abbrev pub taskChoices : Sweep → ℕ → Choices
+taskChoices w k = record {
+  flips = part k (w .lattice .n) (w .flips);
+  perms = part k (entries (w .form) (w .lattice .n) * w .members) (w .perms);
+  greys = part k (entries (w .form) (w .lattice .n)) (w .greys);
+}
+
+-- the task's output areas, with the spins xs
+abbrev pub areas : Sweep → Buffers → List ℤ → ℕ → Buffers
+areas w b xs k = record {
+  spins = xs;
+  labels = part k (w .lattice .n) (b .labels);
+  greyLabels = part k (w .lattice .n) (b .greyLabels);
+  counts = part k (w .lattice .n + 1) (b .counts);
+  sizes = part k 4 (b .sizes);
+}
+
+-- ---- the two counts
+abbrev pub idleTask : Sweep → List ℤ → ℕ → Bool
+idleTask w xs k = eqb (countWhere (acts (taskCall w k) xs) (w .lattice .n)) 0
+
+abbrev pub idleTasks : Sweep → List ℤ → ℕ
+idleTasks w xs = countWhere (λ k. not (masked w k) && idleTask w xs k) (tasks w)
+
+abbrev pub movedTasks : Sweep → List ℤ → ℕ
+movedTasks w xs = countWhere (λ k. not (masked w k) && not (idleTask w xs k)) (tasks w)

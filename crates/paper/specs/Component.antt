@@ -1,0 +1,3 @@
+pub mod Links
+pub mod Labels
+pub mod Sizes

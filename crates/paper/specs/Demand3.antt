@@ -1,0 +1,10 @@
+pub mod Reversible
+pub mod ActsKept
+pub mod Step
+pub mod Turns
+pub mod BondSums
+pub mod Compose
+pub mod Statement
+pub mod ChoicesAdd
+pub mod Chain
+pub mod ComposeChoices

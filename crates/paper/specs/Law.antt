@@ -1,0 +1,15 @@
+pub mod Unique
+pub mod Determined
+pub mod ByTest
+pub mod Sums
+pub mod Patterns
+pub mod Partners
+pub mod SweepDetermined
+pub mod Local
+pub mod AnswersLocal
+pub mod SweepTasks
+pub mod Sanity
+pub mod SweepAscending
+pub mod MovesExist
+pub mod FramesDetermined
+pub mod SweepCounts

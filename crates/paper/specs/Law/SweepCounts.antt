@@ -1,0 +1,49 @@
+-- The two counts of a sweep are those of its tasks' answers: a task is counted as idle exactly if it answers idle. Assumes nothing.
+use Prim.Native.Nat.{ℕ, zero, suc, _+_, _<_}
+use mathlib.Core.Path.{_≡_, refl, sym, _∙_}
+use mathlib.Core.Bool.{Bool, true, false}
+use mathlib.Core.List.{List}
+use native.Mathlib.Omega.{arith}
+use native.Mathlib.Decide.{ℕ-discrete}
+use borrow.Author.Tests.{eq-eqb, ne-eqb}
+use lib.Dec.{eqb}
+use lib.IntN.{ℤ}
+use Rattle.paper.specs.declared.Answer.{Answer}
+use Rattle.paper.specs.declared.Answer.the-variants.{Refused, Idle, Moved}
+use Rattle.paper.specs.Panel.Input.{Call, Choices, Buffers}
+use Rattle.paper.specs.Site.Acting.{acts}
+use Rattle.paper.specs.Component.Sizes.{bit, countWhere}
+use Rattle.paper.specs.Refusal.Rule.{Kept, broken-not-kept}
+use Rattle.paper.specs.Refusal.Rules.{rules}
+use Rattle.paper.specs.Answer.Move.{Answers}
+use Rattle.paper.specs.Answer.Task.{Sweep, tasks, masked, taskCall, taskChoices, areas, idleTask}
+use Rattle.paper.specs.Answer.Sweep.{sweepRules, Done}
+use Rattle.paper.specs.Law.SweepTasks.{task-valid}
+
+none-counts : (f : ℕ → Bool) (m : ℕ) → ((i : ℕ) → i < m → f i ≡ false) → countWhere f m ≡ 0
+unfolding countWhere
+none-counts f zero h = refl
+none-counts f (suc m) h = rw (h m (omega arith)) (omega (arith, none-counts f m (λ i l. h i (omega arith))))
+
+some-counts : (f : ℕ → Bool) (m i : ℕ) → i < m → f i ≡ true → 0 < countWhere f m
+unfolding countWhere
+some-counts f zero i l e = absurd (omega arith)
+some-counts f (suc m) i l e = at (ℕ-discrete i m) (λ (q : i < m). some-counts f m i q e)
+  where
+    at : Dec (i ≡ m) → (i < m → 0 < countWhere f m) → 0 < countWhere f m + bit (f m)
+    at (yes q) ih = rw (rw q at e) (omega arith)
+    at (no q) ih = omega (arith, ih (omega arith))
+
+-- what the answer says of the test that the counts use
+abbrev pub SaysIdle : Answer → Bool → Type 0
+SaysIdle (Refused r) t = ⊥
+SaysIdle Idle t = t ≡ true
+SaysIdle Moved t = t ≡ false
+
+says : (c : Call) (p : Choices) (b b′ : Buffers) (a : Answer) → Kept (rules c p b) → Answers c p b a b′ → SaysIdle a (eqb (countWhere (acts c (b .spins)) (c .lattice .n)) 0)
+says c p b b′ (Refused r) v w = broken-not-kept (rules c p b) r (w .why) v
+says c p b b′ Idle v w = eq-eqb _ _ (none-counts (acts c (b .spins)) (c .lattice .n) (w .none))
+says c p b b′ Moved v w = ne-eqb (countWhere (acts c (b .spins)) (c .lattice .n)) 0 (λ e. omega (arith, some-counts (acts c (b .spins)) (c .lattice .n) (w .some .site) (w .some .below) (w .some .does)))
+
+pub counted-as : (w : Sweep) (b b′ : Buffers) → Kept (sweepRules w b) → (k : ℕ) → k < tasks w → masked w k ≡ false → (d : Done w b b′ k) → SaysIdle (d .answer) (idleTask w (b .spins) k)
+counted-as w b b′ v k h e d = says (taskCall w k) (taskChoices w k) (areas w b (b .spins) k) (areas w b′ (d .spins) k) (d .answer) (task-valid w b v k h e) (d .answers)

@@ -1,0 +1,110 @@
+-- Labels, counts, sizes and moved spins are each determined. Assumes nothing.
+use Prim.Native.Nat.{ℕ, zero, suc, _+_, _*_, _/_, _%_, _≤_, _<_}
+use mathlib.Core.Path.{_≡_, refl, sym, _∙_, ap}
+use mathlib.Core.Logic.{_⊎_, inl, inr, ⊎-elim, _≢_, _↔_}
+use mathlib.Core.Bool.{Bool, true, false, _&&_}
+use mathlib.Core.List.{List}
+use native.Mathlib.Nat.{le-antisymm, lt-of-le-of-lt, lt-of-not-le, div-add-mod', mod-lt, le-refl}
+use native.Mathlib.Decide.{decLe, ℕ-discrete}
+use native.Mathlib.Numerals.{add-one-le}
+use native.Mathlib.Omega.{arith}
+use borrow.Author.Tests.{leb-true, leb-false, le-leb}
+use lib.Dec.{eqb, leb}
+use lib.ListN.{length, getD}
+use lib.Seq.{ext-getD}
+use lib.IntN.{ℤ, pos}
+use Rattle.paper.specs.Component.Links.{Linked.stay, trans, back}
+use Rattle.paper.specs.Panel.Input.{Graph, Call, Choices, spin, pattern, size, system}
+use Rattle.paper.specs.Component.Labels.{Joined, Labels}
+use Rattle.paper.specs.Component.Sizes.{bit, countWhere, labelOf, counted, sizeOf, atLeast, Counted, Rank, Largest}
+use Rattle.paper.specs.Move.Moving.{final, Moves}
+
+-- ---- labels
+module _ (t : Graph) (holding : ℕ → ℕ → Bool) where
+  at-most : (l m : List ℕ) → Labels t holding l → Labels t holding m → (i : ℕ) → i < t .n → getD l i 0 ≤ getD m i 0
+  at-most l m hl hm i il = hl .least i (getD m i 0) il (lt-of-le-of-lt (hm .least i i il il stay) il) (hm .joined i il)
+
+  pub labels-unique : (l m : List ℕ) → Labels t holding l → Labels t holding m → l ≡ m
+  labels-unique l m hl hm =
+      ext-getD 0 l m (hl .long ∙ sym (hm .long))
+      (λ i il. let k : i < t .n = rw (hl .long) at il in le-antisymm (at-most l m hl hm i k) (at-most m l hm hl i k))
+
+  -- two sites have one label just if they are joined
+  pub same-label : (l : List ℕ) → Labels t holding l → (i j : ℕ) → i < t .n → j < t .n → (getD l i 0 ≡ getD l j 0) ↔ Joined t holding i j
+  same-label l h i j il jl = (
+    (λ e. trans (h .joined i il) (back (rw (← e) at (h .joined j jl)))),
+    (λ w. le-antisymm (least i j il jl w) (least j i jl il (back w))),
+  )
+    where
+      least : (a b : ℕ) → a < t .n → b < t .n → Joined t holding a b → getD l a 0 ≤ getD l b 0
+      least a b al bl w = h .least a (getD l b 0) al (lt-of-le-of-lt (h .least b b bl bl stay) bl) (trans w (h .joined b bl))
+
+  pub label-lt : (l : List ℕ) → Labels t holding l → (i : ℕ) → i < t .n → getD l i 0 < t .n
+  label-lt l h i il = lt-of-le-of-lt (h .least i i il il stay) il
+
+-- ---- counts and sizes
+pub counts-unique : (l c₁ c₂ : List ℕ) → Counted l c₁ → Counted l c₂ → c₁ ≡ c₂
+counts-unique l c₁ c₂ h₁ h₂ =
+    ext-getD 0 c₁ c₂ (h₁ .long ∙ sym (h₂ .long))
+    (λ i il. let k : i ≤ length l = omega (arith, h₁ .long) in h₁ .each i k ∙ sym (h₂ .each i k))
+
+pub count-le : (f g : ℕ → Bool) (m : ℕ) → ((i : ℕ) → f i ≡ true → g i ≡ true) → countWhere f m ≤ countWhere g m
+unfolding countWhere
+count-le f g zero h = le-refl 0
+count-le f g (suc m) h = omega (arith, count-le f g m h, step (f m) refl)
+  where
+    step : (b : Bool) → f m ≡ b → bit b ≤ bit (g m)
+    step true e = rw (h m e) (le-refl 1)
+    step false e = omega arith
+
+falls : (l : List ℕ) (v w : ℕ) → v ≤ w → atLeast l w ≤ atLeast l v
+falls l v w h = count-le (λ r. counted l r && leb w (sizeOf l r)) (λ r. counted l r && leb v (sizeOf l r)) (length l) (λ r. weaken (counted l r) (sizeOf l r))
+  where
+    weaken : (b : Bool) (s : ℕ) → (b && leb w s) ≡ true → (b && leb v s) ≡ true
+    weaken true s e = le-leb v s (omega (arith, leb-true w s e))
+    weaken false s e = e
+
+rank-le : (l : List ℕ) (t a b : ℕ) → Rank l t a → Rank l t b → a ≤ b
+rank-le l t a b ra rb = go (ra .reached)
+  where
+    go : (a ≡ 0) ⊎ (t < atLeast l a) → a ≤ b
+    go (inl e) = omega arith
+    go (inr k) = at (decLe a b)
+      where
+        at : Dec (a ≤ b) → a ≤ b
+        at (yes h) = h
+        at (no h) = omega (arith, lt-of-not-le h, falls l (b + 1) a (add-one-le (lt-of-not-le h)), rb .larger)
+
+pub sizes-unique : (l s₁ s₂ : List ℕ) → Largest l s₁ → Largest l s₂ → s₁ ≡ s₂
+sizes-unique l s₁ s₂ h₁ h₂ =
+    ext-getD 0 s₁ s₂ (h₁ .long ∙ sym (h₂ .long))
+    (λ t tl. let k : t < 4 = omega (arith, h₁ .long) in le-antisymm (rank-le l t _ _ (h₁ .each t k) (h₂ .each t k)) (rank-le l t _ _ (h₂ .each t k) (h₁ .each t k)))
+
+-- ---- spins: a number is f of some place below m, or of none
+abbrev pub Placed : ℕ → (ℕ → ℕ) → ℕ → Type 0
+Placed m f t = (k : ℕ) × (k < m) × (t ≡ f k)
+
+pub place : (m : ℕ) (f : ℕ → ℕ) (t : ℕ) → Placed m f t ⊎ ((k : ℕ) → k < m → t ≢ f k)
+place zero f t = inr (λ k h e. omega arith)
+place (suc m) f t = go (ℕ-discrete t (f m)) (place m f t)
+  where
+    go : Dec (t ≡ f m) → Placed m f t ⊎ ((k : ℕ) → k < m → t ≢ f k) → Placed (suc m) f t ⊎ ((k : ℕ) → k < suc m → t ≢ f k)
+    go (yes q) r = inl (m, omega arith, q)
+    go (no q) (inl r) = inl (r .0, omega (arith, r .1), r .2)
+    go (no q) (inr r) = inr (λ k h. last k h (ℕ-discrete k m))
+      where
+        last : (k : ℕ) → k < suc m → Dec (k ≡ m) → t ≢ f k
+        last k h (yes e) = λ x. q (x ∙ ap f e)
+        last k h (no e) = r k (omega arith)
+
+-- two lists of spins are equal if their systems' spins are, of the group and of the others
+pub spins-equal : (c : Call) (ys zs : List ℤ) → 0 < c .lattice .n → length ys ≡ length zs → ((i k : ℕ) → i < c .lattice .n → k < size c → pattern c ys i k ≡ pattern c zs i k) → ((i t : ℕ) → i < c .lattice .n → ((k : ℕ) → k < size c → t ≢ system c k) → spin (c .lattice .n) ys t i ≡ spin (c .lattice .n) zs t i) → ys ≡ zs
+spins-equal c ys zs pos-n len group others = ext-getD (pos 0) ys zs len (λ x _. rw (← div-add-mod' x (c .lattice .n)) (at (x / c .lattice .n) (x % c .lattice .n) (mod-lt x pos-n) (place (size c) (system c) (x / c .lattice .n))))
+  where
+    at : (t i : ℕ) → i < c .lattice .n → Placed (size c) (system c) t ⊎ ((k : ℕ) → k < size c → t ≢ system c k) → spin (c .lattice .n) ys t i ≡ spin (c .lattice .n) zs t i
+    at t i h (inl r) = rw (r .2) (group i (r .0) h (r .1))
+    at t i h (inr r) = others i t h r
+
+pub moves-unique : (c : Call) (p : Choices) (xs : List ℤ) (l g : List ℕ) (ys zs : List ℤ) → 0 < c .lattice .n → Moves c p xs l g ys → Moves c p xs l g zs → ys ≡ zs
+moves-unique c p xs l g ys zs pos-n a b =
+    spins-equal c ys zs pos-n (a .long ∙ sym (b .long)) (λ i k h q. a .group i k h q ∙ sym (b .group i k h q)) (λ i t h q. a .others i t h q ∙ sym (b .others i t h q))

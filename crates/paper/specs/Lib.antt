@@ -1,0 +1,9 @@
+pub mod Panel
+pub mod Site
+pub mod Component
+pub mod Move
+pub mod Refusal
+pub mod Answer
+pub mod Law
+pub mod Demand3
+pub mod Rows

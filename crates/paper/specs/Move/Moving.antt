@@ -1,0 +1,113 @@
+-- What moves: at each site the group's pattern before the move becomes another pattern. Assumes nothing.
+use Prim.Native.Nat.{ℕ, zero, suc, _+_, _*_, _/_, _%_, _<_}
+use mathlib.Core.Path.{_≡_}
+use mathlib.Core.Logic.{_≢_}
+use mathlib.Core.Bool.{Bool, true, false, not, cond, _&&_}
+use mathlib.Core.List.{List}
+use lib.Dec.{eqb, ltb, leb}
+use lib.ListN.{length, getD}
+use lib.IntN.{ℤ, pos, negℤ, _*ℤ_}
+use Rattle.paper.specs.declared.Mode.{Mode}
+use Rattle.paper.specs.declared.Mode.the-variants.{Houd, Pair, Perm, Gperm, Jorg, Cmr}
+use Rattle.paper.specs.declared.Form.{Form}
+use Rattle.paper.specs.declared.Form.the-variants.{Sw, Wolff, Observe}
+use Rattle.paper.specs.Panel.Input.{Call, Choices, Pattern, pattern, spin, size, system}
+use Rattle.paper.specs.Panel.Takes.{isPerm, takesGreys, entry}
+use Rattle.paper.specs.Site.Acting.{acts}
+use Rattle.paper.specs.Component.Sizes.{labelOf, sizeOf}
+
+-- ---- what is chosen on the component with the label r
+
+-- a flip? SW reads it, Wolff flips the seed's component
+abbrev pub flipBy : Form → Choices → ℕ → Bool
+flipBy Sw p r = eqb (getD (p .flips) r 0) 1
+flipBy Wolff p r = true
+flipBy Observe p r = false
+
+-- the permutation's value at the place k
+abbrev pub permAt : Call → Choices → ℕ → ℕ → ℕ
+permAt c p r k = getD (p .perms) (entry (c .form) r * size c + k) 0
+
+abbrev pub greyAt : Call → Choices → ℕ → ℕ
+greyAt c p r = getD (p .greys) (entry (c .form) r) 0
+
+-- ---- what becomes of a pattern
+
+-- the places 0 and 1, 2 and 3, .. are partners
+unfoldable pub other : ℕ → ℕ
+other zero = 1
+other (suc zero) = 0
+other (suc (suc k)) = suc (suc (other k))
+
+-- among m places, the last of an odd number has none
+abbrev pub partner : ℕ → ℕ → ℕ
+partner m k = cond (ltb k (2 * (m / 2))) (other k) k
+
+abbrev pub flipSome : (ℕ → Bool) → Pattern → Pattern
+flipSome which f k = cond (which k) (negℤ (f k)) (f k)
+
+-- replica k gets the old spin of replica p k; gauged by the pattern P
+abbrev pub permute : (ℕ → ℕ) → Pattern → Pattern
+permute p f k = f (p k)
+
+abbrev pub gauged : Pattern → (ℕ → ℕ) → Pattern → Pattern
+gauged P p f k = P k *ℤ P (p k) *ℤ f (p k)
+
+-- the places that the component's choice makes of the places 0 to N - 1, in the modes that exchange spins between replicas
+abbrev pub chosenBy : Mode → Call → Choices → ℕ → ℕ → ℕ
+chosenBy Houd c p r k = cond (flipBy (c .form) p r) (partner (size c) k) k
+chosenBy Pair c p r k = cond (flipBy (c .form) p r) (partner (size c) k) k
+chosenBy Jorg c p r k = cond (flipBy (c .form) p r) (partner (size c) k) k
+chosenBy Perm c p r k = permAt c p r k
+chosenBy Gperm c p r k = permAt c p r k
+chosenBy Cmr c p r k = k
+
+abbrev pub chosen : Call → Choices → ℕ → ℕ → ℕ
+chosen c p = chosenBy (c .mode) c p
+
+-- with P at the reference site. CMR's is the blue flip, of both replicas
+abbrev pub actBy : Mode → Call → Choices → Pattern → ℕ → Pattern → Pattern
+actBy Houd c p P r f = flipSome (λ k. flipBy (c .form) p r && ltb k (2 * (size c / 2))) f
+actBy Pair c p P r f = permute (chosenBy Pair c p r) f
+actBy Jorg c p P r f = permute (chosenBy Jorg c p r) f
+actBy Perm c p P r f = permute (chosenBy Perm c p r) f
+actBy Gperm c p P r f = gauged P (chosenBy Gperm c p r) f
+actBy Cmr c p P r f = flipSome (λ k. flipBy (c .form) p r) f
+
+-- CMR: bit 0 of the grey number flips the first replica, bit 1 the second
+abbrev pub greyBit : ℕ → ℕ → Bool
+greyBit g zero = eqb (g % 2) 1
+greyBit g (suc k) = eqb (g / 2 % 2) 1
+
+-- ---- which sites it reaches
+
+-- SW flips move components of two or more sites only
+abbrev pub leastSize : Mode → ℕ
+leastSize m = cond (isPerm m) 1 2
+
+abbrev pub reachedBy : Form → Call → List ℕ → ℕ → Bool
+reachedBy Sw c l i = leb (leastSize (c .mode)) (sizeOf l (labelOf l i))
+reachedBy Wolff c l i = eqb (labelOf l i) (labelOf l (c .seed))
+reachedBy Observe c l i = false
+
+-- the site i acts and its component, by the labels l, is one that the form moves
+unfoldable pub reached : Call → List ℤ → List ℕ → ℕ → Bool
+reached c xs l i = acts c xs i && reachedBy (c .form) c l i
+
+-- ---- the pattern at the site i after the move
+
+abbrev pub after : Call → Choices → List ℤ → List ℕ → ℕ → Pattern
+after c p xs l i k = cond (reached c xs l i) (actBy (c .mode) c p (pattern c xs (c .reference)) (labelOf l i) (pattern c xs i) k) (pattern c xs i k)
+
+-- CMR's grey components move second
+abbrev pub afterGrey : Call → Choices → List ℤ → List ℕ → ℕ → Pattern → Pattern
+afterGrey c p xs g i f k = cond (takesGreys c && reached c xs g i) (flipSome (greyBit (greyAt c p (labelOf g i))) f k) (f k)
+
+unfoldable pub final : Call → Choices → List ℤ → List ℕ → List ℕ → ℕ → Pattern
+final c p xs l g i = afterGrey c p xs g i (after c p xs l i)
+
+-- the spins ys are the spins xs moved, with the labels l and the grey labels g
+pub record Moves (c : Call) (p : Choices) (xs : List ℤ) (l g : List ℕ) (ys : List ℤ) : Type 0 where
+  pub long : length ys ≡ length xs
+  pub group : (i k : ℕ) → i < c .lattice .n → k < size c → pattern c ys i k ≡ final c p xs l g i k
+  pub others : (i t : ℕ) → i < c .lattice .n → ((k : ℕ) → k < size c → t ≢ system c k) → spin (c .lattice .n) ys t i ≡ spin (c .lattice .n) xs t i

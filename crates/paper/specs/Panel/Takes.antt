@@ -1,0 +1,87 @@
+-- Which inputs each mode and form takes. Assumes nothing.
+use Prim.Native.Nat.{ℕ}
+use mathlib.Core.Bool.{Bool, true, false, not, _&&_}
+use Rattle.paper.specs.declared.Mode.{Mode}
+use Rattle.paper.specs.declared.Mode.the-variants.{Houd, Pair, Perm, Gperm, Jorg, Cmr}
+use Rattle.paper.specs.declared.Form.{Form}
+use Rattle.paper.specs.declared.Form.the-variants.{Sw, Wolff, Observe}
+use Rattle.paper.specs.Panel.Input.{Call}
+
+abbrev pub isPerm : Mode → Bool
+isPerm Houd = false
+isPerm Pair = false
+isPerm Perm = true
+isPerm Gperm = true
+isPerm Jorg = false
+isPerm Cmr = false
+
+abbrev pub isGperm : Mode → Bool
+isGperm Houd = false
+isGperm Pair = false
+isGperm Perm = false
+isGperm Gperm = true
+isGperm Jorg = false
+isGperm Cmr = false
+
+abbrev pub isCmr : Mode → Bool
+isCmr Houd = false
+isCmr Pair = false
+isCmr Perm = false
+isCmr Gperm = false
+isCmr Jorg = false
+isCmr Cmr = true
+
+-- the modes that draw their bonds
+abbrev pub isDrawn : Mode → Bool
+isDrawn Houd = false
+isDrawn Pair = false
+isDrawn Perm = false
+isDrawn Gperm = false
+isDrawn Jorg = true
+isDrawn Cmr = true
+
+abbrev pub isSw : Form → Bool
+isSw Sw = true
+isSw Wolff = false
+isSw Observe = false
+
+abbrev pub isWolff : Form → Bool
+isWolff Sw = false
+isWolff Wolff = true
+isWolff Observe = false
+
+abbrev pub moves : Form → Bool
+moves Sw = true
+moves Wolff = true
+moves Observe = false
+
+-- couplings, a temperature and cuts
+abbrev pub takesCuts : Call → Bool
+takesCuts c = isDrawn (c .mode)
+
+abbrev pub takesFlips : Call → Bool
+takesFlips c = isSw (c .form) && not (isPerm (c .mode))
+
+abbrev pub takesPerms : Call → Bool
+takesPerms c = moves (c .form) && isPerm (c .mode)
+
+-- grey numbers and grey labels
+abbrev pub takesGreys : Call → Bool
+takesGreys c = moves (c .form) && isCmr (c .mode)
+
+abbrev pub takesReference : Call → Bool
+takesReference c = isGperm (c .mode)
+
+abbrev pub takesSeed : Call → Bool
+takesSeed c = isWolff (c .form)
+
+-- how many entries a buffer of choices has, and which of them is the component's with the label r
+abbrev pub entries : Form → ℕ → ℕ
+entries Sw n = n
+entries Wolff n = 1
+entries Observe n = 0
+
+abbrev pub entry : Form → ℕ → ℕ
+entry Sw r = r
+entry Wolff r = 0
+entry Observe r = 0

@@ -1,0 +1,3 @@
+pub mod Rule
+pub mod Rules
+pub mod Kept

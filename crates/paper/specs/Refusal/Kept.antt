@@ -1,0 +1,51 @@
+-- The rules that an accepted move keeps, by name. Assumes nothing.
+use mathlib.Core.List.{List}
+use lib.IntN.{ℤ}
+use Rattle.paper.specs.Panel.Input.{Call, Choices, Buffers, size}
+use Rattle.paper.specs.Panel.Takes.{takesCuts}
+use Rattle.paper.specs.Refusal.Rule.{Kept}
+use Rattle.paper.specs.Refusal.Rules.{When, Ranged, Exact, Spins, Inverse, Grouped, SmallCouplings, Warm, Cuts, Chosen, Seeded, choiceRules, rules}
+
+-- 1 to 7
+pub record Sound (c : Call) (p : Choices) (b : Buffers) : Type 0 where
+  pub ranged : Ranged (c .lattice) (c .mode) (size c)
+  pub exact : Exact c p b
+  pub spins : Spins (b .spins)
+  pub inverse : Inverse (c .lattice)
+  pub grouped : Grouped (c .lattice .s) (c .group)
+  pub couplings : When (takesCuts c) (SmallCouplings (c .lattice .couplings))
+  pub warm : When (takesCuts c) (Warm (c .temperature))
+
+-- 8 to 10, the task's own
+pub record Fit (c : Call) (p : Choices) (xs : List ℤ) : Type 0 where
+  pub cuts : When (takesCuts c) (Cuts (c .cuts))
+  pub chosen : Chosen c p
+  pub seeded : Seeded c xs
+
+pub record Valid (c : Call) (p : Choices) (b : Buffers) : Type 0 where
+  pub sound : Sound c p b
+  pub fit : Fit c p (b .spins)
+
+pub fit-of : (c : Call) (p : Choices) (xs : List ℤ) → Kept (choiceRules c p xs) → Fit c p xs
+fit-of c p xs k = record { cuts = k .0; chosen = k .1 .0; seeded = k .1 .1 .0 }
+
+pub fit-kept : (c : Call) (p : Choices) (xs : List ℤ) → Fit c p xs → Kept (choiceRules c p xs)
+fit-kept c p xs f = (f .cuts, (f .chosen, (f .seeded, tt)))
+
+-- all rules are kept just if these are
+pub valid-of : (c : Call) (p : Choices) (b : Buffers) → Kept (rules c p b) → Valid c p b
+valid-of c p b k = record {
+  sound = record {
+    ranged = k .0;
+    exact = k .1 .0;
+    spins = k .1 .1 .0;
+    inverse = k .1 .1 .1 .0;
+    grouped = k .1 .1 .1 .1 .0;
+    couplings = k .1 .1 .1 .1 .1 .0;
+    warm = k .1 .1 .1 .1 .1 .1 .0;
+  };
+  fit = fit-of c p (b .spins) (k .1 .1 .1 .1 .1 .1 .1);
+}
+
+pub valid-kept : (c : Call) (p : Choices) (b : Buffers) → Valid c p b → Kept (rules c p b)
+valid-kept c p b v = let s = v .sound in (s .ranged, (s .exact, (s .spins, (s .inverse, (s .grouped, (s .couplings, (s .warm, fit-kept c p (b .spins) (v .fit))))))))

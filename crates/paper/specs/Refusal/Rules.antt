@@ -1,0 +1,135 @@
+-- The refusals 1 to 10, as the rules that an accepted input keeps, in their order. A rule asks only of what the mode and form take. Assumes nothing.
+use Prim.Native.Nat.{ℕ, _+_, _*_, _/_, _≤_, _<_}
+use mathlib.Core.Path.{_≡_}
+use mathlib.Core.Logic.{_⊎_}
+use mathlib.Core.Bool.{Bool, true, false, not, _&&_, _||_}
+use mathlib.Core.List.{List, [], _∷_}
+use lib.Dec.{eqb}
+use lib.ListN.{length, getD}
+use lib.IntN.{ℤ, pos, negsuc, natAbs}
+use lib.Ieee.{Float, nan, inf, fin, binary32, div, le}
+use Rattle.paper.specs.declared.Group.{Group}
+use Rattle.paper.specs.declared.Mode.{Mode}
+use Rattle.paper.specs.Panel.Input.{Lattice, Call, Choices, Buffers, size, system, member, bondOf}
+use Rattle.paper.specs.Panel.Takes.{isCmr, isWolff, moves, takesCuts, takesFlips, takesPerms, takesGreys, takesReference, takesSeed, entries}
+use Rattle.paper.specs.Site.Acting.{acts, SomeActs}
+use Rattle.paper.specs.Site.Bonds.{whole}
+use Rattle.paper.specs.Refusal.Rule.{Rule, rule}
+
+-- of an input that is taken
+abbrev pub When : Bool → Type 0 → Type 0
+When taken P = taken ≡ true → P
+
+pub record Sizes (t : Lattice) : Type 0 where
+  pub n-low : 1 ≤ t .n
+  pub n-high : t .n ≤ 4096
+  pub d-low : 1 ≤ t .d
+  pub d-high : t .d ≤ 4
+  pub s-low : 1 ≤ t .s
+  pub s-high : t .s ≤ 64
+
+-- a group of m systems; CMR takes two only
+pub record Ranged (t : Lattice) (mode : Mode) (m : ℕ) : Type 0 where
+  pub lattice : Sizes t
+  pub size-low : 2 ≤ m
+  pub size-high : m ≤ 8
+  pub cmr-two : When (isCmr mode) (m ≡ 2)
+
+pub record Exact (c : Call) (p : Choices) (b : Buffers) : Type 0 where
+  pub spins : length (b .spins) ≡ c .lattice .s * c .lattice .n
+  pub fwd : length (c .lattice .fwd) ≡ c .lattice .n * c .lattice .d
+  pub bwd : length (c .lattice .bwd) ≡ c .lattice .n * c .lattice .d
+  pub couplings : When (takesCuts c) (length (c .lattice .couplings) ≡ c .lattice .n * c .lattice .d)
+  pub cuts : When (takesCuts c) (length (c .cuts) ≡ c .lattice .n * c .lattice .d)
+  pub flips : When (takesFlips c) (length (p .flips) ≡ c .lattice .n)
+  pub perms : When (takesPerms c) (length (p .perms) ≡ entries (c .form) (c .lattice .n) * size c)
+  pub greys : When (takesGreys c) (length (p .greys) ≡ entries (c .form) (c .lattice .n))
+  pub labels : length (b .labels) ≡ c .lattice .n
+  pub grey-labels : When (takesGreys c) (length (b .greyLabels) ≡ c .lattice .n)
+  pub counts : length (b .counts) ≡ c .lattice .n + 1
+  pub sizes : length (b .sizes) ≡ 4
+
+-- a spin is +1 or -1
+abbrev pub Spin : ℤ → Type 0
+Spin z = (z ≡ pos 1) ⊎ (z ≡ negsuc 0)
+
+abbrev pub Spins : List ℤ → Type 0
+Spins xs = (i : ℕ) → i < length xs → Spin (getD xs i (pos 0))
+
+-- the neighbour of site i by the table a is a site, and the table b leads back from it
+pub record Back (t : Lattice) (a b : List ℕ) (i e : ℕ) : Type 0 where
+  pub inside : getD a (bondOf t i e) 0 < t .n
+  pub home : getD b (bondOf t (getD a (bondOf t i e) 0) e) 0 ≡ i
+
+pub record Inverse (t : Lattice) : Type 0 where
+  pub there : (i e : ℕ) → i < t .n → e < t .d → Back t (t .fwd) (t .bwd) i e
+  pub here : (i e : ℕ) → i < t .n → e < t .d → Back t (t .bwd) (t .fwd) i e
+
+-- no two of the first m are equal
+abbrev pub Distinct : ℕ → (ℕ → ℕ) → Type 0
+Distinct m f = (a b : ℕ) → a < m → b < m → f a ≡ f b → a ≡ b
+
+-- the group's systems are among s, and none stands twice; entries past its length are not looked at
+pub record Grouped (s : ℕ) (g : Group) : Type 0 where
+  pub below : (k : ℕ) → k < g .len → member g k < s
+  pub distinct : Distinct (g .len) (member g)
+
+abbrev pub SmallCouplings : List ℤ → Type 0
+SmallCouplings js = (k : ℕ) → k < length js → natAbs (getD js k (pos 0)) ≤ 1000000
+
+-- from 1/1024 to 1,048,576; no number at all is in no range
+abbrev pub Warm : Float → Type 0
+Warm t = (le (div binary32 (whole 1) (whole 1024)) t && le t (whole 1048576)) ≡ true
+
+-- finite and at least 0; -0 is 0
+abbrev pub isCut : Float → Bool
+isCut nan = false
+isCut (inf s) = false
+isCut (fin s m e) = not s || eqb m 0
+
+abbrev pub Cuts : List Float → Type 0
+Cuts xs = (k : ℕ) → k < length xs → isCut (getD xs k nan) ≡ true
+
+-- p is a permutation of the numbers below m
+pub record Permutes (m : ℕ) (p : ℕ → ℕ) : Type 0 where
+  pub within : (k : ℕ) → k < m → p k < m
+  pub distinct : Distinct m p
+
+-- p moves some number below m
+pub record NotIdentity (m : ℕ) (p : ℕ → ℕ) : Type 0 where
+  pub place : ℕ
+  pub below : place < m
+  pub moved : p place ≡ place → ⊥
+
+-- the entry r of the permutations; every entry is tested, also one that no component uses
+abbrev pub permRow : Call → Choices → ℕ → ℕ → ℕ
+permRow c p r k = getD (p .perms) (r * size c + k) 0
+
+pub record Chosen (c : Call) (p : Choices) : Type 0 where
+  pub perms : When (takesPerms c) ((r : ℕ) → r < entries (c .form) (c .lattice .n) → Permutes (size c) (permRow c p r))
+  pub not-identity : When (takesPerms c && isWolff (c .form)) (NotIdentity (size c) (permRow c p 0))
+  pub flips : When (takesFlips c) ((r : ℕ) → r < c .lattice .n → getD (p .flips) r 0 ≤ 1)
+  pub greys : When (takesGreys c) ((r : ℕ) → r < entries (c .form) (c .lattice .n) → getD (p .greys) r 0 ≤ 3)
+  pub grey-some : When (takesGreys c && isWolff (c .form)) (1 ≤ getD (p .greys) 0 0)
+  pub reference : When (takesReference c) (c .reference < c .lattice .n)
+
+-- CMR's sites all act
+pub record Seeded (c : Call) (xs : List ℤ) : Type 0 where
+  pub below : When (takesSeed c) (c .seed < c .lattice .n)
+  pub acting : When (takesSeed c) (SomeActs c xs → acts c xs (c .seed) ≡ true)
+
+-- 8, 9 and 10
+abbrev pub choiceRules : Call → Choices → List ℤ → List Rule
+choiceRules c p xs = rule 8 (When (takesCuts c) (Cuts (c .cuts))) ∷ rule 9 (Chosen c p) ∷ rule 10 (Seeded c xs) ∷ []
+
+-- the refusals in their order
+abbrev pub rules : Call → Choices → Buffers → List Rule
+rules c p b =
+    rule 1 (Ranged (c .lattice) (c .mode) (size c))
+    ∷ rule 2 (Exact c p b)
+    ∷ rule 3 (Spins (b .spins))
+    ∷ rule 4 (Inverse (c .lattice))
+    ∷ rule 5 (Grouped (c .lattice .s) (c .group))
+    ∷ rule 6 (When (takesCuts c) (SmallCouplings (c .lattice .couplings)))
+    ∷ rule 7 (When (takesCuts c) (Warm (c .temperature)))
+    ∷ choiceRules c p (b .spins)
