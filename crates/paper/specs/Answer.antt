@@ -1,3 +1,4 @@
+pub mod Number
 pub mod Move
 pub mod Task
 pub mod Sweep

@@ -1,3 +1,4 @@
 pub mod Links
 pub mod Labels
 pub mod Sizes
+pub mod Marks

@@ -120,7 +120,7 @@ pub record FrameSizes (t : Lattice) : Type 0 where
 pub record HasBack (text : List ℕ) : Type 0 where
   pub bwd : List ℕ
   pub long : length bwd ≡ frameLattice text [] .n * frameLattice text [] .d
-  pub inverse : Inverse (frameLattice text bwd)
+  pub inverse : Inverse (frameLattice text [] .n) (frameLattice text [] .d) (frameLattice text [] .fwd) bwd
 
 pub record GroupSize (m : ℕ) : Type 0 where
   pub low : 2 ≤ m

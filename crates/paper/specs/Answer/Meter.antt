@@ -6,6 +6,7 @@ use lib.ListN.{length}
 use lib.IntN.{ℤ}
 use Rattle.paper.specs.declared.MeterAnswer.{MeterAnswer}
 use Rattle.paper.specs.declared.MeterAnswer.the-variants.{Unmetered, Energy}
+use Rattle.paper.specs.Answer.Number.{meterNumber}
 use Rattle.paper.specs.Panel.Input.{Lattice}
 use Rattle.paper.specs.Refusal.Rule.{Rule, rule, Kept, Broken, broken-unique, broken-not-kept}
 use Rattle.paper.specs.Refusal.Rules.{Sizes, Spins, Inverse, SmallCouplings}
@@ -19,7 +20,13 @@ pub record MeterExact (t : Lattice) (xs : List ℤ) : Type 0 where
 
 abbrev pub meterRules : Lattice → List ℤ → ℕ → List Rule
 meterRules t xs k =
-    rule 1 (Sizes t) ∷ rule 2 (MeterExact t xs) ∷ rule 3 (Spins xs) ∷ rule 4 (Inverse t) ∷ rule 5 (k < t .s) ∷ rule 6 (SmallCouplings (t .couplings)) ∷ []
+    rule 1 (Sizes (t .n) (t .d) (t .s))
+    ∷ rule 2 (MeterExact t xs)
+    ∷ rule 3 (Spins xs)
+    ∷ rule 4 (Inverse (t .n) (t .d) (t .fwd) (t .bwd))
+    ∷ rule 5 (k < t .s)
+    ∷ rule 6 (SmallCouplings (t .couplings))
+    ∷ []
 
 pub record Meters (t : Lattice) (xs : List ℤ) (k : ℕ) (e : ℤ) : Type 0 where
   pub valid : Kept (meterRules t xs k)
@@ -27,7 +34,7 @@ pub record Meters (t : Lattice) (xs : List ℤ) (k : ℕ) (e : ℤ) : Type 0 whe
 
 -- nothing is lent to write to
 abbrev pub MeterAnswers : Lattice → List ℤ → ℕ → MeterAnswer → Type 0
-MeterAnswers t xs k (Unmetered r) = Broken (meterRules t xs k) r
+MeterAnswers t xs k (Unmetered r) = Broken (meterRules t xs k) (meterNumber (Unmetered r))
 MeterAnswers t xs k (Energy e) = Meters t xs k e
 
 pub meter-determined : (t : Lattice) (xs : List ℤ) (k : ℕ) (a a′ : MeterAnswer) → MeterAnswers t xs k a → MeterAnswers t xs k a′ → a ≡ a′

@@ -6,6 +6,7 @@ use Prim.Native.Nat.{ℕ}
 use lib.IntN.{ℤ}
 use Rattle.paper.specs.declared.Answer.{Answer}
 use Rattle.paper.specs.declared.Answer.the-variants.{Refused, Idle, Moved}
+use Rattle.paper.specs.Answer.Number.{number}
 use Rattle.paper.specs.Panel.Input.{graph, Call, Choices, Buffers}
 use Rattle.paper.specs.Panel.Takes.{takesGreys}
 use Rattle.paper.specs.Site.Acting.{SomeActs, NoneActs}
@@ -45,6 +46,6 @@ pub record Goes (c : Call) (p : Choices) (b b′ : Buffers) : Type 0 where
 
 -- the answer a may be given to the call c with the choices p and the lent buffers b, which then hold b′
 abbrev pub Answers : Call → Choices → Buffers → Answer → Buffers → Type 0
-Answers c p b (Refused r) b′ = Refuses c p b r b′
+Answers c p b (Refused r) b′ = Refuses c p b (number (Refused r)) b′
 Answers c p b Idle b′ = Rests c p b b′
 Answers c p b Moved b′ = Goes c p b b′

@@ -14,6 +14,7 @@ use Rattle.paper.specs.Panel.Input.{Call, Choices, Buffers, spin, patter
 use Rattle.paper.specs.Panel.Takes.{takesCuts, takesFlips, takesPerms, takesGreys, takesReference, takesSeed, entries}
 use Rattle.paper.specs.Refusal.Rule.{Rule, rule, Kept, Broken}
 use Rattle.paper.specs.Refusal.Rules.{When, Ranged, Spins, Inverse, Permutes, SmallCouplings, Warm, choiceRules}
+use Rattle.paper.specs.Answer.Number.{sweepNumber, idleOf, movedOf}
 use Rattle.paper.specs.Answer.Move.{Answers}
 use Rattle.paper.specs.Answer.Task.{Sweep, groups, tasks, masked, part, taskCall, taskChoices, areas, idleTasks, movedTasks}
 
@@ -22,7 +23,7 @@ abbrev pub common : Sweep → Call
 common w = taskCall w 0
 
 pub record SweepRanged (w : Sweep) : Type 0 where
-  pub ranged : Ranged (w .lattice) (w .mode) (w .members)
+  pub ranged : Ranged (w .lattice .n) (w .lattice .d) (w .lattice .s) (w .mode) (w .members)
   pub all : w .t * w .r ≡ w .lattice .s
   pub enough : w .members ≤ w .r
 
@@ -55,7 +56,7 @@ sweepRules w b =
     rule 1 (SweepRanged w)
     ∷ rule 2 (SweepExact w b)
     ∷ rule 3 (Spins (b .spins))
-    ∷ rule 4 (Inverse (w .lattice))
+    ∷ rule 4 (Inverse (w .lattice .n) (w .lattice .d) (w .lattice .fwd) (w .lattice .bwd))
     ∷ rule 5 (Permutes (w .lattice .s) (λ k. getD (w .order) k 0))
     ∷ rule 6 (When (takesCuts (common w)) (SmallCouplings (w .lattice .couplings)))
     ∷ rule 7 (When (takesCuts (common w)) ((j : ℕ) → j < w .t → Warm (getD (w .temperatures) j nan)))
@@ -95,5 +96,5 @@ pub record SweepRefuses (w : Sweep) (b : Buffers) (r : ℕ) (b′ : Buffers) : T
   pub kept : b′ ≡ b
 
 abbrev pub SweepAnswers : Sweep → Buffers → SweepAnswer → Buffers → Type 0
-SweepAnswers w b (Fault r) b′ = SweepRefuses w b r b′
-SweepAnswers w b (Swept idle moved) b′ = Sweeps w b idle moved b′
+SweepAnswers w b (Fault r) b′ = SweepRefuses w b (sweepNumber (Fault r)) b′
+SweepAnswers w b (Swept idle moved) b′ = Sweeps w b (idleOf (Swept idle moved)) (movedOf (Swept idle moved)) b′

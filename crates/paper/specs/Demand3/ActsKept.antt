@@ -7,32 +7,15 @@ use lib.IntN.{ℤ, pos, _*ℤ_}
 use Rattle.paper.specs.declared.Mode.{Mode}
 use Rattle.paper.specs.declared.Mode.the-variants.{Houd, Pair, Perm, Gperm, Jorg, Cmr}
 use Rattle.paper.specs.Panel.Input.{Call, Choices, Pattern, size}
-use Rattle.paper.specs.Site.Acting.{eqZ, sum, differs, pairDiffers, actsBy}
+use Rattle.paper.specs.Site.Acting.{eqZ, sum, differs, pairDiffers, gauge, testBy, actsBy}
 use Rattle.paper.specs.Move.Moving.{partner, flipBy, permAt, chosenBy}
 use Rattle.paper.specs.Refusal.Rules.{Permutes}
 use Rattle.paper.specs.Law.Sums.{sum-ext, sum-permuted, onto}
 use Rattle.paper.specs.Law.Patterns.{own-square, differs-ext, pair-ext, differs-no, no-differs}
 use Rattle.paper.specs.Law.Partners.{pairs-fit, pair-partner}
-use Rattle.paper.specs.Demand3.Reversible.{Reversible, gauge, Spinning}
+use Rattle.paper.specs.Demand3.Reversible.{Reversible, Spinning}
 
--- the test of a mode, on the gauged pattern
-abbrev testBy : Mode → ℕ → Pattern → Bool
-testBy Houd m u = eqZ (sum m u) (pos 0)
-testBy Pair m u = pairDiffers (m / 2) u
-testBy Perm m u = differs m u
-testBy Gperm m u = differs m u
-testBy Jorg m u = pairDiffers (m / 2) u
-testBy Cmr m u = true
-
-test-is : (m : Mode) (s : ℕ) (P f : Pattern) → actsBy m s P f ≡ testBy m s (gauge m P f)
-test-is Houd s P f = refl
-test-is Pair s P f = refl
-test-is Perm s P f = refl
-test-is Gperm s P f = refl
-test-is Jorg s P f = refl
-test-is Cmr s P f = refl
-
-test-ext : (m : Mode) (s : ℕ) (u w : Pattern) → 0 < s → ((k : ℕ) → k < s → u k ≡ w k) → testBy m s u ≡ testBy m s w
+pub test-ext : (m : Mode) (s : ℕ) (u w : Pattern) → 0 < s → ((k : ℕ) → k < s → u k ≡ w k) → testBy m s u ≡ testBy m s w
 test-ext Houd s u w z e = ap (λ (x : ℤ). eqZ x (pos 0)) (sum-ext s u w e)
 test-ext Pair s u w z e = pair-ext (s / 2) u w (λ k h. e k (omega (arith, pairs-fit s)))
 test-ext Perm s u w z e = differs-ext s u w (e 0 z) e
@@ -65,13 +48,11 @@ test-permuted Cmr c p r u z v h = absurd v
 
 -- two patterns with the same gauged pattern both act or neither does; also if it is permuted by a choice
 pub acts-same : (m : Mode) (s : ℕ) (P Q f g : Pattern) → 0 < s → ((k : ℕ) → k < s → gauge m P f k ≡ gauge m Q g k) → actsBy m s P f ≡ actsBy m s Q g
-acts-same m s P Q f g z e = test-is m s P f ∙ (test-ext m s (gauge m P f) (gauge m Q g) z e ∙ sym (test-is m s Q g))
+acts-same m s P Q f g z e = test-ext m s (gauge m P f) (gauge m Q g) z e
 
 pub acts-chosen : (m : Mode) (c : Call) (p : Choices) (r : ℕ) (P Q f g : Pattern) → 0 < size c → Reversible m (size c) → Permutes (size c) (chosenBy m c p r) → ((k : ℕ) → k < size c → gauge m P f k ≡ gauge m Q g (chosenBy m c p r k)) → actsBy m (size c) P f ≡ actsBy m (size c) Q g
 acts-chosen m c p r P Q f g z v h e =
-    test-is m (size c) P f
-    ∙ (test-ext m (size c) (gauge m P f) (λ k. gauge m Q g (chosenBy m c p r k)) z e
-    ∙ (test-permuted m c p r (gauge m Q g) z v h ∙ sym (test-is m (size c) Q g)))
+    test-ext m (size c) (gauge m P f) (λ k. gauge m Q g (chosenBy m c p r k)) z e ∙ test-permuted m c p r (gauge m Q g) z v h
 
 -- the reference site never acts
 pub reference-rests : (s : ℕ) (P : Pattern) → 0 < s → Spinning s P → actsBy Gperm s P P ≡ false

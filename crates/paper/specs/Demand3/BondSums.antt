@@ -21,7 +21,7 @@ use Rattle.paper.specs.Demand3.Reversible.{Reversible, holds-both, gauge
 use Rattle.paper.specs.Demand3.Step.{Step, reached-no}
 use Rattle.paper.specs.Demand3.Turns.{seenAt, turn, permutes-at, reference-kept, turned, spins-kept}
 
-same-reached : (f : Form) (c : Call) (l : List ℕ) (i j : ℕ) → labelOf l i ≡ labelOf l j → reachedBy f c l i ≡ reachedBy f c l j
+same-reached : (f : Form) (c : Call) (l : List ℕ) (i j : ℕ) → labelOf l i ≡ labelOf l j → reachedBy f (c .mode) (c .seed) l i ≡ reachedBy f (c .mode) (c .seed) l j
 same-reached Sw c l i j e = rw e refl
 same-reached Wolff c l i j e = rw e refl
 same-reached Observe c l i j e = refl

@@ -8,13 +8,13 @@ use lib.ListN.{length}
 use lib.IntN.{ℤ}
 use Rattle.paper.specs.Panel.Input.{graph, Call, Choices, Pattern, pattern, size, ahead}
 use Rattle.paper.specs.Panel.Takes.{isGperm}
-use Rattle.paper.specs.Site.Acting.{acts}
+use Rattle.paper.specs.Site.Acting.{acts, gauge}
 use Rattle.paper.specs.Site.Bonds.{holds}
 use Rattle.paper.specs.Component.Sizes.{labelOf}
 use Rattle.paper.specs.Move.Moving.{chosen, reached, reachedBy}
 use Rattle.paper.specs.Refusal.Rules.{Spin, Permutes}
 use Rattle.paper.specs.Law.Unique.{labels-unique, label-lt, spins-equal}
-use Rattle.paper.specs.Demand3.Reversible.{Reversible, gauge, gauge-back}
+use Rattle.paper.specs.Demand3.Reversible.{Reversible, gauge-back}
 use Rattle.paper.specs.Demand3.Step.{Step}
 use Rattle.paper.specs.Demand3.Turns.{gauge-ext, seenAt, turn, permutes-at, reference-kept, turned, spins-kept, acts-kept, labels-kept}
 

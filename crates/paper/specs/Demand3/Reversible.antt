@@ -10,7 +10,7 @@ use Rattle.paper.specs.declared.Mode.{Mode}
 use Rattle.paper.specs.declared.Mode.the-variants.{Houd, Pair, Perm, Gperm, Jorg, Cmr}
 use Rattle.paper.specs.Panel.Input.{Call, Choices, Pattern, size}
 use Rattle.paper.specs.Panel.Takes.{isPerm, isGperm, isCmr}
-use Rattle.paper.specs.Site.Acting.{eqZ, sum, differs, pairDiffers, actsBy}
+use Rattle.paper.specs.Site.Acting.{eqZ, sum, differs, pairDiffers, gauge, actsBy}
 use Rattle.paper.specs.Site.Bonds.{bothAct, holdsBy}
 use Rattle.paper.specs.Move.Moving.{other, partner, flipBy, permAt, chosenBy, actBy}
 use Rattle.paper.specs.Refusal.Rules.{Spin, Permutes}
@@ -27,15 +27,6 @@ Reversible Perm m = Unit {0}
 Reversible Gperm m = Unit {0}
 Reversible Jorg m = ⊥
 Reversible Cmr m = ⊥
-
--- the pattern f, gauged by the pattern P in gperm
-abbrev pub gauge : Mode → Pattern → Pattern → Pattern
-gauge Houd P f k = f k
-gauge Pair P f k = f k
-gauge Perm P f k = f k
-gauge Gperm P f k = P k *ℤ f k
-gauge Jorg P f k = f k
-gauge Cmr P f k = f k
 
 abbrev pub Spinning : ℕ → Pattern → Type 0
 Spinning m f = (k : ℕ) → k < m → Spin (f k)

@@ -48,7 +48,7 @@ reached-no c xs l i e = rw e
 
 pub reached-acts : (c : Call) (xs : List ℤ) (l : List ℕ) (i : ℕ) → reached c xs l i ≡ true → acts c xs i ≡ true
 unfolding reached
-reached-acts c xs l i e = and-left (acts c xs i) (reachedBy (c .form) c l i) e
+reached-acts c xs l i e = and-left (acts c xs i) (reachedBy (c .form) (c .mode) (c .seed) l i) e
 
 and-no : (b : Bool) → (b && false) ≡ false
 and-no true = refl

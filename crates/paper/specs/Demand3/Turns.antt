@@ -11,7 +11,7 @@ use Rattle.paper.specs.declared.Form.{Form}
 use Rattle.paper.specs.declared.Form.the-variants.{Sw, Wolff, Observe}
 use Rattle.paper.specs.Panel.Input.{graph, Graph, Call, Choices, Pattern, pattern, size, ahead}
 use Rattle.paper.specs.Panel.Takes.{moves, isPerm, isGperm}
-use Rattle.paper.specs.Site.Acting.{actsBy, acts}
+use Rattle.paper.specs.Site.Acting.{actsBy, acts, gauge}
 use Rattle.paper.specs.Site.Bonds.{bothAct, holds}
 use Rattle.paper.specs.Component.Labels.{Bond, Labels}
 use Rattle.paper.specs.Component.Sizes.{labelOf}
@@ -19,12 +19,12 @@ use Rattle.paper.specs.Move.Moving.{chosen, actBy, reached, reachedBy, a
 use Rattle.paper.specs.Refusal.Rules.{Spin, Permutes}
 use Rattle.paper.specs.Law.Unique.{label-lt}
 use Rattle.paper.specs.Law.ByTest.{never, and-right}
-use Rattle.paper.specs.Demand3.Reversible.{Reversible, Spinning, gauge, holds-both, chosen-permutes, act-gauged, act-spin}
+use Rattle.paper.specs.Demand3.Reversible.{Reversible, Spinning, holds-both, chosen-permutes, act-gauged, act-spin}
 use Rattle.paper.specs.Demand3.ActsKept.{acts-same, acts-chosen, reference-rests}
 use Rattle.paper.specs.Demand3.Step.{Step, reached-no, reached-acts}
 
 -- ---- by cases of the mode or the form
-pub form-moves : (f : Form) (c : Call) (l : List ℕ) (i : ℕ) → reachedBy f c l i ≡ true → moves f ≡ true
+pub form-moves : (f : Form) (c : Call) (l : List ℕ) (i : ℕ) → reachedBy f (c .mode) (c .seed) l i ≡ true → moves f ≡ true
 form-moves Sw c l i e = refl
 form-moves Wolff c l i e = refl
 form-moves Observe c l i e = e

@@ -61,23 +61,26 @@ spins-by xs e i h = at (getD xs i (pos 0)) (every-is (length xs) (λ i. eqZ (get
         go false w r = inr (is-same z (negsuc 0) r)
 
 -- the tests of a table, one direction at a time
-abbrev backTest : Lattice → List ℕ → List ℕ → ℕ → ℕ → Bool
-backTest t a b i e = ltb (getD a (bondOf t i e) 0) (t .n) && eqb (getD b (bondOf t (getD a (bondOf t i e) 0) e) 0) i
+abbrev backTest : ℕ → ℕ → List ℕ → List ℕ → ℕ → ℕ → Bool
+backTest n d a b i e = ltb (getD a (i * d + e) 0) n && eqb (getD b (getD a (i * d + e) 0 * d + e) 0) i
 
-abbrev pub tableTest : Lattice → List ℕ → List ℕ → Bool
-tableTest t a b = every (t .n) (λ i. every (t .d) (backTest t a b i))
+abbrev pub tableTest : ℕ → ℕ → List ℕ → List ℕ → Bool
+tableTest n d a b = every n (λ i. every d (backTest n d a b i))
 
-table-by : (t : Lattice) (a b : List ℕ) → tableTest t a b ≡ true → (i e : ℕ) → i < t .n → e < t .d → Back t a b i e
-table-by t a b w i e hi he = record {
-  inside = ltb-true _ _ (and-left (ltb (getD a (bondOf t i e) 0) (t .n)) _ ok);
-  home = eqb-true _ _ (and-right (ltb (getD a (bondOf t i e) 0) (t .n)) _ ok);
+table-by : (n d : ℕ) (a b : List ℕ) → tableTest n d a b ≡ true → (i e : ℕ) → i < n → e < d → Back n d a b i e
+table-by n d a b w i e hi he = record {
+  inside = ltb-true _ _ (and-left (ltb (getD a (i * d + e) 0) n) _ ok);
+  home = eqb-true _ _ (and-right (ltb (getD a (i * d + e) 0) n) _ ok);
 }
   where
-    ok : backTest t a b i e ≡ true
-    ok = every-is (t .d) (backTest t a b i) (every-is (t .n) (λ i. every (t .d) (backTest t a b i)) w i hi) e he
+    ok : backTest n d a b i e ≡ true
+    ok = every-is d (backTest n d a b i) (every-is n (λ i. every d (backTest n d a b i)) w i hi) e he
 
-pub inverse-by : (t : Lattice) → (tableTest t (t .fwd) (t .bwd) && tableTest t (t .bwd) (t .fwd)) ≡ true → Inverse t
-inverse-by t e = record { there = table-by t (t .fwd) (t .bwd) (and-left (tableTest t (t .fwd) (t .bwd)) _ e); here = table-by t (t .bwd) (t .fwd) (and-right (tableTest t (t .fwd) (t .bwd)) _ e) }
+pub inverse-by : (n d : ℕ) (fwd bwd : List ℕ) → (tableTest n d fwd bwd && tableTest n d bwd fwd) ≡ true → Inverse n d fwd bwd
+inverse-by n d fwd bwd e = record {
+  there = table-by n d fwd bwd (and-left (tableTest n d fwd bwd) _ e);
+  here = table-by n d bwd fwd (and-right (tableTest n d fwd bwd) _ e);
+}
 
 abbrev pub belowTest : ℕ → ℕ → (ℕ → ℕ) → Bool
 belowTest m s f = every m (λ k. ltb (f k) s)

@@ -85,14 +85,14 @@ greyBit g (suc k) = eqb (g / 2 % 2) 1
 abbrev pub leastSize : Mode → ℕ
 leastSize m = cond (isPerm m) 1 2
 
-abbrev pub reachedBy : Form → Call → List ℕ → ℕ → Bool
-reachedBy Sw c l i = leb (leastSize (c .mode)) (sizeOf l (labelOf l i))
-reachedBy Wolff c l i = eqb (labelOf l i) (labelOf l (c .seed))
-reachedBy Observe c l i = false
+abbrev pub reachedBy : Form → Mode → ℕ → List ℕ → ℕ → Bool
+reachedBy Sw mode seed l i = leb (leastSize mode) (sizeOf l (labelOf l i))
+reachedBy Wolff mode seed l i = eqb (labelOf l i) (labelOf l seed)
+reachedBy Observe mode seed l i = false
 
 -- the site i acts and its component, by the labels l, is one that the form moves
 unfoldable pub reached : Call → List ℤ → List ℕ → ℕ → Bool
-reached c xs l i = acts c xs i && reachedBy (c .form) c l i
+reached c xs l i = acts c xs i && reachedBy (c .form) (c .mode) (c .seed) l i
 
 -- ---- the pattern at the site i after the move
 

@@ -69,8 +69,11 @@ spin n xs t i = getD xs (t * n + i) (pos 0)
 abbrev pub Pattern : Type 0
 Pattern = ℕ → ℤ
 
+abbrev pub patternOf : ℕ → Group → List ℤ → ℕ → Pattern
+patternOf n g xs i k = spin n xs (member g k) i
+
 abbrev pub pattern : Call → List ℤ → ℕ → Pattern
-pattern c xs i k = spin (c .lattice .n) xs (system c k) i
+pattern c xs i k = patternOf (c .lattice .n) (c .group) xs i k
 
 -- the number of the bond (i, e), site i's in direction e, and the site that it leads to
 abbrev pub bondOf : Lattice → ℕ → ℕ → ℕ

@@ -8,10 +8,10 @@ use Rattle.paper.specs.Refusal.Rules.{When, Ranged, Exact, Spins, Invers
 
 -- 1 to 7
 pub record Sound (c : Call) (p : Choices) (b : Buffers) : Type 0 where
-  pub ranged : Ranged (c .lattice) (c .mode) (size c)
+  pub ranged : Ranged (c .lattice .n) (c .lattice .d) (c .lattice .s) (c .mode) (size c)
   pub exact : Exact c p b
   pub spins : Spins (b .spins)
-  pub inverse : Inverse (c .lattice)
+  pub inverse : Inverse (c .lattice .n) (c .lattice .d) (c .lattice .fwd) (c .lattice .bwd)
   pub grouped : Grouped (c .lattice .s) (c .group)
   pub couplings : When (takesCuts c) (SmallCouplings (c .lattice .couplings))
   pub warm : When (takesCuts c) (Warm (c .temperature))

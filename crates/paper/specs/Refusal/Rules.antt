@@ -10,7 +10,7 @@ use lib.IntN.{ℤ, pos, negsuc, natAbs}
 use lib.Ieee.{Float, nan, inf, fin, binary32, div, le}
 use Rattle.paper.specs.declared.Group.{Group}
 use Rattle.paper.specs.declared.Mode.{Mode}
-use Rattle.paper.specs.Panel.Input.{Lattice, Call, Choices, Buffers, size, system, member, bondOf}
+use Rattle.paper.specs.Panel.Input.{Call, Choices, Buffers, size, member}
 use Rattle.paper.specs.Panel.Takes.{isCmr, isWolff, moves, takesCuts, takesFlips, takesPerms, takesGreys, takesReference, takesSeed, entries}
 use Rattle.paper.specs.Site.Acting.{acts, SomeActs}
 use Rattle.paper.specs.Site.Bonds.{whole}
@@ -20,17 +20,18 @@ use Rattle.paper.specs.Refusal.Rule.{Rule, rule}
 abbrev pub When : Bool → Type 0 → Type 0
 When taken P = taken ≡ true → P
 
-pub record Sizes (t : Lattice) : Type 0 where
-  pub n-low : 1 ≤ t .n
-  pub n-high : t .n ≤ 4096
-  pub d-low : 1 ≤ t .d
-  pub d-high : t .d ≤ 4
-  pub s-low : 1 ≤ t .s
-  pub s-high : t .s ≤ 64
+-- n sites, d directions, s systems
+pub record Sizes (n d s : ℕ) : Type 0 where
+  pub n-low : 1 ≤ n
+  pub n-high : n ≤ 4096
+  pub d-low : 1 ≤ d
+  pub d-high : d ≤ 4
+  pub s-low : 1 ≤ s
+  pub s-high : s ≤ 64
 
 -- a group of m systems; CMR takes two only
-pub record Ranged (t : Lattice) (mode : Mode) (m : ℕ) : Type 0 where
-  pub lattice : Sizes t
+pub record Ranged (n d s : ℕ) (mode : Mode) (m : ℕ) : Type 0 where
+  pub lattice : Sizes n d s
   pub size-low : 2 ≤ m
   pub size-high : m ≤ 8
   pub cmr-two : When (isCmr mode) (m ≡ 2)
@@ -57,13 +58,13 @@ abbrev pub Spins : List ℤ → Type 0
 Spins xs = (i : ℕ) → i < length xs → Spin (getD xs i (pos 0))
 
 -- the neighbour of site i by the table a is a site, and the table b leads back from it
-pub record Back (t : Lattice) (a b : List ℕ) (i e : ℕ) : Type 0 where
-  pub inside : getD a (bondOf t i e) 0 < t .n
-  pub home : getD b (bondOf t (getD a (bondOf t i e) 0) e) 0 ≡ i
+pub record Back (n d : ℕ) (a b : List ℕ) (i e : ℕ) : Type 0 where
+  pub inside : getD a (i * d + e) 0 < n
+  pub home : getD b (getD a (i * d + e) 0 * d + e) 0 ≡ i
 
-pub record Inverse (t : Lattice) : Type 0 where
-  pub there : (i e : ℕ) → i < t .n → e < t .d → Back t (t .fwd) (t .bwd) i e
-  pub here : (i e : ℕ) → i < t .n → e < t .d → Back t (t .bwd) (t .fwd) i e
+pub record Inverse (n d : ℕ) (fwd bwd : List ℕ) : Type 0 where
+  pub there : (i e : ℕ) → i < n → e < d → Back n d fwd bwd i e
+  pub here : (i e : ℕ) → i < n → e < d → Back n d bwd fwd i e
 
 -- no two of the first m are equal
 abbrev pub Distinct : ℕ → (ℕ → ℕ) → Type 0
@@ -125,10 +126,10 @@ choiceRules c p xs = rule 8 (When (takesCuts c) (Cuts (c .cuts))) ∷ rule 9 (Ch
 -- the refusals in their order
 abbrev pub rules : Call → Choices → Buffers → List Rule
 rules c p b =
-    rule 1 (Ranged (c .lattice) (c .mode) (size c))
+    rule 1 (Ranged (c .lattice .n) (c .lattice .d) (c .lattice .s) (c .mode) (size c))
     ∷ rule 2 (Exact c p b)
     ∷ rule 3 (Spins (b .spins))
-    ∷ rule 4 (Inverse (c .lattice))
+    ∷ rule 4 (Inverse (c .lattice .n) (c .lattice .d) (c .lattice .fwd) (c .lattice .bwd))
     ∷ rule 5 (Grouped (c .lattice .s) (c .group))
     ∷ rule 6 (When (takesCuts c) (SmallCouplings (c .lattice .couplings)))
     ∷ rule 7 (When (takesCuts c) (Warm (c .temperature)))

@@ -93,7 +93,7 @@ cmr-example = record {
       (
         spins-by (before .spins) refl,
         (
-          inverse-by (cmr3 .lattice) refl,
+          inverse-by 3 1 (cmr3 .lattice .fwd) (cmr3 .lattice .bwd) refl,
           (
             record { below = below-by 2 2 (system cmr3) refl; distinct = distinct-by 2 (system cmr3) refl },
             (

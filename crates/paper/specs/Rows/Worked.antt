@@ -37,7 +37,7 @@ answer12 = record {
       (
         spins-by (before12 .spins) refl,
         (
-          inverse-by (houd4 .lattice) refl,
+          inverse-by 2 1 (houd4 .lattice .fwd) (houd4 .lattice .bwd) refl,
           (
             record { below = below-by 4 4 (system houd4) refl; distinct = distinct-by 4 (system houd4) refl },
             (
@@ -81,7 +81,7 @@ answer13 = record {
       (
         spins-by (before13 .spins) refl,
         (
-          inverse-by ((frame Perm) .lattice) refl,
+          inverse-by 3 1 (frame Perm .lattice .fwd) (frame Perm .lattice .bwd) refl,
           (
             record { below = below-by 2 2 (system (frame Perm)) refl; distinct = distinct-by 2 (system (frame Perm)) refl },
             (
@@ -126,7 +126,7 @@ answer13-pair = record {
       (
         spins-by (before13 .spins) refl,
         (
-          inverse-by ((frame Pair) .lattice) refl,
+          inverse-by 3 1 (frame Pair .lattice .fwd) (frame Pair .lattice .bwd) refl,
           (
             record { below = below-by 2 2 (system (frame Pair)) refl; distinct = distinct-by 2 (system (frame Pair)) refl },
             (

@@ -31,14 +31,27 @@ unfoldable pub pairDiffers : ℕ → Pattern → Bool
 pairDiffers zero f = false
 pairDiffers (suc m) f = not (eqZ (f (2 * m)) (f (2 * m + 1))) || pairDiffers m f
 
--- does the pattern f of m systems act, where the reference site has the pattern P? In CMR every site takes part
+-- the pattern f as the mode sees it: gperm takes its products with the pattern P at the reference site
+abbrev pub gauge : Mode → Pattern → Pattern → Pattern
+gauge Houd P f k = f k
+gauge Pair P f k = f k
+gauge Perm P f k = f k
+gauge Gperm P f k = P k *ℤ f k
+gauge Jorg P f k = f k
+gauge Cmr P f k = f k
+
+-- does a pattern of m systems act, so seen? With odd m the last system is not read by pair and Jörg; in CMR every site takes part
+abbrev pub testBy : Mode → ℕ → Pattern → Bool
+testBy Houd m u = eqZ (sum m u) (pos 0)
+testBy Pair m u = pairDiffers (m / 2) u
+testBy Perm m u = differs m u
+testBy Gperm m u = differs m u
+testBy Jorg m u = pairDiffers (m / 2) u
+testBy Cmr m u = true
+
+-- does the pattern f of m systems act, where the reference site has the pattern P?
 abbrev pub actsBy : Mode → ℕ → Pattern → Pattern → Bool
-actsBy Houd m P f = eqZ (sum m f) (pos 0)
-actsBy Pair m P f = pairDiffers (m / 2) f
-actsBy Jorg m P f = pairDiffers (m / 2) f
-actsBy Perm m P f = differs m f
-actsBy Gperm m P f = differs m (λ k. P k *ℤ f k)
-actsBy Cmr m P f = true
+actsBy mode m P f = testBy mode m (gauge mode P f)
 
 unfoldable pub acts : Call → List ℤ → ℕ → Bool
 acts c xs i = actsBy (c .mode) (size c) (pattern c xs (c .reference)) (pattern c xs i)
