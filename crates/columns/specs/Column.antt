@@ -2,16 +2,22 @@
 use Prim.Native.Nat.{ℕ, zero, suc, _+_, _-_, _*_, _/_, _%_, _^_, _≤_, _<_}
 use mathlib.Core.Path.{_≡_, refl, sym, _∙_, ap}
 use mathlib.Core.Logic.{inl, inr}
-use mathlib.Core.Bool.{Bool, true, false}
+use mathlib.Core.Bool.{Bool, true, false, cond}
+use mathlib.Core.List.{List}
 use native.Mathlib.Omega.{arith}
 use native.Mathlib.Decide.{ℕ-discrete}
 use native.Mathlib.Nat.{add-mul-div-right, add-mul-mod-self-right, div-eq-of-lt, mul-assoc, pow-suc, zero-add}
-use lib.Dec.{eqb}
-use lib.IntN.{ℤ, pos, negsuc}
+use lib.Dec.{eqb, ltb}
+use lib.ListN.{length, getD}
+use lib.IntN.{ℤ, pos, negsuc, negℤ}
 use lib.Pow.{pow-add, pow-pos}
-use Rattle.paper.specs.Panel.Input.{Pattern}
+use Rattle.paper.specs.declared.Group.{Group}
+use Rattle.paper.specs.declared.Mode.{Mode}
+use Rattle.paper.specs.declared.Mode.the-variants.{Houd, Pair, Perm, Gperm, Jorg, Cmr}
+use Rattle.paper.specs.Panel.Input.{Pattern, member, patternOf}
 use Rattle.paper.specs.Site.Acting.{eqZ}
 use Rattle.paper.specs.Component.Sizes.{bit}
+use Rattle.paper.specs.Move.Moving.{partner}
 use Rattle.paper.specs.Refusal.Rules.{Spin}
 use Rattle.paper.specs.Law.Patterns.{same-is}
 
@@ -36,6 +42,37 @@ isUp z = eqZ z (pos 1)
 
 abbrev pub columnOf : ℕ → Pattern → ℕ
 columnOf m f = code m (λ k. isUp (f k))
+
+-- the sign that a mode multiplies member k's spin with: gperm takes the reference site's pattern P
+abbrev pub signBy : Mode → Pattern → Pattern
+signBy Houd P k = pos 1
+signBy Pair P k = pos 1
+signBy Perm P k = pos 1
+signBy Gperm P k = P k
+signBy Jorg P k = pos 1
+signBy Cmr P k = pos 1
+
+-- what a chosen flip makes of a pattern of m systems; the perm modes take no flip
+abbrev pub flipped : Mode → ℕ → Pattern → Pattern
+flipped Houd m f k = cond (ltb k (2 * (m / 2))) (negℤ (f k)) (f k)
+flipped Pair m f k = f (partner m k)
+flipped Perm m f k = f k
+flipped Gperm m f k = f k
+flipped Jorg m f k = f (partner m k)
+flipped Cmr m f k = negℤ (f k)
+
+-- cols has the column of each site's pattern of m spins
+pub record Columns (n m : ℕ) (f : ℕ → Pattern) (cols : List ℕ) : Type 0 where
+  pub long : length cols ≡ n
+  pub at : (i : ℕ) → i < n → getD cols i 0 ≡ columnOf m (f i)
+
+-- each member of the group has its row of n spins within xs
+abbrev pub Inside : ℕ → Group → List ℤ → Type 0
+Inside n g xs = (k : ℕ) → k < g .len → member g k * n + n ≤ length xs
+
+-- and they are spins
+abbrev pub Spinning : ℕ → Group → List ℤ → Type 0
+Spinning n g xs = (i k : ℕ) → i < n → k < g .len → Spin (patternOf n g xs i k)
 
 -- ---- laws
 

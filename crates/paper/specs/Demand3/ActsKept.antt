@@ -40,9 +40,9 @@ flip-permuted m false u = refl
 
 test-permuted : (m : Mode) (c : Call) (p : Choices) (r : ℕ) (u : Pattern) → 0 < size c → Reversible m (size c) → Permutes (size c) (chosenBy m c p r) → testBy m (size c) (λ k. u (chosenBy m c p r k)) ≡ testBy m (size c) u
 test-permuted Houd c p r u z v h = ap (λ (x : ℤ). eqZ x (pos 0)) (sum-permuted (size c) (chosenBy Houd c p r) u h)
-test-permuted Pair c p r u z v h = flip-permuted (size c) (flipBy (c .form) p r) u
-test-permuted Perm c p r u z v h = differs-permuted (size c) (permAt c p r) u z h
-test-permuted Gperm c p r u z v h = differs-permuted (size c) (permAt c p r) u z h
+test-permuted Pair c p r u z v h = flip-permuted (size c) (flipBy (c .form) (p .flips) r) u
+test-permuted Perm c p r u z v h = differs-permuted (size c) (permAt (c .form) (size c) (p .perms) r) u z h
+test-permuted Gperm c p r u z v h = differs-permuted (size c) (permAt (c .form) (size c) (p .perms) r) u z h
 test-permuted Jorg c p r u z v h = absurd v
 test-permuted Cmr c p r u z v h = absurd v
 

@@ -24,7 +24,7 @@ Flips Gperm = ⊥
 Flips Jorg = ⊥
 Flips Cmr = ⊥
 
-flip-is : (m : Mode) (c : Call) (p : Choices) (l k : ℕ) → Flips m → chosenBy m c p l k ≡ cond (flipBy (c .form) p l) (partner (size c) k) k
+flip-is : (m : Mode) (c : Call) (p : Choices) (l k : ℕ) → Flips m → chosenBy m c p l k ≡ cond (flipBy (c .form) (p .flips) l) (partner (size c) k) k
 flip-is Houd c p l k f = refl
 flip-is Pair c p l k f = refl
 flip-is Perm c p l k f = absurd f

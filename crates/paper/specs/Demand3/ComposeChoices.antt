@@ -53,7 +53,7 @@ twice m f g h pf pg e = record {
 }
 
 module _ (c : Call) (sw : c .form ≡ Sw) (p q : Choices) (b d : Buffers) (vp : Kept (rules c p b)) (vq : Kept (rules c q d)) where
-  perm-composed : (l k : ℕ) → l < c .lattice .n → k < size c → permAt c (composed c p q) l k ≡ permAt c p l (permAt c q l k)
+  perm-composed : (l k : ℕ) → l < c .lattice .n → k < size c → permAt (c .form) (size c) (composed c p q .perms) l k ≡ permAt (c .form) (size c) (p .perms) l (permAt (c .form) (size c) (q .perms) l k)
   perm-composed l k hl hk = rw sw (row-at (c .lattice .n) (size c) l k (p .perms) (q .perms) hl hk)
 
   composed-in : (m : Mode) → c .mode ≡ m → Reversible m (size c) → Composed c p q (composed c p q)

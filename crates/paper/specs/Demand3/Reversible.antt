@@ -69,9 +69,9 @@ flip-permutes : (s : ℕ) (t : Bool) → Permutes s (λ k. cond t (partner s k) 
 flip-permutes s true = partner-permutes s
 flip-permutes s false = record { within = λ k l. l; distinct = λ a b _ _ e. e }
 
-pub chosen-permutes : (m : Mode) (c : Call) (p : Choices) (r : ℕ) → Reversible m (size c) → (isPerm m ≡ true → Permutes (size c) (permAt c p r)) → Permutes (size c) (chosenBy m c p r)
-chosen-permutes Houd c p r v h = flip-permutes (size c) (flipBy (c .form) p r)
-chosen-permutes Pair c p r v h = flip-permutes (size c) (flipBy (c .form) p r)
+pub chosen-permutes : (m : Mode) (c : Call) (p : Choices) (r : ℕ) → Reversible m (size c) → (isPerm m ≡ true → Permutes (size c) (permAt (c .form) (size c) (p .perms) r)) → Permutes (size c) (chosenBy m c p r)
+chosen-permutes Houd c p r v h = flip-permutes (size c) (flipBy (c .form) (p .flips) r)
+chosen-permutes Pair c p r v h = flip-permutes (size c) (flipBy (c .form) (p .flips) r)
 chosen-permutes Perm c p r v h = h refl
 chosen-permutes Gperm c p r v h = h refl
 chosen-permutes Jorg c p r v h = absurd v
@@ -89,16 +89,16 @@ houd-act : (m : ℕ) → m ≡ 2 → (t : Bool) (f : Pattern) → Spinning m f �
 houd-act m q t f = rw q (houd-two t f)
 
 pub act-gauged : (m : Mode) (c : Call) (p : Choices) (r : ℕ) (P f : Pattern) → Reversible m (size c) → Permutes (size c) (chosenBy m c p r) → (isGperm m ≡ true → Spinning (size c) P) → Spinning (size c) f → actsBy m (size c) P f ≡ true → (k : ℕ) → k < size c → gauge m P (actBy m c p P r f) k ≡ gauge m P f (chosenBy m c p r k)
-act-gauged Houd c p r P f v h sp sf a k l = houd-act (size c) v (flipBy (c .form) p r) f sf a k l
+act-gauged Houd c p r P f v h sp sf a k l = houd-act (size c) v (flipBy (c .form) (p .flips) r) f sf a k l
 act-gauged Pair c p r P f v h sp sf a k l = refl
 act-gauged Perm c p r P f v h sp sf a k l = refl
-act-gauged Gperm c p r P f v h sp sf a k l = gauge-cancel (P k) (P (permAt c p r k)) (f (permAt c p r k)) (sp refl k l) (sp refl _ (h .within k l)) (sf _ (h .within k l))
+act-gauged Gperm c p r P f v h sp sf a k l = gauge-cancel (P k) (P (permAt (c .form) (size c) (p .perms) r k)) (f (permAt (c .form) (size c) (p .perms) r k)) (sp refl k l) (sp refl _ (h .within k l)) (sf _ (h .within k l))
 act-gauged Jorg c p r P f v h sp sf a k l = absurd v
 act-gauged Cmr c p r P f v h sp sf a k l = absurd v
 
 -- a moved pattern of spins is one of spins
 pub act-spin : (m : Mode) (c : Call) (p : Choices) (r : ℕ) (P f : Pattern) → Reversible m (size c) → Permutes (size c) (chosenBy m c p r) → (isGperm m ≡ true → Spinning (size c) P) → Spinning (size c) f → (k : ℕ) → k < size c → Spin (actBy m c p P r f k)
-act-spin Houd c p r P f v h sp sf k l = flip-spin (flipBy (c .form) p r && ltb k (2 * (size c / 2))) (f k) (sf k l)
+act-spin Houd c p r P f v h sp sf k l = flip-spin (flipBy (c .form) (p .flips) r && ltb k (2 * (size c / 2))) (f k) (sf k l)
 act-spin Pair c p r P f v h sp sf k l = sf _ (h .within k l)
 act-spin Perm c p r P f v h sp sf k l = sf _ (h .within k l)
 act-spin Gperm c p r P f v h sp sf k l = times-spin _ _ (times-spin _ _ (sp refl k l) (sp refl _ (h .within k l))) (sf _ (h .within k l))
@@ -124,9 +124,9 @@ houd-same : (m : ℕ) → m ≡ 2 → (t : Bool) (f : Pattern) → Spinning m f 
 houd-same m q t f = rw q (two-same t f)
 
 pub still : (m : Mode) (c : Call) (p : Choices) (r : ℕ) (P f : Pattern) → Reversible m (size c) → Permutes (size c) (chosenBy m c p r) → Spinning (size c) f → actsBy m (size c) P f ≡ false → (k : ℕ) → k < size c → gauge m P f (chosenBy m c p r k) ≡ gauge m P f k
-still Houd c p r P f v h sf a k l = houd-same (size c) v (flipBy (c .form) p r) f sf a k l
-still Pair c p r P f v h sf a k l = flip-same (size c) (flipBy (c .form) p r) f a k
-still Perm c p r P f v h sf a k l = all-same (size c) f (permAt c p r) h a k l
-still Gperm c p r P f v h sf a k l = all-same (size c) (λ k. P k *ℤ f k) (permAt c p r) h a k l
+still Houd c p r P f v h sf a k l = houd-same (size c) v (flipBy (c .form) (p .flips) r) f sf a k l
+still Pair c p r P f v h sf a k l = flip-same (size c) (flipBy (c .form) (p .flips) r) f a k
+still Perm c p r P f v h sf a k l = all-same (size c) f (permAt (c .form) (size c) (p .perms) r) h a k l
+still Gperm c p r P f v h sf a k l = all-same (size c) (λ k. P k *ℤ f k) (permAt (c .form) (size c) (p .perms) r) h a k l
 still Jorg c p r P f v h sf a k l = absurd v
 still Cmr c p r P f v h sf a k l = absurd v

@@ -36,7 +36,7 @@ pub record Step (c : Call) (p : Choices) (xs : List ℤ) (l : List ℕ) (ys : Li
   pub inside : (i e : ℕ) → i < c .lattice .n → e < c .lattice .d → ahead c i e < c .lattice .n
   pub spins : (i : ℕ) → i < c .lattice .n → Spinning (size c) (pattern c xs i)
   pub reference : takesReference c ≡ true → c .reference < c .lattice .n
-  pub perms : takesPerms c ≡ true → (r : ℕ) → r < c .lattice .n → Permutes (size c) (permAt c p r)
+  pub perms : takesPerms c ≡ true → (r : ℕ) → r < c .lattice .n → Permutes (size c) (permAt (c .form) (size c) (p .perms) r)
   pub labels : Labels (graph c) (holds c xs) l
   pub long : length ys ≡ length xs
   pub group : (i k : ℕ) → i < c .lattice .n → k < size c → pattern c ys i k ≡ after c p xs l i k
@@ -70,7 +70,7 @@ module _ (c : Call) (p : Choices) (b : Buffers) (valid : Kept (rules c p b)) whe
       below : suc (system c k) ≤ c .lattice .s
       below = valid .1 .1 .1 .1 .0 .below k l
 
-  pub rows : takesPerms c ≡ true → (r : ℕ) → r < c .lattice .n → Permutes (size c) (permAt c p r)
+  pub rows : takesPerms c ≡ true → (r : ℕ) → r < c .lattice .n → Permutes (size c) (permAt (c .form) (size c) (p .perms) r)
   rows e r h = valid .1 .1 .1 .1 .1 .1 .1 .1 .0 .perms e (entry (c .form) r) (entry-lt (c .form) (c .lattice .n) r (and-left (moves (c .form)) _ e) h)
 
   step-of : (l : List ℕ) (ys : List ℤ) → Labels (graph c) (holds c (b .spins)) l → length ys ≡ length (b .spins) → ((i k : ℕ) → i < c .lattice .n → k < size c → pattern c ys i k ≡ after c p (b .spins) l i k) → ((i t : ℕ) → i < c .lattice .n → ((k : ℕ) → k < size c → t ≢ system c k) → spin (c .lattice .n) ys t i ≡ spin (c .lattice .n) (b .spins) t i) → Step c p (b .spins) l ys

@@ -102,7 +102,7 @@ module _ (c : Call) (p : Choices) (b b′ : Buffers) (xs : List ℤ) (long : len
     sizes = s .sizes;
   }
 
-  perms-at : Kept (rules c p b) → (l : List ℕ) → Labels (graph c) (holds c (b .spins)) l → (i : ℕ) → i < c .lattice .n → reached c xs l i ≡ true → isPerm (c .mode) ≡ true → Permutes (size c) (permAt c p (labelOf l i))
+  perms-at : Kept (rules c p b) → (l : List ℕ) → Labels (graph c) (holds c (b .spins)) l → (i : ℕ) → i < c .lattice .n → reached c xs l i ≡ true → isPerm (c .mode) ≡ true → Permutes (size c) (permAt (c .form) (size c) (p .perms) (labelOf l i))
   unfolding reached
   perms-at v l h i hi e q = rows c p b v (rw (form-moves (c .form) c l i (and-right (acts c xs i) _ e), q)) (labelOf l i) (label-lt (graph c) (holds c (b .spins)) l h i hi)
 

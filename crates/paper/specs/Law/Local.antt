@@ -44,12 +44,12 @@ flip-at m k true f g e h = e (partner m k) (partner-lt m k h)
 flip-at m k false f g e h = e k h
 
 -- a component's choice makes the same of two patterns that agree
-act-ext : (m : Mode) (c : Call) (p : Choices) (r : ℕ) (P Q f g : Pattern) → (isPerm m ≡ true → Permutes (size c) (permAt c p r)) → (isGperm m ≡ true → Agree (size c) P Q) → Agree (size c) f g → (k : ℕ) → k < size c → actBy m c p P r f k ≡ actBy m c p Q r g k
+act-ext : (m : Mode) (c : Call) (p : Choices) (r : ℕ) (P Q f g : Pattern) → (isPerm m ≡ true → Permutes (size c) (permAt (c .form) (size c) (p .perms) r)) → (isGperm m ≡ true → Agree (size c) P Q) → Agree (size c) f g → (k : ℕ) → k < size c → actBy m c p P r f k ≡ actBy m c p Q r g k
 act-ext Houd c p r P Q f g h u e k l = cc (e k l)
-act-ext Pair c p r P Q f g h u e k l = flip-at (size c) k (flipBy (c .form) p r) f g e l
-act-ext Jorg c p r P Q f g h u e k l = flip-at (size c) k (flipBy (c .form) p r) f g e l
-act-ext Perm c p r P Q f g h u e k l = e (permAt c p r k) (h refl .within k l)
-act-ext Gperm c p r P Q f g h u e k l = cc (u refl k l, u refl (permAt c p r k) (h refl .within k l), e (permAt c p r k) (h refl .within k l))
+act-ext Pair c p r P Q f g h u e k l = flip-at (size c) k (flipBy (c .form) (p .flips) r) f g e l
+act-ext Jorg c p r P Q f g h u e k l = flip-at (size c) k (flipBy (c .form) (p .flips) r) f g e l
+act-ext Perm c p r P Q f g h u e k l = e (permAt (c .form) (size c) (p .perms) r k) (h refl .within k l)
+act-ext Gperm c p r P Q f g h u e k l = cc (u refl k l, u refl (permAt (c .form) (size c) (p .perms) r k) (h refl .within k l), e (permAt (c .form) (size c) (p .perms) r k) (h refl .within k l))
 act-ext Cmr c p r P Q f g h u e k l = cc (e k l)
 
 kind-ext : (j : ℤ) (f g f′ g′ : Pattern) → Agree 2 f f′ → Agree 2 g g′ → kindOf j f g ≡ kindOf j f′ g′
@@ -93,7 +93,7 @@ module _ (c : Call) (xs ys : List ℤ) (a : Alike c xs ys) where
   unfolding reached
   reached-local l i h = cc (acts-local i h)
 
-  pub final-local : (p : Choices) (l g : List ℕ) (i k : ℕ) → i < c .lattice .n → k < size c → (reached c xs l i ≡ true → isPerm (c .mode) ≡ true → Permutes (size c) (permAt c p (labelOf l i))) → final c p xs l g i k ≡ final c p ys l g i k
+  pub final-local : (p : Choices) (l g : List ℕ) (i k : ℕ) → i < c .lattice .n → k < size c → (reached c xs l i ≡ true → isPerm (c .mode) ≡ true → Permutes (size c) (permAt (c .form) (size c) (p .perms) (labelOf l i))) → final c p xs l g i k ≡ final c p ys l g i k
   unfolding final
   final-local p l g i k hi hk perms = cc (after-local (reached c xs l i) refl, reached-local g i hi)
     where
