@@ -1,0 +1,4 @@
+pub mod Ready
+pub mod Looked
+pub mod Moved
+pub mod Finish

@@ -1,0 +1,94 @@
+-- From columns to acting sites, and from tables of bonds to labels. Assumes nothing.
+use Prim.Native.Nat.{ℕ, zero, suc, _+_, _*_, _^_, _≤_, _<_}
+use mathlib.Core.Path.{_≡_, refl, sym, _∙_, ap}
+use mathlib.Core.Logic.{inl, inr}
+use mathlib.Core.Bool.{Bool, true, false, _&&_}
+use mathlib.Core.List.{List}
+use native.Mathlib.Omega.{arith}
+use lib.Dec.{eqb}
+use lib.ListN.{length, getD}
+use lib.IntN.{ℤ, pos, negsuc, _*ℤ_}
+use Rattle.paper.specs.declared.Mode.{Mode}
+use Rattle.paper.specs.declared.Mode.the-variants.{Houd, Pair, Perm, Gperm, Jorg, Cmr}
+use Rattle.paper.specs.Panel.Input.{Graph, Call, Pattern, pattern, size, ahead, graph}
+use Rattle.paper.specs.Panel.Takes.{isGperm}
+use Rattle.paper.specs.Site.Acting.{gauge, testBy, acts, SomeActs, NoneActs}
+use Rattle.paper.specs.Component.Links.{Linked, Linked.stay, Linked.along, Linked.against}
+use Rattle.paper.specs.Component.Labels.{Bond, Joined, Labels}
+use Rattle.paper.specs.Component.Sizes.{bit}
+use Rattle.paper.specs.Component.Marks.{Flags, Marks, marked, Tells}
+use Rattle.paper.specs.Refusal.Rules.{Spin}
+use Rattle.paper.specs.Law.Patterns.{times-spin}
+use Rattle.paper.specs.Demand3.ActsKept.{test-ext}
+use Rattle.columns.specs.Column.{shown, columnOf, shown-column, column-lt, column-ext, signBy, Columns}
+use Rattle.moves.specs.Ready.{ReadyFor}
+
+-- the pattern at the site i as the mode sees it
+abbrev pub seenAt : Call → List ℤ → ℕ → Pattern
+seenAt c xs i = gauge (c .mode) (pattern c xs (c .reference)) (pattern c xs i)
+
+pub one-times : (z : ℤ) → Spin z → pos 1 *ℤ z ≡ z
+one-times z (inl p) = rw p
+one-times z (inr p) = rw p
+
+pub sign-gauge : (m : Mode) (P f : Pattern) (k : ℕ) → Spin (f k) → signBy m P k *ℤ f k ≡ gauge m P f k
+sign-gauge Houd P f k s = one-times (f k) s
+sign-gauge Pair P f k s = one-times (f k) s
+sign-gauge Perm P f k s = one-times (f k) s
+sign-gauge Gperm P f k s = refl
+sign-gauge Jorg P f k s = one-times (f k) s
+sign-gauge Cmr P f k s = one-times (f k) s
+
+pub gauge-spin : (m : Mode) (P f : Pattern) (k : ℕ) → (isGperm m ≡ true → Spin (P k)) → Spin (f k) → Spin (gauge m P f k)
+gauge-spin Houd P f k sp s = s
+gauge-spin Pair P f k sp s = s
+gauge-spin Perm P f k sp s = s
+gauge-spin Gperm P f k sp s = times-spin (P k) (f k) (sp refl) s
+gauge-spin Jorg P f k sp s = s
+gauge-spin Cmr P f k sp s = s
+
+module _ (c : Call) (xs : List ℤ) (r : ReadyFor c xs) (reference : isGperm (c .mode) ≡ true → c .reference < c .lattice .n) where
+  pub seen-spin : (i k : ℕ) → i < c .lattice .n → k < size c → Spin (seenAt c xs i k)
+  seen-spin i k hi hk = gauge-spin (c .mode) (pattern c xs (c .reference)) (pattern c xs i) k (λ e. r .spins (c .reference) k (reference e) hk) (r .spins i k hi hk)
+
+  -- the columns that packing leaves
+  pub packed : (sg : ℕ → ℤ) (cols : List ℕ) → ((k : ℕ) → k < size c → sg k ≡ signBy (c .mode) (pattern c xs (c .reference)) k) → Columns (c .lattice .n) (size c) (λ i k. sg k *ℤ pattern c xs i k) cols → Columns (c .lattice .n) (size c) (seenAt c xs) cols
+  packed sg cols signed h = record {
+    long = h .long;
+    at = λ i l. h .at i l ∙ column-ext (size c) (λ k. sg k *ℤ pattern c xs i k) (seenAt c xs i) (λ k hk. rw (signed k hk) (sign-gauge (c .mode) (pattern c xs (c .reference)) (pattern c xs i) k (r .spins i k l hk)));
+  }
+
+  test-seen : (i : ℕ) → i < c .lattice .n → testBy (c .mode) (size c) (shown (columnOf (size c) (seenAt c xs i))) ≡ acts c xs i
+  unfolding acts
+  test-seen i h = test-ext (c .mode) (size c) _ (seenAt c xs i) (omega (arith, r .size-low)) (λ k l. shown-column (size c) (seenAt c xs i) k l (seen-spin i k h l))
+
+  -- looking a site's column up in the table of the mode tells whether it acts
+  pub looked : (table cols flags : List ℕ) → ((x : ℕ) → x < 2 ^ size c → getD table x 0 ≡ bit (testBy (c .mode) (size c) (shown x))) → Columns (c .lattice .n) (size c) (seenAt c xs) cols → length flags ≡ c .lattice .n → ((i : ℕ) → i < c .lattice .n → getD flags i 0 ≡ getD table (getD cols i 0) 0) → Flags (c .lattice .n) (acts c xs) flags
+  looked table cols flags t h long f = record {
+    long = long;
+    at = λ i l. f i l ∙ (ap (λ (x : ℕ). getD table x 0) (h .at i l) ∙ (t (columnOf (size c) (seenAt c xs i)) (column-lt (size c) (seenAt c xs i)) ∙ ap bit (test-seen i l)));
+  }
+
+-- a flag read back
+pub flag-is : (t : Bool) → eqb (bit t) 1 ≡ t
+flag-is true = refl
+flag-is false = refl
+
+pub flag-at : (n : ℕ) (f : ℕ → Bool) (xs : List ℕ) → Flags n f xs → (i : ℕ) → i < n → eqb (getD xs i 0) 1 ≡ f i
+flag-at n f xs h i l = ap (λ (x : ℕ). eqb x 1) (h .at i l) ∙ flag-is (f i)
+
+-- ---- labels of a table of bonds are labels of the rule that it marks
+pub rejoin : (t : Graph) (f g : ℕ → ℕ → Bool) → ((i e : ℕ) → i < t .n → e < t .d → f i e ≡ g i e) → {a b : ℕ} → Joined t f a b → Joined t g a b
+rejoin t f g e stay = stay
+rejoin t f g e (along h r) = along (record { site = h .site; dir = h .dir; dir-lt = h .dir-lt; on = sym (e _ (h .dir) (h .site) (h .dir-lt)) ∙ h .on; leads = h .leads }) (rejoin t f g e r)
+rejoin t f g e (against h r) = against (record { site = h .site; dir = h .dir; dir-lt = h .dir-lt; on = sym (e _ (h .dir) (h .site) (h .dir-lt)) ∙ h .on; leads = h .leads }) (rejoin t f g e r)
+
+pub relabel : (t : Graph) (f g : ℕ → ℕ → Bool) (l : List ℕ) → ((i e : ℕ) → i < t .n → e < t .d → f i e ≡ g i e) → Labels t f l → Labels t g l
+relabel t f g l e h = record {
+  long = h .long;
+  joined = λ i hi. rejoin t f g e (h .joined i hi);
+  least = λ i j hi hj w. h .least i j hi hj (rejoin t g f (λ a b ha hb. sym (e a b ha hb)) w);
+}
+
+pub mark-at : (n d : ℕ) (f : ℕ → ℕ → Bool) (xs : List ℕ) → Marks n d f xs → (i e : ℕ) → i < n → e < d → marked d xs i e ≡ f i e
+mark-at n d f xs h i e hi he = ap (λ (x : ℕ). eqb x 1) (h .at i e hi he) ∙ flag-is (f i e)

@@ -1,0 +1,2 @@
+// The moves.
+ghost use mathlib.Core.Path.{_≡_};
