@@ -13,3 +13,4 @@ pub mod SweepAscending
 pub mod MovesExist
 pub mod FramesDetermined
 pub mod SweepCounts
+pub mod TypesDetermined

@@ -1,6 +1,7 @@
 // The types of document 01. Its definitions are in specs/, read in the order of specs/Lib.antt.
 ghost use mathlib.Core.Path.{_≡_};
 ghost use Rattle.paper.specs.Site.Bonds.{samplerOf};
+ghost use Rattle.paper.specs.Panel.Takes.{isPerm, isGperm, isCmr, isDrawn, isSw, isWolff, moves};
 
 // A group: its size and up to eight system numbers.
 pub struct Group {
@@ -21,6 +22,99 @@ pub enum Form {
     Sw,
     Wolff,
     Observe,
+}
+
+impl Mode {
+    // Chooses permutations.
+    pub fn is_perm(self) -> bool
+        ensures { λ r. ⌜ r ≡ isPerm self ⌝ }
+    {
+        match self {
+            Mode::Houd => false,
+            Mode::Pair => false,
+            Mode::Perm => true,
+            Mode::Gperm => true,
+            Mode::Jorg => false,
+            Mode::Cmr => false,
+        }
+    }
+
+    // Takes a reference site.
+    pub fn is_gperm(self) -> bool
+        ensures { λ r. ⌜ r ≡ isGperm self ⌝ }
+    {
+        match self {
+            Mode::Houd => false,
+            Mode::Pair => false,
+            Mode::Perm => false,
+            Mode::Gperm => true,
+            Mode::Jorg => false,
+            Mode::Cmr => false,
+        }
+    }
+
+    // Has grey components beside the blue ones.
+    pub fn is_cmr(self) -> bool
+        ensures { λ r. ⌜ r ≡ isCmr self ⌝ }
+    {
+        match self {
+            Mode::Houd => false,
+            Mode::Pair => false,
+            Mode::Perm => false,
+            Mode::Gperm => false,
+            Mode::Jorg => false,
+            Mode::Cmr => true,
+        }
+    }
+
+    // Draws its bonds.
+    pub fn is_drawn(self) -> bool
+        ensures { λ r. ⌜ r ≡ isDrawn self ⌝ }
+    {
+        match self {
+            Mode::Houd => false,
+            Mode::Pair => false,
+            Mode::Perm => false,
+            Mode::Gperm => false,
+            Mode::Jorg => true,
+            Mode::Cmr => true,
+        }
+    }
+}
+
+impl Form {
+    // Moves every component.
+    pub fn is_sw(self) -> bool
+        ensures { λ r. ⌜ r ≡ isSw self ⌝ }
+    {
+        match self {
+            Form::Sw => true,
+            Form::Wolff => false,
+            Form::Observe => false,
+        }
+    }
+
+    // Moves the component of a seed.
+    pub fn is_wolff(self) -> bool
+        ensures { λ r. ⌜ r ≡ isWolff self ⌝ }
+    {
+        match self {
+            Form::Sw => false,
+            Form::Wolff => true,
+            Form::Observe => false,
+        }
+    }
+
+    // Moves at all.
+    pub fn moves(self) -> bool
+        ensures { λ r. ⌜ r ≡ moves self ⌝ }
+    {
+        match self {
+            Form::Sw => true,
+            Form::Wolff => true,
+            Form::Observe => false,
+        }
+    }
 }
 
 pub enum Answer {

@@ -1,0 +1,37 @@
+-- The functions on the types: what each promises, it promises of one result. Assumes nothing.
+use mathlib.Core.Path.{_≡_, sym, _∙_}
+use mathlib.Core.Bool.{Bool}
+use lib.Ieee.{Float}
+use Rattle.paper.specs.declared.Mode.{Mode}
+use Rattle.paper.specs.declared.Form.{Form}
+use Rattle.paper.specs.declared.Sampler.{Sampler}
+use Rattle.paper.specs.Panel.Takes.{isPerm, isGperm, isCmr, isDrawn, isSw, isWolff, moves}
+use Rattle.paper.specs.Site.Bonds.{samplerOf}
+
+-- two results that equal one value are equal
+pub one-value : {A : Type 0} {v a b : A} → a ≡ v → b ≡ v → a ≡ b
+one-value p q = p ∙ sym q
+
+pub new-determined : (t : Float) (a b : Sampler) → a ≡ samplerOf t → b ≡ samplerOf t → a ≡ b
+new-determined t a b = one-value
+
+pub is-perm-determined : (m : Mode) (a b : Bool) → a ≡ isPerm m → b ≡ isPerm m → a ≡ b
+is-perm-determined m a b = one-value
+
+pub is-gperm-determined : (m : Mode) (a b : Bool) → a ≡ isGperm m → b ≡ isGperm m → a ≡ b
+is-gperm-determined m a b = one-value
+
+pub is-cmr-determined : (m : Mode) (a b : Bool) → a ≡ isCmr m → b ≡ isCmr m → a ≡ b
+is-cmr-determined m a b = one-value
+
+pub is-drawn-determined : (m : Mode) (a b : Bool) → a ≡ isDrawn m → b ≡ isDrawn m → a ≡ b
+is-drawn-determined m a b = one-value
+
+pub is-sw-determined : (f : Form) (a b : Bool) → a ≡ isSw f → b ≡ isSw f → a ≡ b
+is-sw-determined f a b = one-value
+
+pub is-wolff-determined : (f : Form) (a b : Bool) → a ≡ isWolff f → b ≡ isWolff f → a ≡ b
+is-wolff-determined f a b = one-value
+
+pub moves-determined : (f : Form) (a b : Bool) → a ≡ moves f → b ≡ moves f → a ≡ b
+moves-determined f a b = one-value
