@@ -8,24 +8,27 @@ use native.Mathlib.Omega.{arith}
 use lib.Dec.{eqb}
 use lib.ListN.{length, getD}
 use lib.IntN.{ℤ, pos, negsuc, _*ℤ_}
+use Rattle.paper.specs.declared.Group.{Group}
 use Rattle.paper.specs.declared.Mode.{Mode}
 use Rattle.paper.specs.declared.Mode.the-variants.{Houd, Pair, Perm, Gperm, Jorg, Cmr}
-use Rattle.paper.specs.Panel.Input.{Graph, Call, Pattern, pattern, size, ahead, graph}
+use Rattle.paper.specs.Panel.Input.{Graph, Call, Pattern, patternOf, size}
 use Rattle.paper.specs.Panel.Takes.{isGperm}
-use Rattle.paper.specs.Site.Acting.{gauge, testBy, acts, SomeActs, NoneActs}
+use Rattle.paper.specs.Site.Acting.{gauge, testBy, acts}
 use Rattle.paper.specs.Component.Links.{Linked, Linked.stay, Linked.along, Linked.against}
 use Rattle.paper.specs.Component.Labels.{Bond, Joined, Labels}
 use Rattle.paper.specs.Component.Sizes.{bit}
-use Rattle.paper.specs.Component.Marks.{Flags, Marks, marked, Tells}
+use Rattle.paper.specs.Component.Marks.{Flags, Marks, marked}
 use Rattle.paper.specs.Refusal.Rules.{Spin}
 use Rattle.paper.specs.Law.Patterns.{times-spin}
 use Rattle.paper.specs.Demand3.ActsKept.{test-ext}
-use Rattle.columns.specs.Column.{shown, columnOf, shown-column, column-lt, column-ext, signBy, Columns}
-use Rattle.moves.specs.Ready.{ReadyFor}
+use Rattle.columns.specs.Column.{shown, columnOf, shown-column, column-lt, column-ext, signBy, Columns, Spinning}
 
--- the pattern at the site i as the mode sees it
+-- the group's pattern at the site i as the mode sees it, with the reference site q
+abbrev pub seenBy : Mode → ℕ → Group → ℕ → List ℤ → ℕ → Pattern
+seenBy mode n g q xs i = gauge mode (patternOf n g xs q) (patternOf n g xs i)
+
 abbrev pub seenAt : Call → List ℤ → ℕ → Pattern
-seenAt c xs i = gauge (c .mode) (pattern c xs (c .reference)) (pattern c xs i)
+seenAt c = seenBy (c .mode) (c .lattice .n) (c .group) (c .reference)
 
 pub one-times : (z : ℤ) → Spin z → pos 1 *ℤ z ≡ z
 one-times z (inl p) = rw p
@@ -47,27 +50,47 @@ gauge-spin Gperm P f k sp s = times-spin (P k) (f k) (sp refl) s
 gauge-spin Jorg P f k sp s = s
 gauge-spin Cmr P f k sp s = s
 
-module _ (c : Call) (xs : List ℤ) (r : ReadyFor c xs) (reference : isGperm (c .mode) ≡ true → c .reference < c .lattice .n) where
-  pub seen-spin : (i k : ℕ) → i < c .lattice .n → k < size c → Spin (seenAt c xs i k)
-  seen-spin i k hi hk = gauge-spin (c .mode) (pattern c xs (c .reference)) (pattern c xs i) k (λ e. r .spins (c .reference) k (reference e) hk) (r .spins i k hi hk)
+module _ (mode : Mode) (n : ℕ) (g : Group) (q : ℕ) (xs : List ℤ) (some : 0 < g .len) (spins : Spinning n g xs) (reference : isGperm mode ≡ true → q < n) where
+  pub seen-spin : (i k : ℕ) → i < n → k < g .len → Spin (seenBy mode n g q xs i k)
+  seen-spin i k hi hk = gauge-spin mode (patternOf n g xs q) (patternOf n g xs i) k (λ e. spins q k (reference e) hk) (spins i k hi hk)
 
   -- the columns that packing leaves
-  pub packed : (sg : ℕ → ℤ) (cols : List ℕ) → ((k : ℕ) → k < size c → sg k ≡ signBy (c .mode) (pattern c xs (c .reference)) k) → Columns (c .lattice .n) (size c) (λ i k. sg k *ℤ pattern c xs i k) cols → Columns (c .lattice .n) (size c) (seenAt c xs) cols
+  pub packed :
+      (sg : ℕ → ℤ) (cols : List ℕ)
+      → ((k : ℕ) → k < g .len → sg k ≡ signBy mode (patternOf n g xs q) k)
+      → Columns n (g .len) (λ i k. sg k *ℤ patternOf n g xs i k) cols
+      → Columns n (g .len) (seenBy mode n g q xs) cols
   packed sg cols signed h = record {
     long = h .long;
-    at = λ i l. h .at i l ∙ column-ext (size c) (λ k. sg k *ℤ pattern c xs i k) (seenAt c xs i) (λ k hk. rw (signed k hk) (sign-gauge (c .mode) (pattern c xs (c .reference)) (pattern c xs i) k (r .spins i k l hk)));
+    at = λ i l.
+        h .at i l
+        ∙ column-ext (g .len) (λ k. sg k *ℤ patternOf n g xs i k) (seenBy mode n g q xs i)
+        (λ k hk. rw (signed k hk) (sign-gauge mode (patternOf n g xs q) (patternOf n g xs i) k (spins i k l hk)));
   }
 
-  test-seen : (i : ℕ) → i < c .lattice .n → testBy (c .mode) (size c) (shown (columnOf (size c) (seenAt c xs i))) ≡ acts c xs i
-  unfolding acts
-  test-seen i h = test-ext (c .mode) (size c) _ (seenAt c xs i) (omega (arith, r .size-low)) (λ k l. shown-column (size c) (seenAt c xs i) k l (seen-spin i k h l))
+  test-seen : (i : ℕ) → i < n → testBy mode (g .len) (shown (columnOf (g .len) (seenBy mode n g q xs i))) ≡ testBy mode (g .len) (seenBy mode n g q xs i)
+  test-seen i h = test-ext mode (g .len) _ (seenBy mode n g q xs i) some (λ k l. shown-column (g .len) (seenBy mode n g q xs i) k l (seen-spin i k h l))
 
   -- looking a site's column up in the table of the mode tells whether it acts
-  pub looked : (table cols flags : List ℕ) → ((x : ℕ) → x < 2 ^ size c → getD table x 0 ≡ bit (testBy (c .mode) (size c) (shown x))) → Columns (c .lattice .n) (size c) (seenAt c xs) cols → length flags ≡ c .lattice .n → ((i : ℕ) → i < c .lattice .n → getD flags i 0 ≡ getD table (getD cols i 0) 0) → Flags (c .lattice .n) (acts c xs) flags
+  pub looked :
+      (table cols flags : List ℕ)
+      → ((x : ℕ) → x < 2 ^ g .len → getD table x 0 ≡ bit (testBy mode (g .len) (shown x)))
+      → Columns n (g .len) (seenBy mode n g q xs) cols
+      → length flags ≡ n
+      → ((i : ℕ) → i < n → getD flags i 0 ≡ getD table (getD cols i 0) 0)
+      → Flags n (λ i. testBy mode (g .len) (seenBy mode n g q xs i)) flags
   looked table cols flags t h long f = record {
     long = long;
-    at = λ i l. f i l ∙ (ap (λ (x : ℕ). getD table x 0) (h .at i l) ∙ (t (columnOf (size c) (seenAt c xs i)) (column-lt (size c) (seenAt c xs i)) ∙ ap bit (test-seen i l)));
+    at = λ i l.
+        f i l
+        ∙ (ap (λ (x : ℕ). getD table x 0) (h .at i l)
+        ∙ (t (columnOf (g .len) (seenBy mode n g q xs i)) (column-lt (g .len) (seenBy mode n g q xs i)) ∙ ap bit (test-seen i l)));
   }
+
+-- the same flags are those of the call's acting sites
+pub acts-flags : (c : Call) (xs : List ℤ) (flags : List ℕ) → Flags (c .lattice .n) (λ i. testBy (c .mode) (size c) (seenAt c xs i)) flags → Flags (c .lattice .n) (acts c xs) flags
+unfolding acts
+acts-flags c xs flags h = record { long = h .long; at = h .at }
 
 -- a flag read back
 pub flag-is : (t : Bool) → eqb (bit t) 1 ≡ t

@@ -1,3 +1,4 @@
 pub mod Rule
 pub mod Rules
 pub mod Kept
+pub mod Verdict

@@ -117,6 +117,22 @@ impl Form {
     }
 }
 
+// How many elements each buffer has that a move may be lent.
+pub struct Lengths {
+    pub spins: usize,
+    pub fwd: usize,
+    pub bwd: usize,
+    pub couplings: usize,
+    pub cuts: usize,
+    pub flips: usize,
+    pub perms: usize,
+    pub greys: usize,
+    pub labels: usize,
+    pub greyed: usize,
+    pub counts: usize,
+    pub sizes: usize,
+}
+
 pub enum Answer {
     Refused(u8),
     Idle,

@@ -56,18 +56,30 @@ moves Wolff = true
 moves Observe = false
 
 -- couplings, a temperature and cuts
-abbrev pub takesCuts : Call → Bool
-takesCuts c = isDrawn (c .mode)
+abbrev pub drawsBonds : Mode → Bool
+drawsBonds mode = isDrawn mode
 
-abbrev pub takesFlips : Call → Bool
-takesFlips c = isSw (c .form) && not (isPerm (c .mode))
+abbrev pub flipsBy : Mode → Form → Bool
+flipsBy mode form = isSw form && not (isPerm mode)
 
-abbrev pub takesPerms : Call → Bool
-takesPerms c = moves (c .form) && isPerm (c .mode)
+abbrev pub permsBy : Mode → Form → Bool
+permsBy mode form = moves form && isPerm mode
 
 -- grey numbers and grey labels
+abbrev pub greysBy : Mode → Form → Bool
+greysBy mode form = moves form && isCmr mode
+
+abbrev pub takesCuts : Call → Bool
+takesCuts c = drawsBonds (c .mode)
+
+abbrev pub takesFlips : Call → Bool
+takesFlips c = flipsBy (c .mode) (c .form)
+
+abbrev pub takesPerms : Call → Bool
+takesPerms c = permsBy (c .mode) (c .form)
+
 abbrev pub takesGreys : Call → Bool
-takesGreys c = moves (c .form) && isCmr (c .mode)
+takesGreys c = greysBy (c .mode) (c .form)
 
 abbrev pub takesReference : Call → Bool
 takesReference c = isGperm (c .mode)

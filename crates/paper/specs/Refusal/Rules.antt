@@ -10,8 +10,10 @@ use lib.IntN.{ℤ, pos, negsuc, natAbs}
 use lib.Ieee.{Float, nan, inf, fin, binary32, div, le}
 use Rattle.paper.specs.declared.Group.{Group}
 use Rattle.paper.specs.declared.Mode.{Mode}
+use Rattle.paper.specs.declared.Form.{Form}
+use Rattle.paper.specs.declared.Lengths.{Lengths}
 use Rattle.paper.specs.Panel.Input.{Call, Choices, Buffers, size, member}
-use Rattle.paper.specs.Panel.Takes.{isCmr, isWolff, moves, takesCuts, takesFlips, takesPerms, takesGreys, takesReference, takesSeed, entries}
+use Rattle.paper.specs.Panel.Takes.{isCmr, isWolff, drawsBonds, flipsBy, permsBy, greysBy, takesCuts, takesFlips, takesPerms, takesGreys, takesReference, takesSeed, entries}
 use Rattle.paper.specs.Site.Acting.{acts, SomeActs}
 use Rattle.paper.specs.Site.Bonds.{whole}
 use Rattle.paper.specs.Refusal.Rule.{Rule, rule}
@@ -36,19 +38,39 @@ pub record Ranged (n d s : ℕ) (mode : Mode) (m : ℕ) : Type 0 where
   pub size-high : m ≤ 8
   pub cmr-two : When (isCmr mode) (m ≡ 2)
 
-pub record Exact (c : Call) (p : Choices) (b : Buffers) : Type 0 where
-  pub spins : length (b .spins) ≡ c .lattice .s * c .lattice .n
-  pub fwd : length (c .lattice .fwd) ≡ c .lattice .n * c .lattice .d
-  pub bwd : length (c .lattice .bwd) ≡ c .lattice .n * c .lattice .d
-  pub couplings : When (takesCuts c) (length (c .lattice .couplings) ≡ c .lattice .n * c .lattice .d)
-  pub cuts : When (takesCuts c) (length (c .cuts) ≡ c .lattice .n * c .lattice .d)
-  pub flips : When (takesFlips c) (length (p .flips) ≡ c .lattice .n)
-  pub perms : When (takesPerms c) (length (p .perms) ≡ entries (c .form) (c .lattice .n) * size c)
-  pub greys : When (takesGreys c) (length (p .greys) ≡ entries (c .form) (c .lattice .n))
-  pub labels : length (b .labels) ≡ c .lattice .n
-  pub grey-labels : When (takesGreys c) (length (b .greyLabels) ≡ c .lattice .n)
-  pub counts : length (b .counts) ≡ c .lattice .n + 1
-  pub sizes : length (b .sizes) ≡ 4
+-- the exact lengths, for n sites, d directions, s systems and a group of m
+pub record Fits (mode : Mode) (form : Form) (n d s m : ℕ) (l : Lengths) : Type 0 where
+  pub spins : l .spins ≡ s * n
+  pub fwd : l .fwd ≡ n * d
+  pub bwd : l .bwd ≡ n * d
+  pub couplings : When (drawsBonds mode) (l .couplings ≡ n * d)
+  pub cuts : When (drawsBonds mode) (l .cuts ≡ n * d)
+  pub flips : When (flipsBy mode form) (l .flips ≡ n)
+  pub perms : When (permsBy mode form) (l .perms ≡ entries form n * m)
+  pub greys : When (greysBy mode form) (l .greys ≡ entries form n)
+  pub labels : l .labels ≡ n
+  pub grey-labels : When (greysBy mode form) (l .greyed ≡ n)
+  pub counts : l .counts ≡ n + 1
+  pub sizes : l .sizes ≡ 4
+
+abbrev pub lengthsOf : Call → Choices → Buffers → Lengths
+lengthsOf c p b = record {
+  spins = length (b .spins);
+  fwd = length (c .lattice .fwd);
+  bwd = length (c .lattice .bwd);
+  couplings = length (c .lattice .couplings);
+  cuts = length (c .cuts);
+  flips = length (p .flips);
+  perms = length (p .perms);
+  greys = length (p .greys);
+  labels = length (b .labels);
+  greyed = length (b .greyLabels);
+  counts = length (b .counts);
+  sizes = length (b .sizes);
+}
+
+abbrev pub Exact : Call → Choices → Buffers → Type 0
+Exact c p b = Fits (c .mode) (c .form) (c .lattice .n) (c .lattice .d) (c .lattice .s) (size c) (lengthsOf c p b)
 
 -- a spin is +1 or -1
 abbrev pub Spin : ℤ → Type 0
