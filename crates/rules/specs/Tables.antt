@@ -1,0 +1,46 @@
+-- What the rules are worked out on: a pattern in an array, tables over all columns, and the bytes that a look-up leaves. Assumes nothing.
+use Prim.Native.Nat.{ℕ, _^_, _≤_, _<_}
+use mathlib.Core.Path.{_≡_}
+use mathlib.Core.Bool.{Bool}
+use mathlib.Core.List.{List}
+use lib.ListN.{length, getD}
+use lib.IntN.{ℤ, pos, negℤ}
+use Rattle.paper.specs.declared.Group.{Group}
+use Rattle.paper.specs.declared.Mode.{Mode}
+use Rattle.paper.specs.Panel.Input.{Pattern}
+use Rattle.paper.specs.Move.Moving.{other}
+use Rattle.paper.specs.Component.Marks.{Tells}
+use Rattle.columns.specs.Column.{flipped}
+
+-- the pattern that an array holds
+abbrev pub spinAt : List ℤ → Pattern
+spinAt p k = getD p k (pos 0)
+
+-- a group of one to eight systems
+pub record Sized (g : Group) : Type 0 where
+  pub some : 1 ≤ g .len
+  pub few : g .len ≤ 8
+
+-- q has f at its first m places, and is p at the others
+pub record Turned (m : ℕ) (f : Pattern) (p q : List ℤ) : Type 0 where
+  pub long : length q ≡ length p
+  pub at : (k : ℕ) → k < m → spinAt q k ≡ f k
+  pub beyond : (k : ℕ) → m ≤ k → spinAt q k ≡ spinAt p k
+
+-- a byte for each of the 256 columns: f x at a column x of m systems, and else 0
+pub record Table (m : ℕ) (f : ℕ → ℕ) (table : List ℕ) : Type 0 where
+  pub long : length table ≡ 256
+  pub at : (x : ℕ) → x < 2 ^ m → getD table x 0 ≡ f x
+  pub beyond : (x : ℕ) → 2 ^ m ≤ x → x < 256 → getD table x 0 ≡ 0
+
+-- some of the first n bytes is 1
+pub record SomeMarked (n : ℕ) (xs : List ℕ) : Type 0 where
+  pub site : ℕ
+  pub below : site < n
+  pub is : getD xs site 0 ≡ 1
+
+-- acts has at each site the table's entry for the site's column, and r tells whether one of them is 1
+pub record Looked (table cols acts : List ℕ) (r : Bool) : Type 0 where
+  pub long : length acts ≡ length cols
+  pub at : (i : ℕ) → i < length cols → getD acts i 0 ≡ getD table (getD cols i 0) 0
+  pub tells : Tells r (SomeMarked (length cols) acts)
