@@ -1,1 +1,4 @@
 pub mod Column
+pub mod Bits
+pub mod Rows
+pub mod Determined
