@@ -1,0 +1,46 @@
+-- The test that `reach` makes at a site is the form's. Assumes nothing.
+use Prim.Native.Nat.{ℕ, _<_}
+use mathlib.Core.Path.{_≡_, refl, _∙_, ap}
+use mathlib.Core.Bool.{Bool, true, false, cond, _&&_}
+use mathlib.Core.List.{List}
+use native.Mathlib.Omega.{arith}
+use lib.Dec.{eqb, leb}
+use lib.ListN.{length, getD}
+use Rattle.paper.specs.declared.Form.{Form}
+use Rattle.paper.specs.declared.Form.the-variants.{Sw, Wolff, Observe}
+use Rattle.paper.specs.declared.Mode.{Mode}
+use Rattle.paper.specs.Panel.Takes.{isSw, isWolff}
+use Rattle.paper.specs.Component.Sizes.{bit, labelOf, sizeOf}
+use Rattle.paper.specs.Component.Marks.{Flags}
+use Rattle.paper.specs.Move.Moving.{leastSize, reachedBy}
+use Rattle.choose.specs.Chosen.{Becomes, Marked, isOne, reachedAt}
+
+-- by the smallest size that SW moves and by the label of Wolff's component
+abbrev pub tested : Form → ℕ → ℕ → List ℕ → List ℕ → List ℕ → ℕ → Bool
+tested form least own acts labels tally i =
+    isOne acts i && cond (isSw form) (leb least (getD tally (labelOf labels i) 0)) (isWolff form && eqb (labelOf labels i) own)
+
+bit-is : (b : Bool) → cond b 1 0 ≡ bit b
+bit-is true = refl
+bit-is false = refl
+
+is-reached : (form : Form) (mode : Mode) (seed : ℕ) (labels tally : List ℕ) (i : ℕ) → getD tally (labelOf labels i) 0 ≡ sizeOf labels (labelOf labels i)
+    → cond (isSw form) (leb (leastSize mode) (getD tally (labelOf labels i) 0)) (isWolff form && eqb (labelOf labels i) (cond (isWolff form) (labelOf labels seed) 0))
+    ≡ reachedBy form mode seed labels i
+is-reached Sw mode seed labels tally i e = rw e
+is-reached Wolff mode seed labels tally i e = refl
+is-reached Observe mode seed labels tally i e = refl
+
+pub all-reached : (form : Form) (mode : Mode) (seed : ℕ) (acts labels tally xs ys : List ℕ) (least own : ℕ) → Marked form seed acts labels tally xs
+    → least ≡ leastSize mode → own ≡ cond (isWolff form) (getD labels seed 0) 0 → Becomes (λ i. cond (tested form least own acts labels tally i) 1 0) xs ys
+    → Flags (length acts) (reachedAt form mode seed acts labels) ys
+all-reached form mode seed acts labels tally xs ys least own m e o b = record {
+  long = b .long ∙ m .lent;
+  at = λ i h. b .at i (omega (arith, m .lent)) ∙ (bit-is (tested form least own acts labels tally i) ∙ ap bit (same i h));
+}
+  where
+    same : (i : ℕ) → i < length acts → tested form least own acts labels tally i ≡ reachedAt form mode seed acts labels i
+    same i h =
+        rw (e, o)
+        (ap (λ (x : Bool). isOne acts i && x)
+        (is-reached form mode seed labels tally i (m .sized .each (labelOf labels i) (omega (arith, m .below i h, m .labelled)))))

@@ -1,0 +1,28 @@
+-- What each function ensures allows one content of the buffer that it writes. Assumes nothing.
+use Prim.Native.Nat.{ℕ, _<_}
+use mathlib.Core.Path.{_≡_, sym, _∙_}
+use mathlib.Core.Bool.{Bool}
+use mathlib.Core.List.{List}
+use native.Mathlib.Omega.{arith}
+use lib.ListN.{length, getD}
+use lib.Seq.{ext-getD}
+use Rattle.paper.specs.declared.Form.{Form}
+use Rattle.paper.specs.declared.Mode.{Mode}
+use Rattle.paper.specs.Component.Marks.{Flags}
+use Rattle.choose.specs.Chosen.{Becomes, reachedAt, flippedAt}
+
+-- a length and an entry at each place below it leave one list
+only : (n : ℕ) (f : ℕ → ℕ) (ys zs : List ℕ) → length ys ≡ n → length zs ≡ n → ((i : ℕ) → i < n → getD ys i 0 ≡ f i) → ((i : ℕ) → i < n → getD zs i 0 ≡ f i)
+    → ys ≡ zs
+only n f ys zs l m p q = ext-getD 0 ys zs (l ∙ sym m) (λ i h. p i (omega arith) ∙ sym (q i (omega arith)))
+
+pub becomes-determined : (f : ℕ → ℕ) (xs ys zs : List ℕ) → Becomes f xs ys → Becomes f xs zs → ys ≡ zs
+becomes-determined f xs ys zs p q = only (length xs) f ys zs (p .long) (q .long) (p .at) (q .at)
+
+pub reach-determined : (mode : Mode) (form : Form) (seed : ℕ) (acts labels ys zs : List ℕ) → Flags (length acts) (reachedAt form mode seed acts labels) ys
+    → Flags (length acts) (reachedAt form mode seed acts labels) zs → ys ≡ zs
+reach-determined mode form seed acts labels ys zs p q = only (length acts) _ ys zs (p .long) (q .long) (p .at) (q .at)
+
+pub flip-columns-determined : (form : Form) (reached labels flips table cols ys zs : List ℕ) → Becomes (flippedAt form reached labels flips table cols) cols ys
+    → Becomes (flippedAt form reached labels flips table cols) cols zs → ys ≡ zs
+flip-columns-determined form reached labels flips table cols ys zs p q = becomes-determined _ cols ys zs p q

@@ -1,0 +1,121 @@
+// The choose step of a move: each site's new column, from the labels and the lent choices.
+ghost use mathlib.Core.Path.{_≡_};
+ghost use mathlib.Core.Bool.{true, cond, _&&_};
+ghost use Prim.Native.Nat.{ℕ, _<_};
+ghost use lib.Dec.{eqb, leb};
+ghost use lib.ListN.{length, getD};
+ghost use Rattle.paper.specs.Panel.Takes.{isSw, isWolff};
+ghost use Rattle.paper.specs.Move.Moving.{flipBy, leastSize};
+ghost use Rattle.paper.specs.Component.Marks.{Flags};
+ghost use Rattle.choose.specs.Chosen.{Becomes, Marked, reachedAt, Flips, flippedAt};
+use paper::Form;
+use paper::Mode;
+
+fn wide(x: u32) -> usize
+    ensures { λ r. ⌜ r ≡ x ⌝ }
+{
+    x as usize
+}
+
+// A byte by a test: both values are at hand, so this is a select and no branch.
+fn pick(test: bool, a: u8, b: u8) -> u8
+    ensures { λ r. ⌜ r ≡ cond test a b ⌝ }
+{
+    if test { a } else { b }
+}
+
+// SW moves a component from this size on.
+fn least_size(mode: Mode) -> u32
+    ensures { λ r. ⌜ r ≡ leastSize mode ⌝ }
+{
+    match mode {
+        Mode::Houd => 2,
+        Mode::Pair => 2,
+        Mode::Perm => 1,
+        Mode::Gperm => 1,
+        Mode::Jorg => 2,
+        Mode::Cmr => 2,
+    }
+}
+
+// The label of Wolff's component.
+fn home(form: Form, seed: usize, labels: &[u32]) -> u32
+    requires { ⌜ (isWolff form ≡ true → seed < length (now labels)) ⌝ }
+    ensures { λ r. ⌜ r ≡ cond (isWolff form) (getD (now (labels .entry)) seed 0) 0 ⌝ }
+{
+    match form {
+        Form::Sw => 0,
+        Form::Wolff => labels[seed],
+        Form::Observe => 0,
+    }
+}
+
+// Does the form move the component with this label and size?
+fn reaches(form: Form, least: u32, size: u32, label: u32, home: u32) -> bool
+    ensures { λ r. ⌜ r ≡ cond (isSw form) (leb least size) (isWolff form && eqb label home) ⌝ }
+{
+    match form {
+        Form::Sw => least <= size,
+        Form::Wolff => label == home,
+        Form::Observe => false,
+    }
+}
+
+pub fn reach(
+    mode: Mode,
+    form: Form,
+    seed: usize,
+    acts: &[u8],
+    labels: &[u32],
+    tally: &[u32],
+    reached: &mut [u8],
+)
+    requires { ⌜ Marked form seed (now acts) (now labels) (now tally) (now reached) ⌝ }
+    ensures { λ _. ⌜ Flags (length (now (acts .entry))) (reachedAt form mode seed (now (acts .entry)) (now (labels .entry))) (now (reached .exit)) ⌝ }
+{
+    let n = acts.len();
+    let least = least_size(mode);
+    let own = home(form, seed, labels);
+    let mut i: usize = 0;
+    while i < n {
+        let label = labels[i];
+        let size = tally[wide(label)];
+        let on = (acts[i] == 1) & reaches(form, least, size, label, own);
+        reached[i] = pick(on, 1, 0);
+        i += 1;
+    }
+}
+
+// Is the component with this label flipped?
+fn flip_at(form: Form, flips: &[u8], label: usize) -> bool
+    requires { ⌜ (isSw form ≡ true → label < length (now flips)) ⌝ }
+    ensures { λ r. ⌜ r ≡ flipBy form (now (flips .entry)) label ⌝ }
+{
+    match form {
+        Form::Sw => flips[label] == 1,
+        Form::Wolff => true,
+        Form::Observe => false,
+    }
+}
+
+pub fn flip_columns(
+    form: Form,
+    reached: &[u8],
+    labels: &[u32],
+    flips: &[u8],
+    table: [u8; 256],
+    cols: &mut [u8],
+)
+    requires { ⌜ Flips form (now reached) (now labels) (now flips) (now cols) ⌝ }
+    ensures { λ _. ⌜ Becomes (flippedAt form (now (reached .entry)) (now (labels .entry)) (now (flips .entry)) table (now (cols .entry))) (now (cols .entry)) (now (cols .exit)) ⌝ }
+{
+    let n = cols.len();
+    let mut i: usize = 0;
+    while i < n {
+        let old = cols[i];
+        let label = wide(labels[i]);
+        let flip = (reached[i] == 1) & flip_at(form, flips, label);
+        cols[i] = pick(flip, table[old as usize], old);
+        i += 1;
+    }
+}
