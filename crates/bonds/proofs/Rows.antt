@@ -1,0 +1,96 @@
+-- Rows of a table, written byte by byte and site by site. Assumes nothing.
+use Prim.Native.Nat.{ℕ, suc, _+_, _*_, _≤_, _<_}
+use mathlib.Core.Path.{_≡_, refl, sym, _∙_, ap}
+use mathlib.Core.Bool.{Bool, true, false}
+use mathlib.Core.List.{List}
+use native.Mathlib.Nat.{le-trans, mul-le-mul-left, mul-le-mul-right, suc-mul, zero-add}
+use native.Mathlib.Numerals.{add-one}
+use native.Mathlib.Decide.{decLt}
+use native.Mathlib.Omega.{arith}
+use borrow.Author.Count.{below-more}
+use lib.ListN.{length, getD, set, length-set, List·getD-eq-default}
+use lib.Seq.{getD-set-same, getD-set-other}
+use Rattle.paper.specs.Component.Sizes.{bit}
+use Rattle.paper.specs.Component.Marks.{Marks}
+use Rattle.bonds.specs.Row.{Row, Blank}
+
+-- the entry of a bond is in the table
+pub slot : (n d i e : ℕ) → i < n → e < d → i * d + e < n * d
+slot n d i e hi he = omega (arith, mul-le-mul-right d hi, suc-mul i d)
+
+-- and the table is short
+pub table-short : (n d : ℕ) → n ≤ 4096 → d ≤ 4 → n * d ≤ 16384
+table-short n d hn hd = le-trans (mul-le-mul-right d hn) (mul-le-mul-left 4096 hd)
+
+-- ---- a row
+pub row-none : (base : ℕ) (f : ℕ → Bool) (xs : List ℕ) → Row base 0 f xs xs
+row-none base f xs = record { long = refl; at = λ e h. absurd (omega arith); below = λ k h. refl; above = λ k h. refl }
+
+pub row-more : (base m v : ℕ) (f : ℕ → Bool) (xs ys : List ℕ) → Row base m f xs ys → base + m < length xs → v ≡ bit (f m) → Row base (m + 1) f xs (set ys (base + m) v)
+row-more base m v f xs ys r h e =
+    record {
+      long = simp length-set (r .long);
+      at =
+          below-more (λ e. getD (set ys (base + m) v) (base + e) 0 ≡ bit (f e)) m
+          (λ k l. getD-set-other ys (base + m) (base + k) v 0 (λ q. omega arith) ∙ r .at k l)
+          (getD-set-same ys (base + m) v 0 (omega (arith, r .long)) ∙ e);
+      below = λ k l. getD-set-other ys (base + m) k v 0 (λ q. omega arith) ∙ r .below k l;
+      above = λ k l. getD-set-other ys (base + m) k v 0 (λ q. omega arith) ∙ r .above k (omega arith);
+    }
+
+-- a row of noughts over the whole list
+pub all-blank : (f : ℕ → Bool) (xs ys : List ℕ) → ((e : ℕ) → f e ≡ false) → Row 0 (length xs) f xs ys → Blank 0 ys
+all-blank f xs ys none r k h = go (decLt k (length xs))
+  where
+    go : Dec (k < length xs) → getD ys k 0 ≡ 0
+    go (yes l) = rw zero-add at (r .at k l ∙ ap bit (none k))
+    go (no l) = List·getD-eq-default ys 0 (omega (arith, r .long))
+
+-- ---- the sites below i are marked
+pub record Begun (n d : ℕ) (f : ℕ → ℕ → Bool) (i : ℕ) (xs : List ℕ) : Type 0 where
+  pub long : length xs ≡ n * d
+  pub at : (k e : ℕ) → k < i → e < d → getD xs (k * d + e) 0 ≡ bit (f k e)
+
+module _ (n d : ℕ) (f : ℕ → ℕ → Bool) where
+  pub begun-none : (xs : List ℕ) → length xs ≡ n * d → Begun n d f 0 xs
+  begun-none xs h = record { long = h; at = λ k e l m. absurd (omega arith) }
+
+  pub begun-all : (xs : List ℕ) → Begun n d f n xs → Marks n d f xs
+  begun-all xs b = record { long = b .long; at = b .at }
+
+  module _ (i : ℕ) (xs : List ℕ) (b : Begun n d f i xs) where
+    pub begun-more : (ys : List ℕ) → Row (i * d) d (f i) xs ys → Begun n d f (i + 1) ys
+    begun-more ys r =
+        record {
+          long = r .long ∙ b .long;
+          at =
+              λ k e l m. below-more (λ k. getD ys (k * d + e) 0 ≡ bit (f k e)) i
+              (λ k l. r .below (k * d + e) (slot i d k e l m) ∙ b .at k e l m)
+              (r .at e m) k l;
+        }
+
+-- ---- the same where the bytes of the sites from i on are still 0: a site of which no bond holds is passed over
+pub record Marking (n d : ℕ) (f : ℕ → ℕ → Bool) (i : ℕ) (xs : List ℕ) : Type 0 where
+  pub begun : Begun n d f i xs
+  pub blank : Blank (i * d) xs
+
+module _ (n d : ℕ) (f : ℕ → ℕ → Bool) where
+  pub marking-none : (xs : List ℕ) → length xs ≡ n * d → Blank 0 xs → Marking n d f 0 xs
+  marking-none xs h z = record { begun = begun-none n d f xs h; blank = λ k l. z k (omega arith) }
+
+  module _ (i : ℕ) (xs : List ℕ) (b : Marking n d f i xs) where
+    pub marking-more : (ys : List ℕ) → Row (i * d) d (f i) xs ys → Marking n d f (i + 1) ys
+    marking-more ys r =
+        record {
+          begun = begun-more n d f i xs (b .begun) ys r;
+          blank = λ k h. let l : i * d + d ≤ k = rw (add-one, suc-mul) at h in r .above k l ∙ b .blank k (omega arith);
+        }
+
+    pub marking-skip : ((e : ℕ) → f i e ≡ false) → Marking n d f (i + 1) xs
+    marking-skip none =
+        marking-more xs (record {
+          long = refl;
+          at = λ e h. b .blank (i * d + e) (omega arith) ∙ sym (ap bit (none e));
+          below = λ k h. refl;
+          above = λ k h. refl;
+        })

@@ -1,0 +1,77 @@
+-- `bonds::active_bonds` meets its contract. Assumes nothing.
+use Prim.Native.Nat.{ℕ, _+_, _*_, _≤_, _<_, _-_}
+use mathlib.Core.Path.{_≡_, refl, ap, _∙_}
+use mathlib.Core.Logic.{⊎-elim}
+use native.Mathlib.Nat.{le-antisymm}
+use native.Mathlib.Omega.{arith}
+use borrow.Author.Tests.{ne-eqb}
+use lib.ListN.{length, getD}
+use Rattle.bonds.specs.Table.{bothActing}
+use Rattle.bonds.proofs.Rows.{Marking, marking-none, marking-more, marking-skip, begun-all}
+use borrow.Author.Needs.{needs}
+use Rattle.bonds.proofs.active_bonds.Statement.{statement}
+use Rattle.bonds.proofs.active_bonds.Tie as tie
+
+abbrev Inv-loop : tie.InvT-loop
+Inv-loop n d fwd acts holds₀ i₀ holds i = (i ≤ n) × Marking n d (bothActing d fwd acts) i holds
+
+abbrev μ-loop : tie.MeasureT-loop
+μ-loop n d fwd acts holds₀ i₀ holds i = n - i
+
+clear-requires : tie.Need-clear-requires Inv-loop μ-loop
+clear-requires c κs = search needs
+
+loop-holds : tie.Need-loop-holds Inv-loop μ-loop
+loop-holds c =
+    let s = c .before .before .before .before .before .before .before in
+    let k = c .before .before .clear in
+    (omega arith, marking-none _ _ _ _ (k .kept .0 ∙ s .pre .holds-long) (k .ensures))
+
+shared-slice-read-if1 : tie.Need-shared-slice-read-if1 Inv-loop μ-loop
+shared-slice-read-if1 c = search needs
+
+active-site-requires : tie.Need-active-site-requires Inv-loop μ-loop
+active-site-requires c κs = search needs
+
+add-i : tie.Need-add-i Inv-loop μ-loop
+add-i c = search needs
+
+loop-less : tie.Need-loop-less Inv-loop μ-loop
+loop-less c = search needs
+
+loop-again : tie.Need-loop-again Inv-loop μ-loop
+loop-again c =
+    let t = c .before .before in
+    let s = t .before .before .before .before .before .before .before .before .before in
+    let l = t .before .loop in
+    let f = bothActing (s .args .d) (s .args .fwd .now) (s .args .acts .now) in (
+      omega arith,
+      ⊎-elim
+          (λ w. rw (w .5) (marking-more _ _ f (l .i) _ (l .inv .1) _ (w .2 .ensures)))
+          (λ w. rw (w .1) (marking-skip _ _ f (l .i) _ (l .inv .1) (λ e. rw (ne-eqb _ 1 (w .0 .left)))))
+          (c .if1 .came),
+    )
+
+same-length : tie.Need-same-length Inv-loop μ-loop
+same-length c = search needs
+
+returns : tie.Need-returns Inv-loop μ-loop
+returns c =
+    let inv = c .before .loop .inv in
+    begun-all _ _ _ _ (rw (le-antisymm (inv .0) (c .loop-test .left)) at (inv .1 .begun))
+
+pub active-bonds-spec : {M : Type 1} → statement M
+active-bonds-spec =
+    tie.close
+    (tie.spec
+    Inv-loop
+    μ-loop
+    clear-requires
+    loop-holds
+    shared-slice-read-if1
+    active-site-requires
+    add-i
+    loop-less
+    loop-again
+    same-length
+    returns)

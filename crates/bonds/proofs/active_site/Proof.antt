@@ -1,0 +1,109 @@
+-- `bonds::active_site` meets its contract. Assumes nothing.
+use Prim.Native.Nat.{ℕ, _+_, _*_, _≤_, _<_, _-_}
+use mathlib.Core.Path.{_≡_, refl, ap, _∙_}
+use mathlib.Core.Bool.{Bool, false}
+use native.Mathlib.Nat.{le-antisymm, le-of-lt, mul-le-mul-right}
+use native.Mathlib.Omega.{arith}
+use lib.ListN.{length, getD}
+use Rattle.paper.specs.Component.Sizes.{bit}
+use Rattle.bonds.specs.Table.{ActiveIn, acting, bothActing}
+use Rattle.bonds.specs.Row.{Row}
+use Rattle.bonds.proofs.Rows.{slot, table-short, row-none, row-more}
+use borrow.Author.Needs.{needs}
+use Rattle.bonds.proofs.active_site.Statement.{statement}
+use Rattle.bonds.proofs.active_site.Tie as tie
+
+abbrev Inv-loop : tie.InvT-loop
+Inv-loop i n d fwd acts holds₀ base e₀ holds e = (e ≤ d) × Row (i * d) e (bothActing d fwd acts i) holds₀ holds
+
+abbrev μ-loop : tie.MeasureT-loop
+μ-loop i n d fwd acts holds₀ base e₀ holds e = d - e
+
+module _ (s : tie.Start Inv-loop μ-loop) where
+  abbrev lent : ActiveIn (s .args .n) (s .args .d) (s .args .fwd .now) (s .args .acts .now) (s .args .holds .now)
+  lent = s .pre .0
+
+  -- the bond's entry is in the table, which is short
+  entry : (e : ℕ) → e < s .args .d → s .args .i * s .args .d + e < s .args .n * s .args .d
+  entry e h = slot (s .args .n) (s .args .d) (s .args .i) e (s .pre .1 .below) h
+
+  short : s .args .n * s .args .d ≤ 16384
+  short = table-short (s .args .n) (s .args .d) (lent .forward .sites) (lent .forward .directions)
+
+  -- what is written: the byte of the other end
+  right : (e : ℕ) → acting (s .args .acts .now) (getD (s .args .fwd .now) (s .args .i * s .args .d + e) 0) ≡ bothActing (s .args .d) (s .args .fwd .now) (s .args .acts .now) (s .args .i) e
+  right e = rw (s .pre .1 .does)
+
+abbrev of-turn : tie.In-loop Inv-loop μ-loop → tie.Start Inv-loop μ-loop
+of-turn c = c .before .before .before .before .before
+
+at : (c : tie.In-loop Inv-loop μ-loop) → of-turn c .args .i * of-turn c .args .d + c .before .loop .e < of-turn c .args .n * of-turn c .args .d
+at c = entry (of-turn c) (c .before .loop .e) (c .loop-test .taken)
+
+mul-base : tie.Need-mul-base Inv-loop μ-loop
+mul-base c = let s = c .before .before .before in omega (arith, short s, mul-le-mul-right (s .args .d) (le-of-lt (s .pre .1 .below)))
+
+loop-holds : tie.Need-loop-holds Inv-loop μ-loop
+loop-holds c = (omega arith, row-none _ _ _)
+
+add-b : tie.Need-add-b Inv-loop μ-loop
+add-b c = omega (arith, at c, short (of-turn c))
+
+mul-wide : tie.Need-mul-wide Inv-loop μ-loop
+mul-wide c = omega (arith, at c, short (of-turn c))
+
+shared-slice-read-wide : tie.Need-shared-slice-read-wide Inv-loop μ-loop
+shared-slice-read-wide c = omega (arith, at (c .before))
+
+wide-requires : tie.Need-wide-requires Inv-loop μ-loop
+wide-requires c κs = search needs
+
+shared-slice-read-holds : tie.Need-shared-slice-read-holds Inv-loop μ-loop
+shared-slice-read-holds c =
+    let t = c .before .before .before in
+    omega (arith, c .before .wide .ensures, lent (of-turn t) .forward .inside _ (t .before .loop .e) (of-turn t .pre .1 .below) (t .loop-test .taken))
+
+cast-holds : tie.Need-cast-holds Inv-loop μ-loop
+cast-holds c = search needs
+
+slice-write-holds : tie.Need-slice-write-holds Inv-loop μ-loop
+slice-write-holds c = let t = c .before .before .before in omega (arith, at t, t .before .loop .inv .1 .long)
+
+add-e : tie.Need-add-e Inv-loop μ-loop
+add-e c = search needs
+
+loop-less : tie.Need-loop-less Inv-loop μ-loop
+loop-less c = search needs
+
+loop-again : tie.Need-loop-again Inv-loop μ-loop
+loop-again c =
+    let t = c .before .before .before in
+    let l = t .before .loop in
+    (omega arith, row-more _ (l .e) _ _ _ _ (l .inv .1) (omega (arith, at t)) (ap bit (ap (acting (of-turn t .args .acts .now)) (c .before .wide .ensures) ∙ right (of-turn t) (l .e))))
+
+same-length : tie.Need-same-length Inv-loop μ-loop
+same-length c = search needs
+
+returns : tie.Need-returns Inv-loop μ-loop
+returns c = let inv = c .before .loop .inv in rw (le-antisymm (inv .0) (c .loop-test .left)) at (inv .1)
+
+pub active-site-spec : {M : Type 1} → statement M
+active-site-spec =
+    tie.close
+    (tie.spec
+    Inv-loop
+    μ-loop
+    mul-base
+    loop-holds
+    add-b
+    mul-wide
+    shared-slice-read-wide
+    wide-requires
+    shared-slice-read-holds
+    cast-holds
+    slice-write-holds
+    add-e
+    loop-less
+    loop-again
+    same-length
+    returns)

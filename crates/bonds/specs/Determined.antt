@@ -1,0 +1,29 @@
+-- How tight the promises are: for one input they allow one table. Assumes nothing.
+use Prim.Native.Nat.{ℕ, zero, suc, _+_, _*_, _/_, _%_, _<_}
+use mathlib.Core.Path.{_≡_, sym, _∙_}
+use mathlib.Core.Bool.{Bool}
+use mathlib.Core.List.{List}
+use native.Mathlib.Nat.{div-add-mod', div-lt-iff-lt-mul, mod-lt, mul-zero}
+use native.Mathlib.Omega.{arith}
+use lib.ListN.{length, getD}
+use lib.Seq.{ext-getD}
+use Rattle.paper.specs.Component.Marks.{Marks}
+use Rattle.bonds.specs.Table.{bothActing}
+
+some-directions : (n d k : ℕ) → k < n * d → 0 < d
+some-directions n zero k h = absurd (omega (arith, mul-zero n))
+some-directions n (suc d) k h = omega arith
+
+pub marks-same : {n d : ℕ} {f : ℕ → ℕ → Bool} {xs ys : List ℕ} → Marks n d f xs → Marks n d f ys → xs ≡ ys
+marks-same {n} {d} {f} {xs} {ys} a b = ext-getD 0 xs ys (a .long ∙ sym (b .long)) (λ k h. same k (omega (arith, a .long)))
+  where
+    same : (k : ℕ) → k < n * d → getD xs k 0 ≡ getD ys k 0
+    same k h =
+        let p : 0 < d = some-directions n d k h in
+        let i : k / d < n = div-lt-iff-lt-mul p .1 h in
+        let e : k % d < d = mod-lt k p in
+        rw div-add-mod' at (a .at (k / d) (k % d) i e ∙ sym (b .at (k / d) (k % d) i e))
+
+module _ (n d : ℕ) (fwd acts : List ℕ) where
+  pub active-bonds-determined : (xs ys : List ℕ) → Marks n d (bothActing d fwd acts) xs → Marks n d (bothActing d fwd acts) ys → xs ≡ ys
+  active-bonds-determined xs ys = marks-same

@@ -1,0 +1,49 @@
+-- What the tables of holding bonds are made of and what they say: bond (i, e) has the entry i * d + e. A column is a site's group as one byte. Assumes nothing.
+use Prim.Native.Nat.{ℕ, _+_, _*_, _≤_, _<_}
+use mathlib.Core.Path.{_≡_}
+use mathlib.Core.Bool.{Bool, _&&_}
+use mathlib.Core.List.{List}
+use lib.Dec.{eqb}
+use lib.ListN.{length, getD}
+use lib.IntN.{ℤ, pos}
+use lib.Ieee.{Float, nan}
+use Rattle.paper.specs.declared.Sampler.{Sampler}
+use Rattle.paper.specs.declared.BondKind.{BondKind}
+use Rattle.paper.specs.Site.Bonds.{jorgHolds, kindOf, blueHolds, greyHolds}
+use Rattle.paper.specs.Component.Marks.{Marks}
+use Rattle.paper.specs.Refusal.Rules.{SmallCouplings}
+use Rattle.columns.specs.Column.{shown}
+
+-- ---- what is lent
+
+-- each bond of n sites and d directions leads to a site
+pub record Forward (n d : ℕ) (fwd : List ℕ) : Type 0 where
+  pub sites : n ≤ 4096
+  pub directions : d ≤ 4
+  pub long : length fwd ≡ n * d
+  pub inside : (i e : ℕ) → i < n → e < d → getD fwd (i * d + e) 0 < n
+
+-- each bond has a coupling and a cut
+pub record Coupled (n d : ℕ) (couplings : List ℤ) (cuts : List Float) : Type 0 where
+  pub couplings-long : length couplings ≡ n * d
+  pub cuts-long : length cuts ≡ n * d
+  pub small : SmallCouplings couplings
+
+pub record ActiveIn (n d : ℕ) (fwd acts holds : List ℕ) : Type 0 where
+  pub forward : Forward n d fwd
+  pub acts-long : length acts ≡ n
+  pub holds-long : length holds ≡ n * d
+
+-- the site i acts: its byte is 1
+pub record Acts (n : ℕ) (acts : List ℕ) (i : ℕ) : Type 0 where
+  pub below : i < n
+  pub does : getD acts i 0 ≡ 1
+
+-- ---- what is judged
+
+-- a byte 1 acts
+abbrev pub acting : List ℕ → ℕ → Bool
+acting acts i = eqb (getD acts i 0) 1
+
+abbrev pub bothActing : ℕ → List ℕ → List ℕ → ℕ → ℕ → Bool
+bothActing d fwd acts i e = acting acts i && acting acts (getD fwd (i * d + e) 0)
