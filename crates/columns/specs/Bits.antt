@@ -35,6 +35,10 @@ bit-value x k = at (x / 2 ^ k % 2) (mod-lt (x / 2 ^ k) (omega arith))
 pub shown-value : (x k : ℕ) → bit (isUp (shown x k)) ≡ x / 2 ^ k % 2
 shown-value x k = rw sign-up (bit-value x k)
 
+pub bit-times : (b : Bool) (x : ℕ) → bit b * x ≤ x
+bit-times true x = omega arith
+bit-times false x = omega arith
+
 -- a column of at most eight places is a byte
 pub code-byte : (m : ℕ) (f : ℕ → Bool) → m ≤ 8 → code m f < 256
 code-byte m f h = lt-of-lt-of-le (code-lt m f) (pow-mono h)

@@ -1,4 +1,5 @@
 pub mod Column
 pub mod Bits
+pub mod Filled
 pub mod Rows
 pub mod Determined

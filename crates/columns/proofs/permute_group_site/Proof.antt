@@ -1,9 +1,9 @@
 -- `permute_group_site` meets its contract. The invariant: `out` is the column of the first k places. Assumes nothing.
 use mathlib.Core.Path.{_≡_, sym}
 use denote.Ref.{now}
-use Prim.Native.Nat.{ℕ, _+_, _-_, _*_, _/_, _%_, _^_, _≤_, _<_}
+use Prim.Native.Nat.{_+_, _-_, _*_, _/_, _%_, _^_, _≤_, _<_}
 use native.Mathlib.Omega.{arith}
-use lib.ListN.{length, getD}
+use lib.ListN.{getD}
 use Rattle.columns.specs.Column.{shown, columnOf}
 use Rattle.columns.specs.Bits.{code-none, code-byte, code-step, shown-value}
 use borrow.Author.Needs.{needs}

@@ -1,0 +1,59 @@
+-- Rows read into columns: with no row all are 0, and one row more adds a bit to each. Assumes nothing.
+use Prim.Native.Nat.{ℕ, _+_, _-_, _*_, _%_, _^_, _≤_, _<_}
+use mathlib.Core.Path.{_≡_, refl, sym, _∙_}
+use mathlib.Core.Logic.{inl, inr}
+use mathlib.Core.Bool.{Bool}
+use mathlib.Core.List.{List}
+use native.Mathlib.Omega.{arith}
+use native.Mathlib.Nat.{pow-suc, one-mul}
+use native.Mathlib.Numerals.{add-one}
+use lib.ListN.{length, getD, take, drop}
+use lib.Seq.{getD-take, getD-drop}
+use lib.IntN.{ℤ, pos, _*ℤ_}
+use lib.Pow.{pow-mono, shl-exact}
+use Rattle.paper.specs.Component.Sizes.{bit}
+use Rattle.paper.specs.Panel.Input.{Pattern}
+use Rattle.paper.specs.Refusal.Rules.{Spin}
+use Rattle.paper.specs.Site.Acting.{eqZ}
+use Rattle.columns.specs.Column.{isUp, columnOf, column-lt, Columns}
+use Rattle.columns.specs.Bits.{code-none, code-more}
+use Rattle.columns.specs.Filled.{Filled}
+
+-- a sign times a spin is +1 where the two are equal
+up-times : (s x : ℤ) → Spin s → Spin x → eqZ x s ≡ isUp (s *ℤ x)
+up-times s x (inl p) (inl q) = rw (p, q)
+up-times s x (inl p) (inr q) = rw (p, q)
+up-times s x (inr p) (inl q) = rw (p, q)
+up-times s x (inr p) (inr q) = rw (p, q)
+
+-- the weight of the place k
+pub weight : (k : ℕ) → k < 8 → 1 * 2 ^ k % 256 ≡ 2 ^ k
+weight k h = shl-exact {a = 1} 1 k 8 (omega arith) (omega arith) ∙ one-mul (2 ^ k)
+
+-- a bit at the place k fits above the places below it
+pub room : {n k : ℕ} {f : ℕ → Pattern} {xs : List ℕ} (w : ℕ) → Columns n k f xs → k < 8 → w ≡ 2 ^ k → (i : ℕ) → i < length xs → getD xs i 0 + w < 256
+room {n} {k} {f} {xs} w was h e i l =
+    let p : 2 ^ (k + 1) ≤ 256 = pow-mono {i = k + 1} {j = 8} (omega arith) in
+    omega (arith, was .at i (omega (arith, was .long)), column-lt k (f i), rw add-one at p, pow-suc 2 k)
+
+pub none-packed : {n : ℕ} {f : ℕ → Pattern} {xs ys : List ℕ} → length xs ≡ n → Filled 0 (λ i. 0) (length xs) xs ys → Columns n 0 f ys
+none-packed {n} {f} long cleared = record {
+  long = cleared .long ∙ long;
+  at = λ i h. cleared .done i (omega arith) ∙ sym (code-none (λ k. isUp (f i k)));
+}
+
+pub row-packed :
+    {n k w : ℕ} {f : ℕ → Pattern} {t : ℕ → Bool} {xs ys : List ℕ} → Columns n k f xs → w ≡ 2 ^ k
+    → Filled 0 (λ i. getD xs i 0 + bit (t i) * w) (length xs) xs ys → ((i : ℕ) → i < n → t i ≡ isUp (f i k)) → Columns n (k + 1) f ys
+row-packed {n} {k} {w} {f} {t} {xs} {ys} was e added same = record { long = added .long ∙ was .long; at = at }
+  where
+    at : (i : ℕ) → i < n → getD ys i 0 ≡ columnOf (k + 1) (f i)
+    at i h = added .done i (omega (arith, was .long)) ∙ rw (was .at i h, same i h, e, code-more)
+
+-- the row from a on has its sign s where the product is +1
+pub row-test :
+    (xs : List ℤ) (a n i : ℕ) (s z : ℤ) → i < n → z ≡ s → Spin s → Spin (getD xs (a + i) (pos 0))
+    → eqZ (getD (take (a + n - a) (drop a xs)) i (pos 0)) z ≡ isUp (s *ℤ getD xs (a + i) (pos 0))
+row-test xs a n i s z h e p q =
+    let l : i < a + n - a = omega arith in
+    rw (e, getD-take (a + n - a) (drop a xs) i (pos 0) l, getD-drop) (up-times s (getD xs (a + i) (pos 0)) p q)

@@ -1,0 +1,92 @@
+-- `pack_row` meets its contract. The invariant: the first i columns have their bit. Assumes nothing.
+use mathlib.Core.Path.{_≡_, _∙_, ap}
+use denote.Ref.{now}
+use Prim.Native.Nat.{_+_, _-_, _*_, _≤_}
+use native.Mathlib.Omega.{arith}
+use lib.ListN.{length, getD}
+use lib.IntN.{ℤ, pos}
+use mir.Syntax.{w8}
+use mir.Val.{toZ, ofZ}
+use mir.ValLaws.{toZ-ofZ}
+use Rattle.paper.specs.Component.Sizes.{bit}
+use Rattle.paper.specs.Site.Acting.{eqZ}
+use Rattle.columns.specs.Bits.{bit-times}
+use Rattle.columns.specs.Filled.{Filled, filled-none, filled-more}
+use borrow.Author.Needs.{needs}
+use Rattle.columns.proofs.pack_row.Statement.{statement}
+use Rattle.columns.proofs.pack_row.Tie as tie
+
+abbrev Inv-loop : tie.InvT-loop
+Inv-loop row plus weight cols₀ n i₀ cols i = (i ≤ n) × Filled 0 (λ j. getD cols₀ j 0 + bit (eqZ (getD row j (pos 0)) (toZ w8 plus)) * weight) i cols₀ cols
+
+abbrev μ-loop : tie.MeasureT-loop
+μ-loop row plus weight cols₀ n i₀ cols i = n - i
+
+-- a turn adds the weight of its place
+added : (c : tie.After-weigh Inv-loop μ-loop) →
+    let a = c .before .before .before .before .before .before .args in
+    c .weigh .result ≡ bit (eqZ (getD (now (a .row)) (c .before .before .before .before .loop .i) (pos 0)) (toZ w8 (ofZ w8 (a .plus)))) * a .weight
+added c =
+    let a = c .before .before .before .before .before .before .args in
+    let z = getD (now (a .row)) (c .before .before .before .before .loop .i) (pos 0) in
+    c .weigh .ensures ∙ ap (λ (x : ℤ). bit (eqZ x (toZ w8 (ofZ w8 (a .plus)))) * a .weight) (toZ-ofZ w8 z (record { sfits = c .before .weigh-arg .given }))
+
+was : (c : tie.In-loop Inv-loop μ-loop) → getD (c .before .loop .cols) (c .before .loop .i) 0 ≡ getD (now (c .before .before .before .args .cols)) (c .before .loop .i) 0
+was c = c .before .loop .inv .1 .rest (c .before .loop .i) (omega arith)
+
+loop-holds : tie.Need-loop-holds Inv-loop μ-loop
+loop-holds c = (search needs, filled-none 0 _ _)
+
+slice-read-cols : tie.Need-slice-read-cols Inv-loop μ-loop
+slice-read-cols c = omega (arith, c .before .before .loop .inv .1 .long)
+
+shared-slice-copy-out-weigh : tie.Need-shared-slice-copy-out-weigh Inv-loop μ-loop
+shared-slice-copy-out-weigh c = search needs
+
+weigh-requires : tie.Need-weigh-requires Inv-loop μ-loop
+weigh-requires c κs = search needs
+
+add-cols : tie.Need-add-cols Inv-loop μ-loop
+add-cols c =
+    let l = c .before .before .before in
+    let s = l .before .before .before in
+    omega (arith, was l, added c, bit-times (eqZ (getD (now (s .args .row)) (l .before .loop .i) (pos 0)) (toZ w8 (ofZ w8 (s .args .plus)))) (s .args .weight), s .pre .fits (l .before .loop .i) (l .loop-test .taken))
+
+slice-write-cols : tie.Need-slice-write-cols Inv-loop μ-loop
+slice-write-cols c = omega (arith, c .before .before .before .before .loop .inv .1 .long)
+
+add-i : tie.Need-add-i Inv-loop μ-loop
+add-i c = search needs
+
+loop-less : tie.Need-loop-less Inv-loop μ-loop
+loop-less c = search needs
+
+loop-again : tie.Need-loop-again Inv-loop μ-loop
+loop-again c = let l = c .before .before .before in (omega (arith, l .loop-test .taken), filled-more (l .before .loop .inv .1) (l .loop-test .taken) (rw (was l, added c)))
+
+same-length : tie.Need-same-length Inv-loop μ-loop
+same-length c = search needs
+
+returns : tie.Need-returns Inv-loop μ-loop
+returns c =
+    let s = c .before .before .before in
+    let e : c .before .loop .i ≡ length (now (s .args .cols)) = omega arith in
+    rw (e, toZ-ofZ w8 (s .args .plus) (s .fits .plus)) at (c .before .loop .inv .1)
+
+pub pack-row-spec : {M : Type 1} → statement M
+pack-row-spec =
+    tie.close
+    (tie.spec
+    Inv-loop
+    μ-loop
+    loop-holds
+    slice-read-cols
+    shared-slice-copy-out-weigh
+    weigh-requires
+    add-cols
+    slice-write-cols
+    add-i
+    loop-less
+    loop-again
+    same-length
+    returns)
