@@ -1,0 +1,44 @@
+-- `bytes_at_most` meets its contract: after i turns the flag tells of the bytes below i. Assumes nothing.
+use Prim.Native.Nat.{ℕ, _≤_, _-_}
+use borrow.Author.Needs.{needs}
+use lib.ListN.{length, getD}
+use Rattle.lattice.specs.Telling.{Flagged, flag-start, flag-more, flag-end, test-le}
+use Rattle.lattice.proofs.bytes_at_most.Statement.{statement}
+use Rattle.lattice.proofs.bytes_at_most.Tie as tie
+
+abbrev Inv-loop : tie.InvT-loop
+Inv-loop xs top ok₀ i₀ ok i = Flagged (length xs) (λ k. getD xs k 0 ≤ top) i ok
+
+abbrev μ-loop : tie.MeasureT-loop
+μ-loop xs top ok₀ i₀ ok i = length xs - i
+
+loop-holds : tie.Need-loop-holds Inv-loop μ-loop
+loop-holds c = flag-start _ _
+
+shared-slice-read-ok : tie.Need-shared-slice-read-ok Inv-loop μ-loop
+shared-slice-read-ok c = search needs
+
+add-i : tie.Need-add-i Inv-loop μ-loop
+add-i c = search needs
+
+loop-less : tie.Need-loop-less Inv-loop μ-loop
+loop-less c = search needs
+
+loop-again : tie.Need-loop-again Inv-loop μ-loop
+loop-again c = flag-more (c .before .before .loop .inv) (search needs) (test-le _ _)
+
+returns : tie.Need-returns Inv-loop μ-loop
+returns c = flag-end (c .before .loop .inv) (c .loop-test .left)
+
+pub bytes-at-most-spec : {M : Type 1} → statement M
+bytes-at-most-spec =
+    tie.close
+    (tie.spec
+    Inv-loop
+    μ-loop
+    loop-holds
+    shared-slice-read-ok
+    add-i
+    loop-less
+    loop-again
+    returns)

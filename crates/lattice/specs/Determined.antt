@@ -1,0 +1,40 @@
+-- Each test's promise allows one answer. Assumes nothing.
+use Prim.Native.Nat.{ℕ, _≤_, _<_}
+use mathlib.Core.Path.{_≡_}
+use mathlib.Core.Bool.{Bool}
+use mathlib.Core.List.{List}
+use lib.IntN.{ℤ}
+use lib.ListN.{length, getD}
+use lib.Ieee.{Float, nan}
+use Rattle.paper.specs.declared.Mode.{Mode}
+use Rattle.paper.specs.Component.Marks.{Tells}
+use Rattle.paper.specs.Refusal.Rules.{Sizes, Ranged, Spins, SmallCouplings, Warm, Cuts}
+use Rattle.lattice.specs.Telling.{Each, tells-determined}
+
+-- any two answers r and r′ that tell of P are equal
+abbrev pub OneAnswer : Type 0 → Type 0
+OneAnswer P = (r r′ : Bool) → Tells r P → Tells r′ P → r ≡ r′
+
+pub sizes-ok-determined : (n d s : ℕ) → OneAnswer (Sizes n d s)
+sizes-ok-determined n d s = tells-determined _
+
+pub ranged-determined : (n d s : ℕ) (mode : Mode) (m : ℕ) → OneAnswer (Ranged n d s mode m)
+ranged-determined n d s mode m = tells-determined _
+
+pub spins-ok-determined : (spins : List ℤ) → OneAnswer (Spins spins)
+spins-ok-determined spins = tells-determined _
+
+pub couplings-ok-determined : (js : List ℤ) → OneAnswer (SmallCouplings js)
+couplings-ok-determined js = tells-determined _
+
+pub temperature-ok-determined : (t : Float) → OneAnswer (Warm t)
+temperature-ok-determined t = tells-determined _
+
+pub temperatures-ok-determined : (ts : List Float) → OneAnswer ((j : ℕ) → j < length ts → Warm (getD ts j nan))
+temperatures-ok-determined ts = tells-determined _
+
+pub cuts-ok-determined : (cuts : List Float) → OneAnswer (Cuts cuts)
+cuts-ok-determined cuts = tells-determined _
+
+pub bytes-at-most-determined : (xs : List ℕ) (top : ℕ) → OneAnswer ((k : ℕ) → k < length xs → getD xs k 0 ≤ top)
+bytes-at-most-determined xs top = tells-determined _

@@ -1,0 +1,121 @@
+// The tests on inputs, each true exactly when its rule in crates/paper/specs/Refusal/Rules.antt is kept.
+ghost use mathlib.Core.Path.{_≡_};
+ghost use Prim.Native.Nat.{ℕ, _+_, _*_, _≤_, _<_};
+ghost use lib.ListN.{length, getD};
+ghost use lib.IntN.{natAbs};
+ghost use lib.Ieee.{nan};
+ghost use Rattle.paper.specs.Component.Marks.{Tells};
+ghost use Rattle.paper.specs.Panel.Takes.{isCmr};
+ghost use Rattle.paper.specs.Refusal.Rules.{Sizes, Ranged, Spin, Spins, SmallCouplings, Warm, isCut, Cuts};
+use paper::Mode;
+
+pub fn sizes_ok(n: usize, d: usize, s: usize) -> bool
+    ensures { λ r. ⌜ Tells r (Sizes n d s) ⌝ }
+{
+    (1 <= n) & (n <= 4096) & (1 <= d) & (d <= 4) & (1 <= s) & (s <= 64)
+}
+
+fn is_cmr(mode: Mode) -> bool
+    ensures { λ r. ⌜ r ≡ isCmr mode ⌝ }
+{
+    match mode {
+        Mode::Houd => false,
+        Mode::Pair => false,
+        Mode::Perm => false,
+        Mode::Gperm => false,
+        Mode::Jorg => false,
+        Mode::Cmr => true,
+    }
+}
+
+pub fn ranged(n: usize, d: usize, s: usize, mode: Mode, len: usize) -> bool
+    ensures { λ r. ⌜ Tells r (Ranged n d s mode len) ⌝ }
+{
+    sizes_ok(n, d, s) & (2 <= len) & (len <= 8) & (!is_cmr(mode) | (len == 2))
+}
+
+fn spin_ok(x: i8) -> bool
+    ensures { λ r. ⌜ Tells r (Spin x) ⌝ }
+{
+    (x == 1) | (x == -1)
+}
+
+// One pass without an exit, which the compiler makes vector code of.
+pub fn spins_ok(spins: &[i8]) -> bool
+    ensures { λ r. ⌜ Tells r (Spins (now (spins .entry))) ⌝ }
+{
+    let mut ok = true;
+    let mut i = 0;
+    while i < spins.len() {
+        ok = ok & spin_ok(spins[i]);
+        i += 1;
+    }
+    ok
+}
+
+fn coupling_ok(j: i32) -> bool
+    ensures { λ r. ⌜ Tells r (natAbs j ≤ 1000000) ⌝ }
+{
+    (j <= 1000000) & (-1000000 <= j)
+}
+
+pub fn couplings_ok(js: &[i32]) -> bool
+    ensures { λ r. ⌜ Tells r (SmallCouplings (now (js .entry))) ⌝ }
+{
+    let mut ok = true;
+    let mut i = 0;
+    while i < js.len() {
+        ok = ok & coupling_ok(js[i]);
+        i += 1;
+    }
+    ok
+}
+
+pub fn temperature_ok(t: f32) -> bool
+    ensures { λ r. ⌜ Tells r (Warm t) ⌝ }
+{
+    (t >= 0.0009765625) & (t <= 1048576.0)
+}
+
+pub fn temperatures_ok(ts: &[f32]) -> bool
+    ensures { λ r. ⌜ Tells r ((j : ℕ) → j < length (now (ts .entry)) → Warm (getD (now (ts .entry)) j nan)) ⌝ }
+{
+    let mut ok = true;
+    let mut i = 0;
+    while i < ts.len() {
+        ok = ok & temperature_ok(ts[i]);
+        i += 1;
+    }
+    ok
+}
+
+// Below infinity: no number is, nor is infinity itself.
+fn cut_ok(x: f32) -> bool
+    ensures { λ r. ⌜ r ≡ isCut x ⌝ }
+{
+    (x >= 0.0) & (x < 1.0 / 0.0)
+}
+
+pub fn cuts_ok(cuts: &[f32]) -> bool
+    ensures { λ r. ⌜ Tells r (Cuts (now (cuts .entry))) ⌝ }
+{
+    let mut ok = true;
+    let mut i = 0;
+    while i < cuts.len() {
+        ok = ok & cut_ok(cuts[i]);
+        i += 1;
+    }
+    ok
+}
+
+pub fn bytes_at_most(xs: &[u8], top: u8) -> bool
+    ensures { λ r. ⌜ Tells r ((k : ℕ) → k < length (now (xs .entry)) → getD (now (xs .entry)) k 0 ≤ top) ⌝ }
+{
+    let mut ok = true;
+    let mut i = 0;
+    while i < xs.len() {
+        ok = ok & (xs[i] <= top);
+        i += 1;
+    }
+    ok
+}
