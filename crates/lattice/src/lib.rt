@@ -6,7 +6,9 @@ ghost use lib.IntN.{natAbs};
 ghost use lib.Ieee.{nan};
 ghost use Rattle.paper.specs.Component.Marks.{Tells};
 ghost use Rattle.paper.specs.Panel.Takes.{isCmr};
-ghost use Rattle.paper.specs.Refusal.Rules.{Sizes, Ranged, Spin, Spins, SmallCouplings, Warm, isCut, Cuts};
+ghost use Rattle.paper.specs.Refusal.Rules.{Sizes, Ranged, Spin, Spins, SmallCouplings, Warm, isCut, Cuts, Back, Inverse};
+ghost use Rattle.lattice.specs.Telling.{Each};
+ghost use Rattle.lattice.specs.Tables.{Tabled, TabledSite, TabledBond};
 use paper::Mode;
 
 pub fn sizes_ok(n: usize, d: usize, s: usize) -> bool
@@ -48,6 +50,51 @@ pub fn spins_ok(spins: &[i8]) -> bool
     let mut i = 0;
     while i < spins.len() {
         ok = ok & spin_ok(spins[i]);
+        i += 1;
+    }
+    ok
+}
+
+fn wide(x: u32) -> usize
+    ensures { λ r. ⌜ r ≡ x ⌝ }
+{
+    x as usize
+}
+
+fn back_ok(n: usize, d: usize, a: &[u32], b: &[u32], i: usize, e: usize) -> bool
+    requires { ⌜ TabledBond n d (now a) (now b) i e ⌝ }
+    ensures { λ r. ⌜ Tells r (Back n d (now (a .entry)) (now (b .entry)) i e) ⌝ }
+{
+    let j = wide(a[i * d + e]);
+    if j < n {
+        wide(b[j * d + e]) == i
+    } else {
+        false
+    }
+}
+
+fn site_ok(n: usize, d: usize, a: &[u32], b: &[u32], i: usize) -> bool
+    requires { ⌜ TabledSite n d (now a) (now b) i ⌝ }
+    ensures { λ r. ⌜ Tells r (Each d (λ e. Back n d (now (a .entry)) (now (b .entry)) i e)) ⌝ }
+{
+    let mut ok = true;
+    let mut e = 0;
+    while e < d {
+        ok = ok & back_ok(n, d, a, b, i, e);
+        e += 1;
+    }
+    ok
+}
+
+// Where backward of forward is i for every site i, forward of backward is too: see inverse-of in specs/Tables.antt.
+pub fn tables_ok(n: usize, d: usize, fwd: &[u32], bwd: &[u32]) -> bool
+    requires { ⌜ Tabled n d (now fwd) (now bwd) ⌝ }
+    ensures { λ r. ⌜ Tells r (Inverse n d (now (fwd .entry)) (now (bwd .entry))) ⌝ }
+{
+    let mut ok = true;
+    let mut i = 0;
+    while i < n {
+        ok = ok & site_ok(n, d, fwd, bwd, i);
         i += 1;
     }
     ok
