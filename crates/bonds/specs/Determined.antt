@@ -7,7 +7,13 @@ use native.Mathlib.Nat.{div-add-mod', div-lt-iff-lt-mul, mod-lt, mul-zero}
 use native.Mathlib.Omega.{arith}
 use lib.ListN.{length, getD}
 use lib.Seq.{ext-getD}
+use lib.IntN.{ℤ}
+use lib.Ieee.{Float}
+use Rattle.paper.specs.declared.Sampler.{Sampler}
+use Rattle.paper.specs.declared.BondKind.{BondKind}
+use Rattle.paper.specs.Site.Bonds.{kindOf, blueHolds, greyHolds}
 use Rattle.paper.specs.Component.Marks.{Marks}
+use Rattle.columns.specs.Column.{shown}
 use Rattle.bonds.specs.Table.{bothActing}
 
 some-directions : (n d k : ℕ) → k < n * d → 0 < d
@@ -23,6 +29,15 @@ marks-same {n} {d} {f} {xs} {ys} a b = ext-getD 0 xs ys (a .long ∙ sym (b .lon
         let i : k / d < n = div-lt-iff-lt-mul p .1 h in
         let e : k % d < d = mod-lt k p in
         rw div-add-mod' at (a .at (k / d) (k % d) i e ∙ sym (b .at (k / d) (k % d) i e))
+
+pub classify-determined : (a b : ℕ) (coupling : ℤ) (r r′ : BondKind) → r ≡ kindOf coupling (shown a) (shown b) → r′ ≡ kindOf coupling (shown a) (shown b) → r ≡ r′
+classify-determined a b coupling r r′ p q = p ∙ sym q
+
+pub draw-blue-determined : (kind : BondKind) (s : Sampler) (cut : Float) (r r′ : Bool) → r ≡ blueHolds kind s cut → r′ ≡ blueHolds kind s cut → r ≡ r′
+draw-blue-determined kind s cut r r′ p q = p ∙ sym q
+
+pub draw-grey-determined : (kind : BondKind) (s : Sampler) (cut : Float) (r r′ : Bool) → r ≡ greyHolds kind s cut → r′ ≡ greyHolds kind s cut → r ≡ r′
+draw-grey-determined kind s cut r r′ p q = p ∙ sym q
 
 module _ (n d : ℕ) (fwd acts : List ℕ) where
   pub active-bonds-determined : (xs ys : List ℕ) → Marks n d (bothActing d fwd acts) xs → Marks n d (bothActing d fwd acts) ys → xs ≡ ys

@@ -1,10 +1,15 @@
 // Which bonds hold, as a byte a bond: entry i*d+e is 1 where the bond (i, e) holds, and else 0.
 ghost use mathlib.Core.Path.{_≡_};
-ghost use Prim.Native.Nat.{_*_, _<_};
+ghost use Prim.Native.Nat.{_*_, _≤_, _<_};
 ghost use lib.ListN.{length, getD};
+ghost use lib.IntN.{natAbs, _*ℤ_};
+ghost use Rattle.paper.specs.Site.Bonds.{whole, drawn, kindOf, blueHolds, greyHolds};
 ghost use Rattle.paper.specs.Component.Marks.{Marks};
+ghost use Rattle.columns.specs.Column.{sign, shown};
 ghost use Rattle.bonds.specs.Table.{ActiveIn, Acts, bothActing};
 ghost use Rattle.bonds.specs.Row.{Row, Blank};
+use paper::BondKind;
+use paper::Sampler;
 
 fn wide(x: u32) -> usize
     ensures { λ r. ⌜ r ≡ x ⌝ }
@@ -44,5 +49,79 @@ pub fn active_bonds(n: usize, d: usize, fwd: &[u32], acts: &[u8], holds: &mut [u
         if acts[i] == 1 {
             active_site(i, n, d, fwd, acts, holds);
         }
+    }
+}
+
+// The size of a whole number, which an f32 holds exactly.
+fn size(j: i32) -> f32
+    requires { ⌜ natAbs j ≤ 4000000 ⌝ }
+    ensures { λ r. ⌜ r ≡ whole (natAbs j) ⌝ }
+{
+    if j < 0 { (0 - j) as f32 } else { j as f32 }
+}
+
+// Are a site's two spins equal? Their product q is then +1, and else -1.
+fn agree(a: u8) -> bool
+    ensures { λ r. ⌜ sign r ≡ shown a 0 *ℤ shown a 1 ⌝ }
+{
+    a % 2 == a / 2 % 2
+}
+
+// The coupling times the first replica's spins at the two ends.
+fn aligned(a: u8, b: u8, coupling: i32) -> i32
+    requires { ⌜ natAbs coupling ≤ 1000000 ⌝ }
+    ensures { λ r. ⌜ r ≡ coupling *ℤ shown a 0 *ℤ shown b 0 ⌝ }
+{
+    if a % 2 == b % 2 {
+        coupling
+    } else {
+        0 - coupling
+    }
+}
+
+// The kind of a bond in CMR, from the columns of its two ends.
+pub fn classify(a: u8, b: u8, coupling: i32) -> BondKind
+    requires { ⌜ natAbs coupling ≤ 1000000 ⌝ }
+    ensures { λ r. ⌜ r ≡ kindOf coupling (shown a) (shown b) ⌝ }
+{
+    if agree(a) == agree(b) {
+        if aligned(a, b, coupling) > 0 {
+            BondKind::Blue(size(coupling))
+        } else {
+            BondKind::None
+        }
+    } else {
+        if coupling == 0 {
+            BondKind::None
+        } else {
+            BondKind::Red(size(coupling))
+        }
+    }
+}
+
+// Equal is no bond.
+fn is_drawn(scale: f32, strength: f32, cut: f32) -> bool
+    ensures { λ r. ⌜ r ≡ drawn scale strength cut ⌝ }
+{
+    scale * strength > cut
+}
+
+pub fn draw_blue(kind: BondKind, sampler: Sampler, cut: f32) -> bool
+    ensures { λ r. ⌜ r ≡ blueHolds kind sampler cut ⌝ }
+{
+    match kind {
+        BondKind::None => false,
+        BondKind::Blue(w) => is_drawn(sampler.four, w, cut),
+        BondKind::Red(_) => false,
+    }
+}
+
+pub fn draw_grey(kind: BondKind, sampler: Sampler, cut: f32) -> bool
+    ensures { λ r. ⌜ r ≡ greyHolds kind sampler cut ⌝ }
+{
+    match kind {
+        BondKind::None => false,
+        BondKind::Blue(w) => is_drawn(sampler.four, w, cut),
+        BondKind::Red(w) => is_drawn(sampler.two, w, cut),
     }
 }

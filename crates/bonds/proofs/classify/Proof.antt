@@ -1,0 +1,96 @@
+-- `bonds::classify` meets its contract. Assumes nothing.
+use mathlib.Core.Path.{_≡_, ap, _∙_}
+use mathlib.Core.Bool.{Bool, true, false, Bool·beq}
+use Prim.Native.Nat.{_≤_}
+use native.Mathlib.Omega.{arith}
+use borrow.Author.Needs.{needs}
+use lib.IntN.{ℤ, pos, natAbs, _*ℤ_}
+use lib.Signed.{ltZ}
+use mir.Syntax.{w32}
+use mir.Val.{toZ, ofZ}
+use mir.Facts.{sfits-lit}
+use Rattle.paper.specs.declared.BondKind.the-variants.{Blue, Red}
+use Rattle.paper.specs.Site.Acting.{eqZ}
+use Rattle.paper.specs.Site.Bonds.{whole}
+use Rattle.columns.specs.Column.{shown}
+use Rattle.bonds.proofs.Bits.{signs-by}
+use Rattle.bonds.proofs.Held.{Holds, given, bounded, reads, held-lt, held-same, held-differ}
+use Rattle.bonds.proofs.classify.Statement.{statement}
+use Rattle.bonds.proofs.classify.Tie as tie
+
+module _ (s : tie.Start) where
+  coupling : Holds w32 (ofZ w32 (s .args .coupling)) (s .args .coupling)
+  coupling = given (s .fits .coupling)
+
+  size-is : whole (natAbs (toZ w32 (ofZ w32 (s .args .coupling)))) ≡ whole (natAbs (s .args .coupling))
+  size-is = ap (λ (z : ℤ). whole (natAbs z)) (reads coupling)
+
+  small : natAbs (toZ w32 (ofZ w32 (s .args .coupling))) ≤ 4000000
+  small = rw (reads coupling) (omega (arith, s .pre))
+
+  zero : Holds w32 0 (pos 0)
+  zero = given (sfits-lit tt)
+
+-- the test of the overlaps
+overlaps : (c : tie.After-agree2) (t : Bool) → Bool·beq (c .before .agree .result) (c .agree2 .result) ≡ t → (let s = c .before .before .args in eqZ (shown (s .a) 0 *ℤ shown (s .a) 1) (shown (s .b) 0 *ℤ shown (s .b) 1) ≡ t)
+overlaps c t e = signs-by (c .before .agree .result) (c .agree2 .result) t (c .before .agree .ensures) (c .agree2 .ensures) e
+
+-- the test of the first replica's spins
+above : (c : tie.After-aligned) (t : Bool) → ltZ (toZ w32 0) (toZ w32 (ofZ w32 (c .aligned .result))) ≡ t → (let s = c .before .before .before .before .args in ltZ (pos 0) (s .coupling *ℤ shown (s .a) 0 *ℤ shown (s .b) 0) ≡ t)
+above c t e =
+    let s = c .before .before .before .before in
+    let k : Holds w32 (ofZ w32 (c .aligned .result)) (c .aligned .result) = bounded w32 (c .aligned .result) (c .aligned .ok) in
+    rw (← (c .aligned .ensures ∙ ap (λ (z : ℤ). z *ℤ shown (s .args .a) 0 *ℤ shown (s .args .b) 0) (reads (coupling s)))) (held-lt (zero s) k e)
+
+agree-requires : tie.Need-agree-requires
+agree-requires c κs = search needs
+
+agree-requires-2 : tie.Need-agree-requires-2
+agree-requires-2 c κs = search needs
+
+aligned-requires : tie.Need-aligned-requires
+aligned-requires c κs = let s = c .before .before .before in rw (reads (coupling s)) (s .pre)
+
+size-requires : tie.Need-size-requires
+size-requires c κs = small (c .before .before .before .before .before)
+
+size-requires-2 : tie.Need-size-requires-2
+size-requires-2 c κs = small (c .before .before .before .before)
+
+returns : tie.Need-returns
+returns c =
+    let a = c .before .before in
+    rw (overlaps (a .before .before) true (a .before .if1 .taken), above a true (c .before .if2 .taken))
+    (ap Blue (c .size .ensures ∙ size-is (a .before .before .before .before)))
+
+returns-2 : tie.Need-returns-2
+returns-2 c =
+    let a = c .before in
+    rw (overlaps (a .before .before) true (a .before .if1 .taken), above a false (c .if2 .left))
+
+returns-3 : tie.Need-returns-3
+returns-3 c =
+    let o = c .before .before in
+    let s = o .before .before in
+    rw (overlaps o false (c .before .if1 .left), held-same (coupling s) (zero s) (c .if3 .taken))
+
+returns-4 : tie.Need-returns-4
+returns-4 c =
+    let o = c .before .before .before in
+    let s = o .before .before in
+    rw (overlaps o false (c .before .before .if1 .left), held-differ (coupling s) (zero s) (c .before .if3 .left))
+    (ap Red (c .size2 .ensures ∙ size-is s))
+
+pub classify-spec : {M : Type 1} → statement M
+classify-spec =
+    tie.close
+    (tie.spec
+    agree-requires
+    agree-requires-2
+    aligned-requires
+    size-requires
+    size-requires-2
+    returns
+    returns-2
+    returns-3
+    returns-4)
