@@ -1,3 +1,4 @@
 pub mod Telling
 pub mod Tables
+pub mod Groups
 pub mod Determined

@@ -5,10 +5,13 @@ ghost use lib.ListN.{length, getD};
 ghost use lib.IntN.{natAbs};
 ghost use lib.Ieee.{nan};
 ghost use Rattle.paper.specs.Component.Marks.{Tells};
+ghost use Rattle.paper.specs.Panel.Input.{member};
 ghost use Rattle.paper.specs.Panel.Takes.{isCmr};
-ghost use Rattle.paper.specs.Refusal.Rules.{Sizes, Ranged, Spin, Spins, SmallCouplings, Warm, isCut, Cuts, Back, Inverse};
+ghost use Rattle.paper.specs.Refusal.Rules.{Sizes, Ranged, Spin, Spins, SmallCouplings, Warm, isCut, Cuts, Back, Inverse, Grouped};
 ghost use Rattle.lattice.specs.Telling.{Each};
+ghost use Rattle.lattice.specs.Groups.{Fresh, Alone};
 ghost use Rattle.lattice.specs.Tables.{Tabled, TabledSite, TabledBond};
+use paper::Group;
 use paper::Mode;
 
 pub fn sizes_ok(n: usize, d: usize, s: usize) -> bool
@@ -96,6 +99,43 @@ pub fn tables_ok(n: usize, d: usize, fwd: &[u32], bwd: &[u32]) -> bool
     while i < n {
         ok = ok & site_ok(n, d, fwd, bwd, i);
         i += 1;
+    }
+    ok
+}
+
+fn fresh(group: Group, k: usize) -> bool
+    requires { ⌜ k < 8 ⌝ }
+    ensures { λ r. ⌜ Tells r (Fresh (member group) k) ⌝ }
+{
+    let systems = group.systems;
+    let x = systems[k];
+    let mut ok = true;
+    let mut j = 0;
+    while j < k {
+        ok = ok & (systems[j] != x);
+        j += 1;
+    }
+    ok
+}
+
+fn alone(s: usize, group: Group, k: usize) -> bool
+    requires { ⌜ k < 8 ⌝ }
+    ensures { λ r. ⌜ Tells r (Alone s group k) ⌝ }
+{
+    let systems = group.systems;
+    (systems[k] < s) & fresh(group, k)
+}
+
+pub fn group_ok(s: usize, group: Group) -> bool
+    requires { ⌜ group .len ≤ 8 ⌝ }
+    ensures { λ r. ⌜ Tells r (Grouped s group) ⌝ }
+{
+    let len = group.len;
+    let mut ok = true;
+    let mut k = 0;
+    while k < len {
+        ok = ok & alone(s, group, k);
+        k += 1;
     }
     ok
 }

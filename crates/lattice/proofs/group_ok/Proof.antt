@@ -1,0 +1,38 @@
+-- `group_ok` meets its contract: after k turns the flag tells of the systems before k. Assumes nothing.
+use Prim.Native.Nat.{ℕ, _-_}
+use borrow.Author.Needs.{needs}
+use Rattle.paper.specs.Refusal.Rules.{Grouped}
+use Rattle.lattice.specs.Groups.{Alone, grouped-of, grouped-each}
+use Rattle.lattice.specs.Telling.{Flagged, same, said, flag-start, flag-more, flag-end}
+use Rattle.lattice.proofs.group_ok.Statement.{statement}
+use Rattle.lattice.proofs.group_ok.Tie as tie
+
+abbrev Inv-loop : tie.InvT-loop
+Inv-loop s group len ok₀ k₀ ok k = Flagged len (Alone s group) k ok
+
+abbrev μ-loop : tie.MeasureT-loop
+μ-loop s group len ok₀ k₀ ok k = len - k
+
+loop-holds : tie.Need-loop-holds Inv-loop μ-loop
+loop-holds c = flag-start _ _
+
+alone-requires : tie.Need-alone-requires Inv-loop μ-loop
+alone-requires c κs = search needs
+
+add-k : tie.Need-add-k Inv-loop μ-loop
+add-k c = search needs
+
+loop-less : tie.Need-loop-less Inv-loop μ-loop
+loop-less c = search needs
+
+loop-again : tie.Need-loop-again Inv-loop μ-loop
+loop-again c = flag-more (c .before .before .loop .inv) (search needs) (said (c .alone .result) _ (c .alone .ensures))
+
+returns : tie.Need-returns Inv-loop μ-loop
+returns c =
+    let a = c .before .before .args in
+    let each = said (c .before .loop .ok) _ (flag-end (c .before .loop .inv) (c .loop-test .left)) in
+    same (Grouped (a .s) (a .group)) (grouped-of (a .s) (a .group)) (grouped-each (a .s) (a .group)) each .says
+
+pub group-ok-spec : {M : Type 1} → statement M
+group-ok-spec = tie.close (tie.spec Inv-loop μ-loop loop-holds alone-requires add-k loop-less loop-again returns)
