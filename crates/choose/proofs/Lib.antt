@@ -1,2 +1,5 @@
 pub mod Passed
 pub mod Tested
+pub mod Entries
+pub mod Row
+pub mod Xor

@@ -4,6 +4,7 @@ use mathlib.Core.Path.{_≡_, refl, _∙_}
 use mathlib.Core.List.{List}
 use native.Mathlib.Omega.{arith}
 use native.Mathlib.Decide.{ℕ-discrete}
+use borrow.Author.Count.{below-more}
 use lib.ListN.{length, getD, set, length-set}
 use lib.Seq.{getD-set-same, getD-set-other}
 use Rattle.choose.specs.Chosen.{Becomes}
@@ -33,6 +34,15 @@ module _ (f : ℕ → ℕ) (xs : List ℕ) where
       at : (k : ℕ) → k < i + 1 → Dec (k ≡ i) → getD (set ys i v) k 0 ≡ f k
       at k l (yes q) = rw q (getD-set-same ys i v 0 (omega (arith, p .long)) ∙ e)
       at k l (no q) = getD-set-other ys i k v 0 q ∙ p .done k (omega arith)
+
+  -- a turn that stores nothing
+  pub pass-skip : (i : ℕ) (ys : List ℕ) → Passed f xs i ys → i < length xs → getD xs i 0 ≡ f i → Passed f xs (i + 1) ys
+  pass-skip i ys p h e = record {
+    within = omega arith;
+    long = p .long;
+    done = below-more (λ k. getD ys k 0 ≡ f k) i (p .done) (p .rest i (omega arith) ∙ e);
+    rest = λ k l. p .rest k (omega arith);
+  }
 
   pub pass-all : (i : ℕ) (ys : List ℕ) → Passed f xs i ys → length xs ≤ i → Becomes f xs ys
   pass-all i ys p h = record { long = p .long; at = λ k l. p .done k (omega arith) }

@@ -1,5 +1,5 @@
 -- What each site's column becomes, from the labels and the lent choices. Assumes nothing.
-use Prim.Native.Nat.{ℕ, _≤_, _<_}
+use Prim.Native.Nat.{ℕ, _*_, _≤_, _<_}
 use mathlib.Core.Path.{_≡_}
 use mathlib.Core.Bool.{Bool, true, cond, _&&_}
 use mathlib.Core.List.{List}
@@ -7,9 +7,10 @@ use lib.Dec.{eqb}
 use lib.ListN.{length, getD}
 use Rattle.paper.specs.declared.Form.{Form}
 use Rattle.paper.specs.declared.Mode.{Mode}
-use Rattle.paper.specs.Panel.Takes.{isSw, isWolff}
+use Rattle.paper.specs.Panel.Takes.{isSw, isWolff, moves, entries}
 use Rattle.paper.specs.Component.Sizes.{labelOf, Sized}
-use Rattle.paper.specs.Move.Moving.{flipBy, reachedBy}
+use Rattle.paper.specs.Move.Moving.{flipBy, permAt, greyAt, greyBit, flipSome, reachedBy}
+use Rattle.columns.specs.Column.{shown, columnOf}
 
 -- entry i of ys is f i, for each entry of xs
 pub record Becomes (f : ℕ → ℕ) (xs ys : List ℕ) : Type 0 where
@@ -52,3 +53,37 @@ pub record Flips (form : Form) (reached labels flips cols : List ℕ) : Type 0 w
 abbrev pub flippedAt : Form → List ℕ → List ℕ → List ℕ → List ℕ → List ℕ → ℕ → ℕ
 flippedAt form reached labels flips table cols i =
     cond (isOne reached i && flipBy form flips (labelOf labels i)) (getD table (getD cols i 0) 0) (getD cols i 0)
+
+-- ---- grey numbers
+
+-- a column of two systems and a number 0 to 3
+pub record Grey (column grey : ℕ) : Type 0 where
+  pub two : column < 4
+  pub small : grey ≤ 3
+
+-- one number, 0 to 3, for each component in SW and one in all in Wolff; the columns are of two systems
+pub record Greys (form : Form) (reached labels greys cols : List ℕ) : Type 0 where
+  pub sites : Sites reached labels cols
+  pub moving : moves form ≡ true
+  pub lent : length greys ≡ entries form (length cols)
+  pub small : (x : ℕ) → x < length greys → getD greys x 0 ≤ 3
+  pub two : (i : ℕ) → i < length cols → getD cols i 0 < 4
+
+abbrev pub greyedAt : Form → List ℕ → List ℕ → List ℕ → List ℕ → ℕ → ℕ
+greyedAt form reached labels greys cols i =
+    cond (isOne reached i) (columnOf 2 (flipSome (greyBit (greyAt form greys (labelOf labels i))) (shown (getD cols i 0)))) (getD cols i 0)
+
+-- ---- permutations
+
+-- m places for each component in SW and m in all in Wolff
+pub record Perms (form : Form) (m : ℕ) (reached labels perms cols : List ℕ) : Type 0 where
+  pub sites : Sites reached labels cols
+  pub moving : moves form ≡ true
+  pub some : 1 ≤ m
+  pub few : m ≤ 8
+  pub lent : length perms ≡ entries form (length cols) * m
+  pub places : (x : ℕ) → x < length perms → getD perms x 0 < m
+
+abbrev pub permutedAt : Form → ℕ → List ℕ → List ℕ → List ℕ → List ℕ → ℕ → ℕ
+permutedAt form m reached labels perms cols i =
+    cond (isOne reached i) (columnOf m (λ k. shown (getD cols i 0) (permAt form m perms (labelOf labels i) k))) (getD cols i 0)

@@ -7,9 +7,10 @@ use native.Mathlib.Omega.{arith}
 use lib.ListN.{length, getD}
 use lib.Seq.{ext-getD}
 use Rattle.paper.specs.declared.Form.{Form}
+use Rattle.paper.specs.declared.Group.{Group}
 use Rattle.paper.specs.declared.Mode.{Mode}
 use Rattle.paper.specs.Component.Marks.{Flags}
-use Rattle.choose.specs.Chosen.{Becomes, reachedAt, flippedAt}
+use Rattle.choose.specs.Chosen.{Becomes, reachedAt, flippedAt, greyedAt, permutedAt}
 
 -- a length and an entry at each place below it leave one list
 only : (n : ℕ) (f : ℕ → ℕ) (ys zs : List ℕ) → length ys ≡ n → length zs ≡ n → ((i : ℕ) → i < n → getD ys i 0 ≡ f i) → ((i : ℕ) → i < n → getD zs i 0 ≡ f i)
@@ -26,3 +27,11 @@ reach-determined mode form seed acts labels ys zs p q = only (length acts) _ ys 
 pub flip-columns-determined : (form : Form) (reached labels flips table cols ys zs : List ℕ) → Becomes (flippedAt form reached labels flips table cols) cols ys
     → Becomes (flippedAt form reached labels flips table cols) cols zs → ys ≡ zs
 flip-columns-determined form reached labels flips table cols ys zs p q = becomes-determined _ cols ys zs p q
+
+pub grey-columns-determined : (form : Form) (reached labels greys cols ys zs : List ℕ) → Becomes (greyedAt form reached labels greys cols) cols ys
+    → Becomes (greyedAt form reached labels greys cols) cols zs → ys ≡ zs
+grey-columns-determined form reached labels greys cols ys zs p q = becomes-determined _ cols ys zs p q
+
+pub permute-columns-determined : (form : Form) (g : Group) (reached labels perms cols ys zs : List ℕ)
+    → Becomes (permutedAt form (g .len) reached labels perms cols) cols ys → Becomes (permutedAt form (g .len) reached labels perms cols) cols zs → ys ≡ zs
+permute-columns-determined form g reached labels perms cols ys zs p q = becomes-determined _ cols ys zs p q

@@ -4,11 +4,24 @@ ghost use mathlib.Core.Bool.{true, cond, _&&_};
 ghost use Prim.Native.Nat.{ℕ, _<_};
 ghost use lib.Dec.{eqb, leb};
 ghost use lib.ListN.{length, getD};
-ghost use Rattle.paper.specs.Panel.Takes.{isSw, isWolff};
-ghost use Rattle.paper.specs.Move.Moving.{flipBy, leastSize};
+ghost use Rattle.paper.specs.Panel.Takes.{isSw, isWolff, entry};
+ghost use Rattle.paper.specs.Move.Moving.{flipBy, flipSome, greyBit, leastSize};
 ghost use Rattle.paper.specs.Component.Marks.{Flags};
-ghost use Rattle.choose.specs.Chosen.{Becomes, Marked, reachedAt, Flips, flippedAt};
+ghost use Rattle.columns.specs.Column.{shown, columnOf};
+ghost use Rattle.choose.specs.Chosen.{
+  Becomes,
+  Marked,
+  reachedAt,
+  Flips,
+  flippedAt,
+  Grey,
+  Greys,
+  greyedAt,
+  Perms,
+  permutedAt,
+};
 use paper::Form;
+use paper::Group;
 use paper::Mode;
 
 fn wide(x: u32) -> usize
@@ -116,6 +129,64 @@ pub fn flip_columns(
         let label = wide(labels[i]);
         let flip = (reached[i] == 1) & flip_at(form, flips, label);
         cols[i] = pick(flip, table[old as usize], old);
+        i += 1;
+    }
+}
+
+// Which entry of the choices is this component's?
+fn entry_of(form: Form, label: usize) -> usize
+    ensures { λ r. ⌜ r ≡ entry form label ⌝ }
+{
+    match form {
+        Form::Sw => label,
+        Form::Wolff => 0,
+        Form::Observe => 0,
+    }
+}
+
+// The grey number's bits flip the two spins of a column.
+fn grey_column(column: u8, grey: u8) -> u8
+    requires { ⌜ Grey column grey ⌝ }
+    ensures { λ r. ⌜ r ≡ columnOf 2 (flipSome (greyBit grey) (shown column)) ⌝ }
+{
+    column ^ grey
+}
+
+pub fn grey_columns(form: Form, reached: &[u8], labels: &[u32], greys: &[u8], cols: &mut [u8])
+    requires { ⌜ Greys form (now reached) (now labels) (now greys) (now cols) ⌝ }
+    ensures { λ _. ⌜ Becomes (greyedAt form (now (reached .entry)) (now (labels .entry)) (now (greys .entry)) (now (cols .entry))) (now (cols .entry)) (now (cols .exit)) ⌝ }
+{
+    let n = cols.len();
+    let mut i: usize = 0;
+    while i < n {
+        let old = cols[i];
+        let at = entry_of(form, wide(labels[i]));
+        let new = grey_column(old, greys[at]);
+        cols[i] = pick(reached[i] == 1, new, old);
+        i += 1;
+    }
+}
+
+pub fn permute_columns(
+    form: Form,
+    group: Group,
+    reached: &[u8],
+    labels: &[u32],
+    perms: &[u8],
+    cols: &mut [u8],
+)
+    requires { ⌜ Perms form (group .len) (now reached) (now labels) (now perms) (now cols) ⌝ }
+    ensures { λ _. ⌜ Becomes (permutedAt form (group .len) (now (reached .entry)) (now (labels .entry)) (now (perms .entry)) (now (cols .entry))) (now (cols .entry)) (now (cols .exit)) ⌝ }
+{
+    let n = cols.len();
+    let len = group.len;
+    let mut i: usize = 0;
+    while i < n {
+        if reached[i] == 1 {
+            let a = entry_of(form, wide(labels[i])) * len;
+            let e = a + len;
+            cols[i] = columns::permute_group_site(cols[i], group, &perms[a..e]);
+        }
         i += 1;
     }
 }
