@@ -1,0 +1,118 @@
+use borrow.Author.Needs.{needs}
+use Prim.Native.Nat.{ℕ, _*_, _≤_}
+use mathlib.Core.Path.{_≡_}
+use native.Mathlib.Nat.{mul-le-mul}
+use native.Mathlib.Omega.{arith}
+use Rattle.paper.specs.declared.Form.{Form}
+use Rattle.paper.specs.declared.Form.the-variants.{Sw, Wolff, Observe}
+use Rattle.paper.specs.Panel.Takes.{entries, drawsBonds, flipsBy, permsBy, greysBy}
+use Rattle.paper.specs.Refusal.Rules.{When}
+use Rattle.lattice.specs.Telling.{said, same, both}
+use Rattle.checks.specs.Panel.{Sometimes}
+use Rattle.checks.proofs.sometimes_ok.Statement.{statement}
+use Rattle.checks.proofs.sometimes_ok.Tie as tie
+
+abbrev Began : tie.After-is-cmr → tie.Start
+Began d = d .before .before .before .before .before .before .before .before
+
+abbrev entries-of-result : tie.After-is-cmr → ℕ
+entries-of-result d = d .before .before .before .before .before .before .before .entries-of .result
+
+rows-of : (d : tie.After-is-cmr) → entries-of-result d ≡ entries (Began d .args .form) (Began d .args .n)
+rows-of d = d .before .before .before .before .before .before .before .entries-of .ensures
+
+few : (f : Form) (n : ℕ) → n ≤ 4096 → entries f n ≤ 4096
+few Sw n h = h
+few Wolff n h = omega arith
+few Observe n h = omega arith
+
+mul-bonds : tie.Need-mul-bonds
+mul-bonds c = omega (arith, mul-le-mul (c .pre .n-high) (c .pre .d-high))
+
+entries-of-requires : tie.Need-entries-of-requires
+entries-of-requires c κs = search needs
+
+is-drawn-requires : tie.Need-is-drawn-requires
+is-drawn-requires c κs = search needs
+
+is-sw-requires : tie.Need-is-sw-requires
+is-sw-requires c κs = search needs
+
+is-perm-requires : tie.Need-is-perm-requires
+is-perm-requires c κs = search needs
+
+moves-requires : tie.Need-moves-requires
+moves-requires c κs = search needs
+
+is-perm-requires-2 : tie.Need-is-perm-requires-2
+is-perm-requires-2 c κs = search needs
+
+moves-requires-2 : tie.Need-moves-requires-2
+moves-requires-2 c κs = search needs
+
+is-cmr-requires : tie.Need-is-cmr-requires
+is-cmr-requires c κs = search needs
+
+fits-requires : tie.Need-fits-requires
+fits-requires c κs = search needs
+
+fits-requires-2 : tie.Need-fits-requires-2
+fits-requires-2 c κs = search needs
+
+fits-requires-3 : tie.Need-fits-requires-3
+fits-requires-3 c κs = search needs
+
+mul-fits : tie.Need-mul-fits
+mul-fits c =
+    let d = c .before .before .before in
+    let rows : entries-of-result d ≤ 4096 = rw (rows-of d) (few (Began d .args .form) (Began d .args .n) (Began d .pre .n-high)) in
+    omega (arith, mul-le-mul rows (Began d .pre .m-high))
+
+fits-requires-4 : tie.Need-fits-requires-4
+fits-requires-4 c κs = search needs
+
+fits-requires-5 : tie.Need-fits-requires-5
+fits-requires-5 c κs = search needs
+
+fits-requires-6 : tie.Need-fits-requires-6
+fits-requires-6 c κs = search needs
+
+returns : tie.Need-returns
+returns c =
+    let d = c .before .before .before .before .before .before in
+    let a = Began d .args in
+    let l = a .l in
+    let drawn = d .before .before .before .before .before .before .is-drawn .ensures in
+    same (Sometimes (a .mode) (a .form) (a .n) (a .d) (a .m) l)
+    (λ h. record { couplings = h .0 .0 .0 .0 .0; cuts = h .0 .0 .0 .0 .1; flips = h .0 .0 .0 .1; perms = h .0 .0 .1; greys = h .0 .1; greyed = h .1 })
+    (λ z. (((((z .couplings, z .cuts), z .flips), z .perms), z .greys), z .greyed))
+    (both (both (both (both (both
+    (said (c .before .before .before .before .before .fits2 .result) (When (drawsBonds (a .mode)) (l .couplings ≡ a .n * a .d)) (rw drawn at (c .before .before .before .before .before .fits2 .ensures)))
+    (said (c .before .before .before .before .fits3 .result) (When (drawsBonds (a .mode)) (l .cuts ≡ a .n * a .d)) (rw drawn at (c .before .before .before .before .fits3 .ensures))))
+    (said (c .before .before .before .fits4 .result) (When (flipsBy (a .mode) (a .form)) (l .flips ≡ a .n)) (rw (d .before .before .before .before .before .is-sw .ensures, d .before .before .before .before .is-perm .ensures) at (c .before .before .before .fits4 .ensures))))
+    (said (c .before .before .fits5 .result) (When (permsBy (a .mode) (a .form)) (l .perms ≡ entries (a .form) (a .n) * a .m)) (rw (d .before .before .before .moves .ensures, d .before .before .is-perm2 .ensures, rows-of d) at (c .before .before .fits5 .ensures))))
+    (said (c .before .fits6 .result) (When (greysBy (a .mode) (a .form)) (l .greys ≡ entries (a .form) (a .n))) (rw (d .before .moves2 .ensures, d .is-cmr .ensures, rows-of d) at (c .before .fits6 .ensures))))
+    (said (c .fits7 .result) (When (greysBy (a .mode) (a .form)) (l .greyed ≡ a .n)) (rw (d .before .moves2 .ensures, d .is-cmr .ensures) at (c .fits7 .ensures))))
+    .says
+
+pub sometimes-ok-spec : {M : Type 1} → statement M
+sometimes-ok-spec =
+    tie.close
+    (tie.spec
+    mul-bonds
+    entries-of-requires
+    is-drawn-requires
+    is-sw-requires
+    is-perm-requires
+    moves-requires
+    is-perm-requires-2
+    moves-requires-2
+    is-cmr-requires
+    fits-requires
+    fits-requires-2
+    fits-requires-3
+    mul-fits
+    fits-requires-4
+    fits-requires-5
+    fits-requires-6
+    returns)

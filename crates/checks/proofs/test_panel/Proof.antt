@@ -1,0 +1,136 @@
+use borrow.Author.Needs.{needs}
+use Prim.Native.Nat.{_≤_, _*_}
+use mathlib.Core.Path.{_≡_, refl, sym, _∙_}
+use mathlib.Core.Logic.{inl, inr}
+use denote.Ref.{now}
+use lib.ListN.{length}
+use Rattle.paper.specs.Component.Marks.{passed, refused}
+use Rattle.paper.specs.Panel.Takes.{drawsBonds}
+use Rattle.paper.specs.Refusal.Rules.{When, Ranged, Fits, Spins, Inverse, Grouped, SmallCouplings, Warm}
+use Rattle.checks.proofs.test_panel.Statement.{statement}
+use Rattle.checks.proofs.test_panel.Tie as tie
+
+-- what is known past each test
+abbrev S1 : tie.Else1 → tie.Start
+S1 e = e .before .before .before .before
+
+k1 : (e : tie.Else1) → let a = S1 e .args in Ranged (a .n) (a .d) (a .s) (a .mode) (a .group .len)
+k1 e = passed (e .before .ranged .result) (e .if1 .left) (e .before .ranged .ensures)
+
+abbrev E1 : tie.Else2 → tie.Else1
+E1 e = e .before .before
+
+k2 : (e : tie.Else2) → let a = S1 (E1 e) .args in Fits (a .mode) (a .form) (a .n) (a .d) (a .s) (a .group .len) (a .l)
+k2 e = passed (e .before .lengths-ok .result) (e .if2 .left) (e .before .lengths-ok .ensures)
+
+abbrev E2 : tie.Else3 → tie.Else2
+E2 e = e .before .before
+
+k3 : (e : tie.Else3) → Spins (now (S1 (E1 (E2 e)) .args .spins))
+k3 e = passed (e .before .spins-ok .result) (e .if3 .left) (e .before .spins-ok .ensures)
+
+abbrev E3 : tie.Else4 → tie.Else3
+E3 e = e .before .before
+
+k4 : (e : tie.Else4) → let a = S1 (E1 (E2 (E3 e))) .args in Inverse (a .n) (a .d) (now (a .fwd)) (now (a .bwd))
+k4 e = passed (e .before .tables-ok .result) (e .if4 .left) (e .before .tables-ok .ensures)
+
+abbrev E4 : tie.Else5 → tie.Else4
+E4 e = e .before .before
+
+k5 : (e : tie.Else5) → let a = S1 (E1 (E2 (E3 (E4 e)))) .args in Grouped (a .s) (a .group)
+k5 e = passed (e .before .group-ok .result) (e .if5 .left) (e .before .group-ok .ensures)
+
+abbrev E5 : tie.After-is-drawn → tie.Else5
+E5 e = e .before
+
+abbrev S5 : tie.Else5 → tie.Start
+S5 e = S1 (E1 (E2 (E3 (E4 e))))
+
+k6 : (e : tie.Else6) → let a = S5 (e .before .before .before) .args in When (drawsBonds (a .mode)) (SmallCouplings (now (a .couplings)))
+k6 e = rw (e .before .before .is-drawn .ensures) at (passed (e .before .couplings-ok .result) (e .if6 .left) (e .before .couplings-ok .ensures))
+
+abbrev E6 : tie.Else7 → tie.Else6
+E6 e = e .before .before
+
+k7 : (e : tie.Else7) → let a = S5 (E6 e .before .before .before) .args in When (drawsBonds (a .mode)) (Warm (a .temperature))
+k7 e = rw (E6 e .before .before .is-drawn .ensures) at (passed (e .before .temperature-ok .result) (e .if7 .left) (e .before .temperature-ok .ensures))
+
+ranged-requires : tie.Need-ranged-requires
+ranged-requires c κs = search needs
+
+returns : tie.Need-returns
+returns c = inl (refused (c .before .ranged .result) (c .if1 .taken) (c .before .ranged .ensures), refl)
+
+lengths-ok-requires : tie.Need-lengths-ok-requires
+lengths-ok-requires c κs = record { n-high = k1 c .lattice .n-high; d-high = k1 c .lattice .d-high; s-high = k1 c .lattice .s-high; m-high = k1 c .size-high }
+
+returns-2 : tie.Need-returns-2
+returns-2 c = inr (k1 (c .before .before), inl (refused (c .before .lengths-ok .result) (c .if2 .taken) (c .before .lengths-ok .ensures), refl))
+
+spins-ok-requires : tie.Need-spins-ok-requires
+spins-ok-requires c κs = search needs
+
+returns-3 : tie.Need-returns-3
+returns-3 c = let e = c .before .before in inr (k1 (E1 e), inr (k2 e, inl (refused (c .before .spins-ok .result) (c .if3 .taken) (c .before .spins-ok .ensures), refl)))
+
+tables-ok-requires : tie.Need-tables-ok-requires
+tables-ok-requires c κs =
+    let s = S1 (E1 (E2 c)) in
+    record { fwd-long = sym (s .pre .fwd-is) ∙ k2 (E2 c) .fwd; bwd-long = sym (s .pre .bwd-is) ∙ k2 (E2 c) .bwd }
+
+returns-4 : tie.Need-returns-4
+returns-4 c = let e = c .before .before in inr (k1 (E1 (E2 e)), inr (k2 (E2 e), inr (k3 e, inl (refused (c .before .tables-ok .result) (c .if4 .taken) (c .before .tables-ok .ensures), refl))))
+
+group-ok-requires : tie.Need-group-ok-requires
+group-ok-requires c κs = k1 (E1 (E2 (E3 c))) .size-high
+
+returns-5 : tie.Need-returns-5
+returns-5 c = let e = c .before .before in inr (k1 (E1 (E2 (E3 e))), inr (k2 (E2 (E3 e)), inr (k3 (E3 e), inr (k4 e, inl (refused (c .before .group-ok .result) (c .if5 .taken) (c .before .group-ok .ensures), refl)))))
+
+is-drawn-requires : tie.Need-is-drawn-requires
+is-drawn-requires c κs = search needs
+
+couplings-ok-requires : tie.Need-couplings-ok-requires
+couplings-ok-requires c κs = search needs
+
+returns-6 : tie.Need-returns-6
+returns-6 c =
+    let e = c .before .before .before in
+    inr (k1 (E1 (E2 (E3 (E4 e)))), inr (k2 (E2 (E3 (E4 e))), inr (k3 (E3 (E4 e)), inr (k4 (E4 e), inr (k5 e, inl ((λ w. refused (c .before .couplings-ok .result) (c .if6 .taken) (c .before .couplings-ok .ensures) (rw (c .before .before .is-drawn .ensures) w)), refl))))))
+
+temperature-ok-requires : tie.Need-temperature-ok-requires
+temperature-ok-requires c κs = search needs
+
+returns-7 : tie.Need-returns-7
+returns-7 c =
+    let f = c .before .before in
+    let e = f .before .before .before in
+    inr (k1 (E1 (E2 (E3 (E4 e)))), inr (k2 (E2 (E3 (E4 e))), inr (k3 (E3 (E4 e)), inr (k4 (E4 e), inr (k5 e, inr (k6 f, inl ((λ w. refused (c .before .temperature-ok .result) (c .if7 .taken) (c .before .temperature-ok .ensures) (rw (f .before .before .is-drawn .ensures) w)), refl)))))))
+
+returns-8 : tie.Need-returns-8
+returns-8 c =
+    let f = E6 c in
+    let e = f .before .before .before in
+    (k1 (E1 (E2 (E3 (E4 e)))), (k2 (E2 (E3 (E4 e))), (k3 (E3 (E4 e)), (k4 (E4 e), (k5 e, (k6 f, (k7 c, tt)))))))
+
+pub test-panel-spec : {M : Type 1} → statement M
+test-panel-spec =
+    tie.close
+    (tie.spec
+    ranged-requires
+    returns
+    lengths-ok-requires
+    returns-2
+    spins-ok-requires
+    returns-3
+    tables-ok-requires
+    returns-4
+    group-ok-requires
+    returns-5
+    is-drawn-requires
+    couplings-ok-requires
+    returns-6
+    temperature-ok-requires
+    returns-7
+    returns-8)

@@ -1,0 +1,126 @@
+// The tests of a move in the paper's order.
+use paper::Form;
+use paper::Group;
+use paper::Lengths;
+use paper::Mode;
+ghost use mathlib.Core.Path.{_≡_};
+ghost use Prim.Native.Nat.{ℕ, _≤_};
+ghost use Rattle.paper.specs.Component.Marks.{Tells};
+ghost use Rattle.paper.specs.Panel.Takes.{drawsBonds, entries};
+ghost use Rattle.paper.specs.Refusal.Rules.{When, Fits, SmallCouplings, Warm};
+ghost use Rattle.paper.specs.Refusal.Verdict.{Verdict};
+ghost use Rattle.checks.specs.Panel.{Small, Always, Sometimes, Measures, panelRules};
+
+// A length is asked of a buffer only if it is taken.
+fn fits(taken: bool, len: usize, want: usize) -> bool
+    ensures { λ r. ⌜ Tells r (When taken (len ≡ want)) ⌝ }
+{
+    !taken | (len == want)
+}
+
+fn entries_of(form: Form, n: usize) -> usize
+    ensures { λ r. ⌜ r ≡ entries form n ⌝ }
+{
+    match form {
+        Form::Sw => n,
+        Form::Wolff => 1,
+        Form::Observe => 0,
+    }
+}
+
+fn always_ok(n: usize, d: usize, s: usize, l: Lengths) -> bool
+    requires { ⌜ Small n d s 0 ⌝ }
+    ensures { λ r. ⌜ Tells r (Always n d s l) ⌝ }
+{
+    let bonds = n * d;
+    (l.spins == s * n)
+        & (l.fwd == bonds)
+        & (l.bwd == bonds)
+        & (l.labels == n)
+        & (l.counts == n + 1)
+        & (l.sizes == 4)
+}
+
+fn sometimes_ok(mode: Mode, form: Form, n: usize, d: usize, m: usize, l: Lengths) -> bool
+    requires { ⌜ Small n d 0 m ⌝ }
+    ensures { λ r. ⌜ Tells r (Sometimes mode form n d m l) ⌝ }
+{
+    let bonds = n * d;
+    let rows = entries_of(form, n);
+    let drawn = mode.is_drawn();
+    let flips = form.is_sw() & !mode.is_perm();
+    let perms = form.moves() & mode.is_perm();
+    let greys = form.moves() & mode.is_cmr();
+    fits(drawn, l.couplings, bonds)
+        & fits(drawn, l.cuts, bonds)
+        & fits(flips, l.flips, n)
+        & fits(perms, l.perms, rows * m)
+        & fits(greys, l.greys, rows)
+        & fits(greys, l.greyed, n)
+}
+
+fn lengths_ok(mode: Mode, form: Form, n: usize, d: usize, s: usize, m: usize, l: Lengths) -> bool
+    requires { ⌜ Small n d s m ⌝ }
+    ensures { λ r. ⌜ Tells r (Fits mode form n d s m l) ⌝ }
+{
+    always_ok(n, d, s, l) & sometimes_ok(mode, form, n, d, m, l)
+}
+
+fn couplings_ok(taken: bool, couplings: &[i32]) -> bool
+    ensures { λ r. ⌜ Tells r (When taken (SmallCouplings (now (couplings .entry)))) ⌝ }
+{
+    if taken {
+        return lattice::couplings_ok(couplings);
+    }
+    true
+}
+
+fn temperature_ok(taken: bool, t: f32) -> bool
+    ensures { λ r. ⌜ Tells r (When taken (Warm t)) ⌝ }
+{
+    !taken | lattice::temperature_ok(t)
+}
+
+// Tests 1 to 7: the number of the first that fails, or 0.
+pub fn test_panel(
+    mode: Mode,
+    form: Form,
+    n: usize,
+    d: usize,
+    s: usize,
+    spins: &[i8],
+    fwd: &[u32],
+    bwd: &[u32],
+    couplings: &[i32],
+    group: Group,
+    temperature: f32,
+    l: Lengths,
+) -> u8
+    requires { ⌜ Measures (now spins) (now fwd) (now bwd) (now couplings) l ⌝ }
+    ensures { λ r. ⌜ Verdict (panelRules mode form n d s (now (spins .entry)) (now (fwd .entry)) (now (bwd .entry)) (now (couplings .entry)) group temperature l) r ⌝ }
+{
+    let m = group.len;
+    if !lattice::ranged(n, d, s, mode, m) {
+        return 1;
+    }
+    if !lengths_ok(mode, form, n, d, s, m, l) {
+        return 2;
+    }
+    if !lattice::spins_ok(spins) {
+        return 3;
+    }
+    if !lattice::tables_ok(n, d, fwd, bwd) {
+        return 4;
+    }
+    if !lattice::group_ok(s, group) {
+        return 5;
+    }
+    let drawn = mode.is_drawn();
+    if !couplings_ok(drawn, couplings) {
+        return 6;
+    }
+    if !temperature_ok(drawn, temperature) {
+        return 7;
+    }
+    0
+}
