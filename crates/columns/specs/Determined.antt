@@ -1,15 +1,19 @@
 -- How tight the promises are: any two results that a function's promise allows for one input are equal. Assumes nothing.
-use Prim.Native.Nat.{ℕ}
+use Prim.Native.Nat.{ℕ, _+_, _*_, _/_, _%_, _<_}
 use mathlib.Core.Path.{_≡_, sym, _∙_}
+use mathlib.Core.Logic.{_⊎_, inl, inr, _≢_}
 use mathlib.Core.List.{List}
 use native.Mathlib.Omega.{arith}
-use lib.ListN.{getD}
+use native.Mathlib.Decide.{ℕ-discrete}
+use native.Mathlib.Nat.{div-add-mod', mod-lt}
+use lib.ListN.{length, getD}
 use lib.Seq.{ext-getD}
-use lib.IntN.{ℤ}
+use lib.IntN.{ℤ, pos}
 use Rattle.paper.specs.declared.Group.{Group}
-use Rattle.paper.specs.Panel.Input.{Pattern}
+use Rattle.paper.specs.Panel.Input.{Pattern, member, spin, patternOf}
+use Rattle.paper.specs.Law.Unique.{Placed, place}
 use Rattle.columns.specs.Column.{shown, columnOf, Columns}
-use Rattle.columns.specs.Rows.{signed}
+use Rattle.columns.specs.Rows.{signed, Written}
 
 pub permute-group-site-determined :
     (column : ℕ) (g : Group) (perm : List ℕ) (r r′ : ℕ)
@@ -19,7 +23,10 @@ pub permute-group-site-determined :
 permute-group-site-determined column g perm r r′ e e′ = e ∙ sym e′
 
 pub columns-unique : (n m : ℕ) (f : ℕ → Pattern) (cols cols′ : List ℕ) → Columns n m f cols → Columns n m f cols′ → cols ≡ cols′
-columns-unique n m f cols cols′ c c′ = ext-getD 0 cols cols′ (c .long ∙ sym (c′ .long)) (λ i h. let l = rw (c .long) at h in c .at i l ∙ sym (c′ .at i l))
+columns-unique n m f cols cols′ c c′ = ext-getD 0 cols cols′ (c .long ∙ sym (c′ .long)) at
+  where
+    at : (i : ℕ) → i < length cols → getD cols i 0 ≡ getD cols′ i 0
+    at i h = let l : i < n = omega (arith, c .long) in c .at i l ∙ sym (c′ .at i l)
 
 pub pack-determined :
     (n : ℕ) (g : Group) (xs signs : List ℤ) (cols cols′ : List ℕ)
@@ -27,3 +34,21 @@ pub pack-determined :
     → Columns n (g .len) (signed n g signs xs) cols′
     → cols ≡ cols′
 pack-determined n g xs signs = columns-unique n (g .len) (signed n g signs xs)
+
+pub write-rows-determined :
+    (n : ℕ) (g : Group) (signs : List ℤ) (cols : List ℕ) (xs ys zs : List ℤ)
+    → Written n (g .len) g signs cols xs ys
+    → Written n (g .len) g signs cols xs zs
+    → ys ≡ zs
+write-rows-determined n g signs cols xs ys zs w v = go (ℕ-discrete n 0)
+  where
+    at : (t i : ℕ) → i < n → Placed (g .len) (member g) t ⊎ ((k : ℕ) → k < g .len → t ≢ member g k) → spin n ys t i ≡ spin n zs t i
+    at t i h (inl r) = rw (r .2) (w .group i (r .0) h (r .1) ∙ sym (v .group i (r .0) h (r .1)))
+    at t i h (inr r) = w .others i t h r ∙ sym (v .others i t h r)
+
+    cell : 0 < n → (x : ℕ) → getD ys x (pos 0) ≡ getD zs x (pos 0)
+    cell h x = rw (← div-add-mod' x n) (at (x / n) (x % n) (mod-lt x h) (place (g .len) (member g) (x / n)))
+
+    go : Dec (n ≡ 0) → ys ≡ zs
+    go (yes e) = w .empty e ∙ sym (v .empty e)
+    go (no e) = ext-getD (pos 0) ys zs (w .long ∙ sym (v .long)) (λ x h. cell (omega (arith, e)) x)

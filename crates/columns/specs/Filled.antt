@@ -12,10 +12,16 @@ pub record Filled {A : Type 0} (d : A) (f : ℕ → A) (i : ℕ) (xs ys : List A
   pub done : (j : ℕ) → j < i → getD ys j d ≡ f j
   pub rest : (j : ℕ) → i ≤ j → getD ys j d ≡ getD xs j d
 
+-- all of it is written
+abbrev pub Whole : {A : Type 0} → A → (ℕ → A) → List A → List A → Type 0
+Whole d f xs ys = Filled d f (length xs) xs ys
+
 pub filled-none : {A : Type 0} (d : A) (f : ℕ → A) (xs : List A) → Filled d f 0 xs xs
 filled-none d f xs = record { long = refl; done = λ j h. absurd (omega arith); rest = λ j h. refl }
 
-pub filled-more : {A : Type 0} {d : A} {f : ℕ → A} {i : ℕ} {xs ys : List A} {v : A} → Filled d f i xs ys → i < length xs → v ≡ f i → Filled d f (i + 1) xs (set ys i v)
+pub filled-more :
+    {A : Type 0} {d : A} {f : ℕ → A} {i : ℕ} {xs ys : List A} {v : A}
+    → Filled d f i xs ys → i < length xs → v ≡ f i → Filled d f (i + 1) xs (set ys i v)
 filled-more {A} {d} {f} {i} {xs} {ys} {v} was h e =
     record {
       long = length-set ys i v ∙ was .long;

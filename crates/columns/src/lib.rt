@@ -1,13 +1,14 @@
 // A site's whole group as one byte, its column.
 ghost use mathlib.Core.Path.{_≡_};
-ghost use Prim.Native.Nat.{ℕ, _+_, _*_};
-ghost use lib.ListN.{length, getD};
-ghost use lib.IntN.{pos};
+ghost use mathlib.Core.Bool.{cond};
+ghost use Prim.Native.Nat.{ℕ, _*_, _<_};
+ghost use lib.ListN.{getD};
+ghost use lib.IntN.{pos, _*ℤ_};
 ghost use Rattle.paper.specs.Component.Sizes.{bit};
 ghost use Rattle.paper.specs.Site.Acting.{eqZ};
-ghost use Rattle.columns.specs.Column.{shown, columnOf, Columns};
-ghost use Rattle.columns.specs.Filled.{Filled};
-ghost use Rattle.columns.specs.Rows.{Places, Packable, Room, signed};
+ghost use Rattle.columns.specs.Column.{bitOf, shown, columnOf, Columns};
+ghost use Rattle.columns.specs.Filled.{Whole};
+ghost use Rattle.columns.specs.Rows.{Places, Packable, Writable, Written, signed, Room, Fills, added};
 use paper::Group;
 
 // Replica k gets what replica perm[k] had.
@@ -27,7 +28,7 @@ pub fn permute_group_site(column: u8, group: Group, perm: &[u8]) -> u8
 }
 
 fn clear(cols: &mut [u8])
-    ensures { λ _. ⌜ Filled 0 (λ i. 0) (length (now (cols .entry))) (now (cols .entry)) (now (cols .exit)) ⌝ }
+    ensures { λ _. ⌜ Whole 0 (λ i. 0) (now (cols .entry)) (now (cols .exit)) ⌝ }
 {
     let n = cols.len();
     let mut i: usize = 0;
@@ -46,7 +47,7 @@ fn weigh(spin: i8, plus: i8, weight: u8) -> u8
 // Adds weight to the column of each site where the row has plus.
 fn pack_row(row: &[i8], plus: i8, weight: u8, cols: &mut [u8])
     requires { ⌜ Room (now row) weight (now cols) ⌝ }
-    ensures { λ _. ⌜ Filled 0 (λ i. getD (now (cols .entry)) i 0 + bit (eqZ (getD (now (row .entry)) i (pos 0)) plus) * weight) (length (now (cols .entry))) (now (cols .entry)) (now (cols .exit)) ⌝ }
+    ensures { λ _. ⌜ Whole 0 (added (now (cols .entry)) (now (row .entry)) plus weight) (now (cols .entry)) (now (cols .exit)) ⌝ }
 {
     let n = cols.len();
     let mut i: usize = 0;
@@ -70,6 +71,46 @@ pub fn pack(spins: &[i8], n: usize, group: Group, signs: [i8; 8], cols: &mut [u8
         let a = s * n;
         let e = a + n;
         pack_row(&spins[a..e], plus, 1u8 << k, cols);
+        k += 1;
+    }
+}
+
+fn pick(column: u8, k: usize, plus: i8, minus: i8) -> i8
+    requires { ⌜ k < 8 ⌝ }
+    ensures { λ r. ⌜ r ≡ cond (bitOf column k) plus minus ⌝ }
+{
+    let b = (column >> k) % 2;
+    if b == 1 { plus } else { minus }
+}
+
+// Writes one system's row: plus where bit k of the site's column is set, and minus plus where not.
+fn write_row(row: &mut [i8], cols: &[u8], k: usize, plus: i8)
+    requires { ⌜ Fills k plus (now row) (now cols) ⌝ }
+    ensures { λ _. ⌜ Whole (pos 0) (λ i. plus *ℤ shown (getD (now (cols .entry)) i 0) k) (now (row .entry)) (now (row .exit)) ⌝ }
+{
+    let n = row.len();
+    let minus = 0 - plus;
+    let mut i: usize = 0;
+    while i < n {
+        let v = pick(cols[i], k, plus, minus);
+        row[i] = v;
+        i += 1;
+    }
+}
+
+// Writes the group's rows from columns, each spin with its member's sign.
+pub fn write_rows(spins: &mut [i8], n: usize, group: Group, signs: [i8; 8], cols: &[u8])
+    requires { ⌜ Writable n group (now spins) signs (now cols) ⌝ }
+    ensures { λ _. ⌜ Written n (group .len) group signs (now (cols .entry)) (now (spins .entry)) (now (spins .exit)) ⌝ }
+{
+    let len = group.len;
+    let mut k: usize = 0;
+    while k < len {
+        let plus = signs[k];
+        let s = group.systems[k];
+        let a = s * n;
+        let e = a + n;
+        write_row(&mut spins[a..e], cols, k, plus);
         k += 1;
     }
 }

@@ -1,7 +1,7 @@
 -- `pack_row` meets its contract. The invariant: the first i columns have their bit. Assumes nothing.
 use mathlib.Core.Path.{_≡_, _∙_, ap}
 use denote.Ref.{now}
-use Prim.Native.Nat.{_+_, _-_, _*_, _≤_}
+use Prim.Native.Nat.{_-_, _*_, _≤_}
 use native.Mathlib.Omega.{arith}
 use lib.ListN.{length, getD}
 use lib.IntN.{ℤ, pos}
@@ -10,6 +10,7 @@ use mir.Val.{toZ, ofZ}
 use mir.ValLaws.{toZ-ofZ}
 use Rattle.paper.specs.Component.Sizes.{bit}
 use Rattle.paper.specs.Site.Acting.{eqZ}
+use Rattle.columns.specs.Rows.{added}
 use Rattle.columns.specs.Bits.{bit-times}
 use Rattle.columns.specs.Filled.{Filled, filled-none, filled-more}
 use borrow.Author.Needs.{needs}
@@ -17,16 +18,16 @@ use Rattle.columns.proofs.pack_row.Statement.{statement}
 use Rattle.columns.proofs.pack_row.Tie as tie
 
 abbrev Inv-loop : tie.InvT-loop
-Inv-loop row plus weight cols₀ n i₀ cols i = (i ≤ n) × Filled 0 (λ j. getD cols₀ j 0 + bit (eqZ (getD row j (pos 0)) (toZ w8 plus)) * weight) i cols₀ cols
+Inv-loop row plus weight cols₀ n i₀ cols i = (i ≤ n) × Filled 0 (added cols₀ row (toZ w8 plus) weight) i cols₀ cols
 
 abbrev μ-loop : tie.MeasureT-loop
 μ-loop row plus weight cols₀ n i₀ cols i = n - i
 
 -- a turn adds the weight of its place
-added : (c : tie.After-weigh Inv-loop μ-loop) →
+adds : (c : tie.After-weigh Inv-loop μ-loop) →
     let a = c .before .before .before .before .before .before .args in
     c .weigh .result ≡ bit (eqZ (getD (now (a .row)) (c .before .before .before .before .loop .i) (pos 0)) (toZ w8 (ofZ w8 (a .plus)))) * a .weight
-added c =
+adds c =
     let a = c .before .before .before .before .before .before .args in
     let z = getD (now (a .row)) (c .before .before .before .before .loop .i) (pos 0) in
     c .weigh .ensures ∙ ap (λ (x : ℤ). bit (eqZ x (toZ w8 (ofZ w8 (a .plus)))) * a .weight) (toZ-ofZ w8 z (record { sfits = c .before .weigh-arg .given }))
@@ -50,7 +51,7 @@ add-cols : tie.Need-add-cols Inv-loop μ-loop
 add-cols c =
     let l = c .before .before .before in
     let s = l .before .before .before in
-    omega (arith, was l, added c, bit-times (eqZ (getD (now (s .args .row)) (l .before .loop .i) (pos 0)) (toZ w8 (ofZ w8 (s .args .plus)))) (s .args .weight), s .pre .fits (l .before .loop .i) (l .loop-test .taken))
+    omega (arith, was l, adds c, bit-times (eqZ (getD (now (s .args .row)) (l .before .loop .i) (pos 0)) (toZ w8 (ofZ w8 (s .args .plus)))) (s .args .weight), s .pre .fits (l .before .loop .i) (l .loop-test .taken))
 
 slice-write-cols : tie.Need-slice-write-cols Inv-loop μ-loop
 slice-write-cols c = omega (arith, c .before .before .before .before .loop .inv .1 .long)
@@ -62,7 +63,7 @@ loop-less : tie.Need-loop-less Inv-loop μ-loop
 loop-less c = search needs
 
 loop-again : tie.Need-loop-again Inv-loop μ-loop
-loop-again c = let l = c .before .before .before in (omega (arith, l .loop-test .taken), filled-more (l .before .loop .inv .1) (l .loop-test .taken) (rw (was l, added c)))
+loop-again c = let l = c .before .before .before in (omega (arith, l .loop-test .taken), filled-more (l .before .loop .inv .1) (l .loop-test .taken) (rw (was l, adds c)))
 
 same-length : tie.Need-same-length Inv-loop μ-loop
 same-length c = search needs
