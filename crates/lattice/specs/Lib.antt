@@ -1,4 +1,5 @@
 pub mod Telling
 pub mod Tables
 pub mod Groups
+pub mod Marking
 pub mod Determined
