@@ -1,18 +1,20 @@
 -- Permutations by marks: a number whose bit v is set where v was met. Assumes nothing.
 use Prim.Native.Nat.{ℕ, zero, suc, _+_, _-_, _*_, _/_, _%_, _^_, _≤_, _<_}
-use mathlib.Core.Path.{_≡_, refl, sym, _∙_, ap}
+use mathlib.Core.Path.{_≡_, refl, sym, _∙_, ap, subst}
 use mathlib.Core.Logic.{_⊎_, inl, inr, ⊎-elim}
+use mathlib.Core.List.{List}
 use native.Mathlib.Decide.{decLt, ℕ-discrete}
-use native.Mathlib.Nat.{div-eq-of-lt, div-one, one-mul, pow-suc, zero-div}
+use native.Mathlib.Nat.{div-add-mod', div-eq-of-lt, div-lt-iff-lt-mul, div-one, le-antisymm, mod-lt, mul-le-mul-right, one-mul, pow-suc, suc-mul, zero-div}
 use native.Mathlib.Omega.{arith}
 use borrow.Author.Count.{below-more}
 use lib.Bits.{bitOr, or-shr, or-mod, or-comm, or-zero-l, or-zero-r, or-lt, shifted-even}
 use lib.Dec.{eqb}
+use lib.ListN.{length, getD}
 use lib.Pow.{pow-add, pow-lt, pow-pos, ones-lt, ones-split, high, shl-shr, shl-exact, shr-shr}
 use Rattle.paper.specs.Refusal.Rules.{Permutes}
 use Rattle.paper.specs.Law.Sums.{onto}
 use Rattle.paper.specs.Law.Unique.{Placed}
-use Rattle.lattice.specs.Telling.{Test, same, test-eq}
+use Rattle.lattice.specs.Telling.{Test, Each, same, test-eq}
 
 -- bit v of x is set
 abbrev pub Bit : ℕ → ℕ → Type 0
@@ -24,8 +26,9 @@ pub record Met (p : ℕ → ℕ) (i v : ℕ) : Type 0 where
   pub below : place < i
   pub is : p place ≡ v
 
--- of the first i, those below m are marked in x, and nothing else
+-- of the first i of m, those below m are marked in x, and nothing else
 pub record Marked (m : ℕ) (p : ℕ → ℕ) (i x : ℕ) : Type 0 where
+  pub reached : i ≤ m
   pub small : x < 2 ^ m
   pub met : (v : ℕ) → Bit x v → Met p i v
   pub marks : (k : ℕ) → k < i → p k < m → Bit x (p k)
@@ -87,6 +90,10 @@ ones-of (suc m) x l h =
     let low : x % 2 ≡ 1 = rw div-one at (h 0 (omega arith)) in
     omega (arith, pow-pos m)
 
+-- a shift by less than the width loses nothing
+pub one-shifted : (w q : ℕ) → q < w → (1 * 2 ^ q) % 2 ^ w ≡ 2 ^ q
+one-shifted w q l = shl-exact 1 q w (omega arith) (omega arith) ∙ one-mul (2 ^ q)
+
 -- ---- marking one more
 
 met-more : {p : ℕ → ℕ} {i v : ℕ} → Met p i v → Met p (i + 1) v
@@ -95,25 +102,31 @@ met-more w = record { place = w .place; below = omega arith; is = w .is }
 module _ {m : ℕ} {p : ℕ → ℕ} where
   pub mark-none : Marked m p 0 0
   mark-none = record {
+    reached = omega arith;
     small = pow-pos m;
     met = λ v b. absurd (omega (arith, zero-div (2 ^ v), b));
     marks = λ k l. absurd (omega arith);
   }
 
   -- one that is out of range is passed over
-  pub mark-past : {i x : ℕ} → m ≤ p i → Marked m p i x → Marked m p (i + 1) x
-  mark-past {i} {x} l h = record {
+  pub mark-past : {i x : ℕ} → i < m → m ≤ p i → Marked m p i x → Marked m p (i + 1) x
+  mark-past {i} {x} li l h = record {
+    reached = omega arith;
     small = h .small;
     met = λ v b. met-more (h .met v b);
     marks = below-more (λ k. p k < m → Bit x (p k)) i (h .marks) (λ q. absurd (omega arith));
   }
 
-  pub mark-more : {i x : ℕ} → p i < m → Marked m p i x → Marked m p (i + 1) (bitOr x (2 ^ p i))
-  mark-more {i} {x} l h = record {
+  pub mark-more : {i x : ℕ} → i < m → p i < m → Marked m p i x → Marked m p (i + 1) (bitOr x (2 ^ p i))
+  mark-more {i} {x} li l h = record {
+    reached = omega arith;
     small = or-lt m x (2 ^ p i) (h .small) (pow-lt l);
     met = λ v b. ⊎-elim (λ o. met-more (h .met v o)) (λ n. record { place = i; below = omega arith; is = sym (only-bit (p i) v n) }) (or-either x (2 ^ p i) v b);
     marks = below-more (λ k. p k < m → Bit (bitOr x (2 ^ p i)) (p k)) i (λ k lk q. or-left x (2 ^ p i) (p k) (h .marks k lk q)) (λ q. or-right x (2 ^ p i) (p i) (own-bit (p i)));
   }
+
+  pub mark-end : {i x : ℕ} → Marked m p i x → m ≤ i → Marked m p m x
+  mark-end {i} {x} h l = subst (λ (k : ℕ). Marked m p k x) (le-antisymm (h .reached) l) h
 
 -- ---- all m numbers are met by m places just if they are permuted
 
@@ -159,3 +172,47 @@ marks-tell {m} {p} {x} h =
     (λ e. met-permutes m p (λ v l. h .met v (rw e (all-set m v l))))
     (λ w. ones-of m x (h .small) (λ v l. let r = onto m p w v l in rw (r .2) (h .marks (r .0) (r .1) (w .within (r .0) (r .1)))))
     (test-eq x (2 ^ m - 1))
+
+-- ---- the functions that mark
+
+-- a row of m bytes, all below m, starting at `at`
+pub record RowIn (m : ℕ) (perms : List ℕ) (at : ℕ) : Type 0 where
+  pub size : m ≤ 8
+  pub inside : at + m ≤ length perms
+  pub below : (k : ℕ) → k < length perms → getD perms k 0 < m
+
+-- rows of m bytes, one behind the other
+pub record Rows (rows m : ℕ) (perms : List ℕ) : Type 0 where
+  pub size : m ≤ 8
+  pub few : rows ≤ 4096
+  pub long : length perms ≡ rows * m
+
+pub record RowsBelow (rows m : ℕ) (perms : List ℕ) : Type 0 where
+  pub rows-of : Rows rows m perms
+  pub below : (k : ℕ) → k < length perms → getD perms k 0 < m
+
+-- entry k of row r
+abbrev pub rowAt : ℕ → List ℕ → ℕ → ℕ → ℕ
+rowAt m perms r k = getD perms (r * m + k) 0
+
+-- an order of s systems
+pub record OrderOf (s : ℕ) (order : List ℕ) : Type 0 where
+  pub long : length order ≡ s
+  pub few : s ≤ 64
+
+pub full-marks : (w m : ℕ) → m < w → (1 * 2 ^ m) % 2 ^ w - 1 ≡ 2 ^ m - 1
+full-marks w m l = rw (one-shifted w m l)
+
+-- row r is inside
+pub row-in : {rows m : ℕ} {perms : List ℕ} → RowsBelow rows m perms → (r : ℕ) → r < rows → RowIn m perms (r * m)
+row-in {rows} {m} b r l = record {
+  size = b .rows-of .size;
+  inside = omega (arith, b .rows-of .long, rw suc-mul at (mul-le-mul-right m l));
+  below = b .below;
+}
+
+-- each byte stands in a row
+pub rows-below : {rows m : ℕ} {perms : List ℕ} → 0 < m → Rows rows m perms → Each rows (λ r. Permutes m (rowAt m perms r)) → (k : ℕ) → k < length perms → getD perms k 0 < m
+rows-below {rows} {m} {perms} p w h k l =
+    let r : k / m < rows = div-lt-iff-lt-mul p .1 (rw (w .long) at l) in
+    rw (div-add-mod' k m) at (h (k / m) r .within (k % m) (mod-lt k p))

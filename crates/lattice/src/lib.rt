@@ -1,15 +1,17 @@
 // The tests on inputs, each true exactly when its rule in crates/paper/specs/Refusal/Rules.antt is kept.
 ghost use mathlib.Core.Path.{_≡_};
-ghost use Prim.Native.Nat.{ℕ, _+_, _*_, _≤_, _<_};
+ghost use Prim.Native.Nat.{ℕ, _+_, _-_, _*_, _^_, _≤_, _<_};
+ghost use lib.Bits.{bitOr};
 ghost use lib.ListN.{length, getD};
 ghost use lib.IntN.{natAbs};
 ghost use lib.Ieee.{nan};
 ghost use Rattle.paper.specs.Component.Marks.{Tells};
 ghost use Rattle.paper.specs.Panel.Input.{member};
 ghost use Rattle.paper.specs.Panel.Takes.{isCmr};
-ghost use Rattle.paper.specs.Refusal.Rules.{Sizes, Ranged, Spin, Spins, SmallCouplings, Warm, isCut, Cuts, Back, Inverse, Grouped};
+ghost use Rattle.paper.specs.Refusal.Rules.{Sizes, Ranged, Spin, Spins, SmallCouplings, Warm, isCut, Cuts, Back, Inverse, Grouped, Permutes, NotIdentity};
 ghost use Rattle.lattice.specs.Telling.{Each};
 ghost use Rattle.lattice.specs.Groups.{Fresh, Alone};
+ghost use Rattle.lattice.specs.Marking.{Marked, RowIn, Rows, RowsBelow, rowAt, OrderOf};
 ghost use Rattle.lattice.specs.Tables.{Tabled, TabledSite, TabledBond};
 use paper::Group;
 use paper::Mode;
@@ -205,4 +207,53 @@ pub fn bytes_at_most(xs: &[u8], top: u8) -> bool
         i += 1;
     }
     ok
+}
+
+fn marked(marks: u32, x: u8) -> u32
+    requires { ⌜ x < 32 ⌝ }
+    ensures { λ r. ⌜ r ≡ bitOr marks (2 ^ x) ⌝ }
+{
+    marks | (1u32 << x)
+}
+
+// The numbers that stand in the row, as bits.
+fn row_marks(m: usize, perms: &[u8], at: usize) -> u32
+    requires { ⌜ RowIn m (now perms) at ⌝ }
+    ensures { λ r. ⌜ Marked m (λ k. getD (now (perms .entry)) (at + k) 0) m r ⌝ }
+{
+    let mut marks = 0u32;
+    let mut k = 0;
+    while k < m {
+        marks = marked(marks, perms[at + k]);
+        k += 1;
+    }
+    marks
+}
+
+fn rows_full(rows: usize, m: usize, perms: &[u8]) -> bool
+    requires { ⌜ RowsBelow rows m (now perms) ⌝ }
+    ensures { λ r. ⌜ Tells r (Each rows (λ r. Permutes m (rowAt m (now (perms .entry)) r))) ⌝ }
+{
+    let full = (1u32 << m) - 1;
+    let mut ok = true;
+    let mut r = 0;
+    while r < rows {
+        ok = ok & (row_marks(m, perms, r * m) == full);
+        r += 1;
+    }
+    ok
+}
+
+// The bytes are tested first, in vector code, so that marking needs no test.
+pub fn permutations_ok(rows: usize, m: usize, perms: &[u8]) -> bool
+    requires { ⌜ Rows rows m (now perms) ⌝ }
+    ensures { λ t. ⌜ Tells t ((r : ℕ) → r < rows → Permutes m (λ k. getD (now (perms .entry)) (r * m + k) 0)) ⌝ }
+{
+    if m == 0 {
+        return true;
+    }
+    if !bytes_at_most(perms, (m - 1) as u8) {
+        return false;
+    }
+    rows_full(rows, m, perms)
 }
