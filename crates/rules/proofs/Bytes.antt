@@ -7,7 +7,7 @@ use native.Mathlib.Omega.{arith}
 use native.Mathlib.Numerals.{add-one}
 use native.Mathlib.Decide.{ℕ-discrete}
 use lib.Dec.{lit<}
-use lib.ListN.{length, getD, set}
+use lib.ListN.{length, getD, set, length-set, replicate, length-replicate, getD-replicate}
 use lib.Seq.{getD-set-same, getD-set-other}
 use lib.IntN.{pos, negsuc}
 use native.Mathlib.Nat.{pow-suc}
@@ -17,15 +17,30 @@ use Rattle.paper.specs.Panel.Input.{Pattern}
 use Rattle.paper.specs.Component.Sizes.{bit}
 use Rattle.paper.specs.Law.Patterns.{same-is}
 use Rattle.columns.specs.Column.{code, columnOf, column-lt, isUp, shown, sign}
+use Rattle.rules.specs.Tables.{Written, Table}
 use Rattle.rules.proofs.Rules.{not-same}
 
--- one more place of an array is filled
-pub filled : {A : Type 0} (d : A) (p : List A) (k : ℕ) (v : A) (f : ℕ → A) → k < length p → v ≡ f k → ((m : ℕ) → m < k → getD p m d ≡ f m) → (m : ℕ) → m < k + 1 → getD (set p k v) m d ≡ f m
-filled d p k v f h e old m hm = go (ℕ-discrete m k)
+-- nothing is written yet; one more place is
+pub written-none : {A : Type 0} (d : A) (f : ℕ → A) (p : List A) → Written d 0 f p p
+written-none d f p = record { long = refl; at = λ k h. absurd (omega arith); beyond = λ k h. refl }
+
+pub written-more : {A : Type 0} (d : A) (m : ℕ) (f : ℕ → A) (p q : List A) (v : A) → m < length q → v ≡ f m → Written d m f p q → Written d (m + 1) f p (set q m v)
+written-more d m f p q v h e w =
+    record {
+      long = length-set q m v ∙ w .long;
+      at = λ k l. there k l (ℕ-discrete k m);
+      beyond = λ k l. getD-set-other q m k v d (λ x. omega arith) ∙ w .beyond k (omega arith);
+    }
   where
-    go : Dec (m ≡ k) → getD (set p k v) m d ≡ f m
-    go (yes q) = subst⁻¹ (λ (x : ℕ). getD (set p k v) x d ≡ f x) q (getD-set-same p k v d h ∙ e)
-    go (no q) = getD-set-other p k m v d q ∙ old m (omega arith)
+    there : (k : ℕ) → k < m + 1 → Dec (k ≡ m) → getD (set q m v) k d ≡ f k
+    there k l (yes x) = subst⁻¹ (λ (y : ℕ). getD (set q m v) y d ≡ f y) x (getD-set-same q m v d h ∙ e)
+    there k l (no x) = getD-set-other q m k v d x ∙ w .at k (omega arith)
+
+-- the places of one more pair are
+pub written-pair : {A : Type 0} (d : A) (k : ℕ) (f : ℕ → A) (p q : List A) (v w : A) → 2 * k + 1 < length q → v ≡ f (2 * k) → w ≡ f (2 * k + 1) → Written d (2 * k) f p q → Written d (2 * (k + 1)) f p (set (set q (2 * k) v) (2 * k + 1) w)
+written-pair d k f p q v w h a b was =
+    let e : 2 * (k + 1) ≡ 2 * k + 1 + 1 = omega arith in
+    rw e (written-more d (2 * k + 1) f p (set q (2 * k) v) w (simp length-set h) b (written-more d (2 * k) f p q v (omega arith) a was))
 
 -- ---- a column, one system more
 pub column-none : (f : Pattern) → columnOf 0 f ≡ 0
@@ -45,14 +60,14 @@ column-down m f e =
     sym (column-more m f ∙ (ap (λ (b : Bool). columnOf m f + bit b * 2 ^ m) u ∙ omega arith))
 
 -- the machine's bit k of a byte, and the room that a column of k systems leaves for it
-pub one-shl : (k : ℕ) → k < 8 → (1 * 2 ^ k) % 2 ^ 8 ≡ 1 * 2 ^ k
-one-shl k h = shl-exact 1 k 8 (lit< tt) (omega arith)
+pub one-shl : (w k : ℕ) → k < w → (1 * 2 ^ k) % 2 ^ w ≡ 1 * 2 ^ k
+one-shl w k h = shl-exact 1 k w (lit< tt) (omega arith)
 
 pub one-room : (k x : ℕ) (f : Pattern) → k < 8 → x ≡ columnOf k f → x + (1 * 2 ^ k) % 2 ^ 8 < 2 ^ 8
 one-room k x f h e =
     let l : 2 ^ (k + 1) ≤ 2 ^ 8 = pow-mono {j = 8} (omega arith) in
     let s : 2 ^ (k + 1) ≡ 2 ^ k * 2 = rw add-one (pow-suc 2 k) in
-    rw (one-shl k h, e) (omega (arith, column-lt k f))
+    rw (one-shl 8 k h, e) (omega (arith, column-lt k f))
 
 -- ---- what a column shows
 pub shown-up : (x k : ℕ) → x / 2 ^ k % 2 ≡ 1 → pos 1 ≡ shown x k
@@ -60,3 +75,45 @@ shown-up x k e = ap sign (sym (eq-eqb (x / 2 ^ k % 2) 1 e))
 
 pub shown-down : (x k : ℕ) → (x / 2 ^ k % 2 ≡ 1 → ⊥) → negsuc 0 ≡ shown x k
 shown-down x k e = ap sign (sym (ne-eqb (x / 2 ^ k % 2) 1 e))
+
+-- ---- a table that is being filled: the entries below x are written, of `end` columns in all
+pub record Filling (m end x : ℕ) (f : ℕ → ℕ) (blank table : List ℕ) : Type 0 where
+  pub below : x ≤ end
+  pub ends : end ≡ 2 ^ m
+  pub few : end ≤ 256
+  pub long : length blank ≡ 256
+  pub zeros : (y : ℕ) → y < 256 → getD blank y 0 ≡ 0
+  pub written : Written 0 x f blank table
+
+pub filling-none : (m : ℕ) (f : ℕ → ℕ) → m ≤ 8 → Filling m ((1 * 2 ^ m) % 2 ^ 64) 0 f (replicate 256 0) (replicate 256 0)
+filling-none m f h =
+    let e : (1 * 2 ^ m) % 2 ^ 64 ≡ 1 * 2 ^ m = one-shl 64 m (omega arith) in
+    let l : 2 ^ m ≤ 256 = pow-mono {j = 8} h in
+    record {
+      below = omega arith;
+      ends = omega arith;
+      few = omega arith;
+      long = length-replicate {A = ℕ} 256 0;
+      zeros = λ y b. getD-replicate {A = ℕ} 256 y 0 0 b;
+      written = written-none 0 f (replicate 256 0);
+    }
+
+module _ {m end x : ℕ} {f : ℕ → ℕ} {blank table : List ℕ} (w : Filling m end x f blank table) where
+  pub filling-more : (v : ℕ) → x < end → v ≡ f x → Filling m end (x + 1) f blank (set table x v)
+  filling-more v h e =
+      record {
+        below = omega arith;
+        ends = w .ends;
+        few = w .few;
+        long = w .long;
+        zeros = w .zeros;
+        written = written-more 0 x f blank table v (omega (arith, w .written .long)) e (w .written);
+      }
+
+  pub filling-done : end ≤ x → Table m f table
+  filling-done h =
+      record {
+        long = w .written .long ∙ w .long;
+        at = λ y b. w .written .at y (omega arith);
+        beyond = λ y b s. w .written .beyond y (omega (arith, w .below, w .ends)) ∙ w .zeros y s;
+      }

@@ -6,7 +6,7 @@ use Prim.Native.Nat.{ℕ, zero, suc, _≤_, _<_, _-_, _*_, _+_}
 use native.Mathlib.Omega.{arith}
 use native.Mathlib.Numerals.{add-one}
 use lib.Dec.{eqb, lit<}
-use lib.IntN.{ℤ, pos, negsuc, _+ℤ_, sucℤ, predℤ, natAbs, +ℤ-one, -ℤ-one}
+use lib.IntN.{ℤ, pos, negsuc, negℤ, _+ℤ_, _-ℤ_, sucℤ, predℤ, natAbs, +ℤ-one, -ℤ-one}
 use mir.Syntax.{w8}
 use mir.Val.{SFits, ofZ, toZ}
 use mir.ValLaws.{toZ-ofZ}
@@ -105,3 +105,16 @@ pub sum-bits : (k s : ℕ) (f : Pattern) → Spinning (k + 1) f → k < 8 → s 
 sum-bits k s f sp h e =
     rw (e, toZ-ofZ w8 (sum k f) (sum-fits k f (λ m l. sp m (omega arith)) (omega arith)), toZ-ofZ w8 (f k) (spin-fits (f k) (sp k (omega arith))))
     (sym (sum-more k f))
+
+-- ---- a spin negated, as the code computes it
+pub negate-is : (z : ℤ) → Spin z → pos 0 -ℤ toZ w8 (ofZ w8 z) ≡ negℤ z
+negate-is z (inl e) = rw e
+negate-is z (inr e) = rw e
+
+pub negate-fits : (z : ℤ) → Spin z → SFits w8 (pos 0 -ℤ toZ w8 (ofZ w8 z))
+negate-fits z (inl e) = rw e (record { sfits = lit< tt })
+negate-fits z (inr e) = rw e (record { sfits = lit< tt })
+
+pub negate-bits : (z : ℤ) → Spin z → toZ w8 (ofZ w8 (pos 0 -ℤ toZ w8 (ofZ w8 z))) ≡ negℤ z
+negate-bits z (inl e) = rw e
+negate-bits z (inr e) = rw e

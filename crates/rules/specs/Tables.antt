@@ -4,13 +4,10 @@ use mathlib.Core.Path.{_≡_}
 use mathlib.Core.Bool.{Bool}
 use mathlib.Core.List.{List}
 use lib.ListN.{length, getD}
-use lib.IntN.{ℤ, pos, negℤ}
+use lib.IntN.{ℤ, pos}
 use Rattle.paper.specs.declared.Group.{Group}
-use Rattle.paper.specs.declared.Mode.{Mode}
 use Rattle.paper.specs.Panel.Input.{Pattern}
-use Rattle.paper.specs.Move.Moving.{other}
 use Rattle.paper.specs.Component.Marks.{Tells}
-use Rattle.columns.specs.Column.{flipped}
 
 -- the pattern that an array holds
 abbrev pub spinAt : List ℤ → Pattern
@@ -21,11 +18,11 @@ pub record Sized (g : Group) : Type 0 where
   pub some : 1 ≤ g .len
   pub few : g .len ≤ 8
 
--- q has f at its first m places, and is p at the others
-pub record Turned (m : ℕ) (f : Pattern) (p q : List ℤ) : Type 0 where
+-- q is p with f written at its first m places
+pub record Written {A : Type 0} (d : A) (m : ℕ) (f : ℕ → A) (p q : List A) : Type 0 where
   pub long : length q ≡ length p
-  pub at : (k : ℕ) → k < m → spinAt q k ≡ f k
-  pub beyond : (k : ℕ) → m ≤ k → spinAt q k ≡ spinAt p k
+  pub at : (k : ℕ) → k < m → getD q k d ≡ f k
+  pub beyond : (k : ℕ) → m ≤ k → getD q k d ≡ getD p k d
 
 -- a byte for each of the 256 columns: f x at a column x of m systems, and else 0
 pub record Table (m : ℕ) (f : ℕ → ℕ) (table : List ℕ) : Type 0 where

@@ -2,14 +2,15 @@
 use paper::Group;
 use paper::Mode;
 ghost use mathlib.Core.Path.{_≡_};
-ghost use Prim.Native.Nat.{ℕ, _/_, _≤_, _<_};
-ghost use lib.IntN.{pos};
+ghost use Prim.Native.Nat.{ℕ, _*_, _/_, _≤_, _<_};
+ghost use lib.IntN.{pos, negℤ};
 ghost use lib.ListN.{length, getD};
 ghost use Rattle.paper.specs.Site.Acting.{eqZ, sum, differs, pairDiffers, testBy};
 ghost use Rattle.paper.specs.Component.Sizes.{bit};
+ghost use Rattle.paper.specs.Move.Moving.{other};
 ghost use Rattle.paper.specs.Demand3.Reversible.{Spinning};
 ghost use Rattle.columns.specs.Column.{shown, columnOf, flipped};
-ghost use Rattle.rules.specs.Tables.{spinAt, Sized, Turned, Table, Looked};
+ghost use Rattle.rules.specs.Tables.{spinAt, Sized, Written, Table, Looked};
 
 // pair and Jörg: some pair (0 1), (2 3), .. disagrees; an odd last system is not read.
 pub fn any_pair_differs(p: [i8; 8], group: Group) -> bool
@@ -113,4 +114,125 @@ fn pack_one(p: [i8; 8], len: usize) -> u8
         k += 1;
     }
     x
+}
+
+// The entry of the table of acting columns: 1 where the column acts.
+fn acts_entry(mode: Mode, group: Group, column: u8) -> u8
+    requires { ⌜ Sized group ⌝ }
+    ensures { λ r. ⌜ r ≡ bit (testBy mode (group .len) (shown column)) ⌝ }
+{
+    if acts_site(mode, group, unpack(column)) {
+        1
+    } else {
+        0
+    }
+}
+
+// Which columns act.
+pub fn acts_table(mode: Mode, group: Group) -> [u8; 256]
+    requires { ⌜ Sized group ⌝ }
+    ensures { λ r. ⌜ Table (group .len) (λ x. bit (testBy mode (group .len) (shown x))) r ⌝ }
+{
+    let mut table = [0u8; 256];
+    let len = group.len;
+    let end = 1usize << len;
+    let mut x: usize = 0;
+    while x < end {
+        table[x] = acts_entry(mode, group, x as u8);
+        x += 1;
+    }
+    table
+}
+
+// The first count spins are negated.
+fn negate_first(p: [i8; 8], count: usize) -> [i8; 8]
+    requires { ⌜ count ≤ 8 ⌝ }
+    requires { ⌜ Spinning count (spinAt p) ⌝ }
+    ensures { λ r. ⌜ Written (pos 0) count (λ k. negℤ (spinAt p k)) p r ⌝ }
+{
+    let mut q = p;
+    let mut k: usize = 0;
+    while k < count {
+        let v = p[k];
+        q[k] = -v;
+        k += 1;
+    }
+    q
+}
+
+// Each pair (0 1), (2 3), .. is exchanged; an odd last system is not moved.
+fn exchange_pairs(p: [i8; 8], len: usize) -> [i8; 8]
+    requires { ⌜ len ≤ 8 ⌝ }
+    ensures { λ r. ⌜ Written (pos 0) (2 * (len / 2)) (λ k. spinAt p (other k)) p r ⌝ }
+{
+    let mut q = p;
+    let mut j: usize = 0;
+    while 2 * j + 1 < len {
+        let a = p[2 * j];
+        let b = p[2 * j + 1];
+        q[2 * j] = b;
+        q[2 * j + 1] = a;
+        j += 1;
+    }
+    q
+}
+
+// What a flip makes of the pattern p. The perm modes take none.
+pub fn flip_group_site(p: [i8; 8], group: Group, mode: Mode) -> [i8; 8]
+    requires { ⌜ group .len ≤ 8 ⌝ }
+    requires { ⌜ Spinning (group .len) (spinAt p) ⌝ }
+    ensures { λ r. ⌜ Written (pos 0) (group .len) (flipped mode (group .len) (spinAt p)) p r ⌝ }
+{
+    let len = group.len;
+    match mode {
+        Mode::Houd => negate_first(p, 2 * (len / 2)),
+        Mode::Pair => exchange_pairs(p, len),
+        Mode::Perm => p,
+        Mode::Gperm => p,
+        Mode::Jorg => exchange_pairs(p, len),
+        Mode::Cmr => negate_first(p, len),
+    }
+}
+
+// The entry of the table of flipped columns.
+fn flip_entry(mode: Mode, group: Group, column: u8) -> u8
+    requires { ⌜ group .len ≤ 8 ⌝ }
+    ensures { λ r. ⌜ r ≡ columnOf (group .len) (flipped mode (group .len) (shown column)) ⌝ }
+{
+    pack_one(flip_group_site(unpack(column), group, mode), group.len)
+}
+
+// What a flip makes of each column.
+pub fn flip_table(mode: Mode, group: Group) -> [u8; 256]
+    requires { ⌜ Sized group ⌝ }
+    ensures { λ r. ⌜ Table (group .len) (λ x. columnOf (group .len) (flipped mode (group .len) (shown x))) r ⌝ }
+{
+    let mut table = [0u8; 256];
+    let len = group.len;
+    let end = 1usize << len;
+    let mut x: usize = 0;
+    while x < end {
+        table[x] = flip_entry(mode, group, x as u8);
+        x += 1;
+    }
+    table
+}
+
+// Looks each site's column up, and tells whether some site's byte is 1.
+pub fn mark_active(table: [u8; 256], cols: &[u8], acts: &mut [u8]) -> bool
+    requires { ⌜ length (now cols) ≡ length (now acts) ⌝ }
+    ensures { λ r. ⌜ Looked table (now (cols .entry)) (now (acts .exit)) r ⌝ }
+{
+    let n = cols.len();
+    let mut found = false;
+    let mut i: usize = 0;
+    while i < n {
+        let a = table[cols[i] as usize];
+        acts[i] = a;
+        if a == 1 {
+            found = true;
+        }
+        i += 1;
+    }
+    found
 }

@@ -52,7 +52,7 @@ loop-again c =
     let h = bits-inj (f (i .k)) (pos 1) (record { sfits = c .before .v .given }) (record { sfits = lit< tt }) in (
       omega (arith, l .loop-test .taken),
       ⊎-elim
-          (λ w. w .1 ∙ (ap (λ (y : ℕ). i .x + y) (one-shl (i .k) (omega arith)) ∙ (ap (λ (y : ℕ). y + 1 * 2 ^ i .k) (i .inv .1) ∙ column-up (i .k) f (h (w .0 .taken)))))
+          (λ w. w .1 ∙ (ap (λ (y : ℕ). i .x + y) (one-shl 8 (i .k) (omega arith)) ∙ (ap (λ (y : ℕ). y + 1 * 2 ^ i .k) (i .inv .1) ∙ column-up (i .k) f (h (w .0 .taken)))))
           (λ w. w .1 ∙ (i .inv .1 ∙ column-down (i .k) f (λ e. w .0 .left (ap (ofZ w8) e))))
           (c .if1 .came),
     )

@@ -1,27 +1,27 @@
 -- `rules::unpack` meets its contract. The invariant: the first k places hold what the column shows there.
 use mathlib.Core.Path.{_≡_, _∙_, ap}
 use mathlib.Core.Logic.{⊎-elim}
-use Prim.Native.Nat.{ℕ, _≤_, _<_, _-_}
+use Prim.Native.Nat.{_≤_, _<_, _-_}
 use native.Mathlib.Omega.{arith}
 use borrow.Author.Needs.{needs}
 use lib.IntN.{pos}
-use lib.ListN.{length, length-set}
+use lib.ListN.{length}
 use mir.Syntax.{w8}
 use mir.Val.{toZ}
 use Rattle.columns.specs.Column.{shown}
-use Rattle.rules.specs.Tables.{spinAt}
-use Rattle.rules.proofs.Bytes.{filled, shown-up, shown-down}
+use Rattle.rules.specs.Tables.{Written}
+use Rattle.rules.proofs.Bytes.{written-none, written-more, shown-up, shown-down}
 use Rattle.rules.proofs.unpack.Statement.{statement}
 use Rattle.rules.proofs.unpack.Tie as tie
 
 abbrev Inv-loop : tie.InvT-loop
-Inv-loop column p₀ k₀ p k = (k ≤ 8) × ((length p ≡ 8) × ((m : ℕ) → m < k → spinAt p m ≡ shown column m))
+Inv-loop column p₀ k₀ p k = (k ≤ 8) × ((length p₀ ≡ 8) × Written (pos 0) k (shown column) p₀ p)
 
 abbrev μ-loop : tie.MeasureT-loop
 μ-loop column p₀ k₀ p k = 8 - k
 
 loop-holds : tie.Need-loop-holds Inv-loop μ-loop
-loop-holds c = (search needs, (search needs, λ m h. absurd (omega arith)))
+loop-holds c = (search needs, (search needs, written-none (pos 0) _ _))
 
 cast-if1 : tie.Need-cast-if1 Inv-loop μ-loop
 cast-if1 c = search needs
@@ -43,13 +43,13 @@ loop-again c =
     let l = c .before .before in
     let i = l .loop in
     let x = l .before .args .column in
-    let h : i .k < length (i .p) = omega arith in
+    let h : i .k < length (i .p) = omega (arith, i .inv .1 .1 .long) in
     let e : toZ w8 (c .if1 .v) ≡ shown x (i .k) =
     ⊎-elim (λ w. ap (toZ w8) (w .1) ∙ shown-up x (i .k) (w .0 .taken)) (λ w. ap (toZ w8) (w .1) ∙ shown-down x (i .k) (w .0 .left)) (c .if1 .came) in
-    (omega arith, (simp length-set (i .inv .1 .0), filled (pos 0) (i .p) (i .k) (toZ w8 (c .if1 .v)) (shown x) h e (i .inv .1 .1)))
+    (omega arith, (i .inv .1 .0, written-more (pos 0) (i .k) (shown x) _ (i .p) (toZ w8 (c .if1 .v)) h e (i .inv .1 .1)))
 
 returns : tie.Need-returns Inv-loop μ-loop
-returns c k h = c .before .loop .inv .1 .1 k (omega arith)
+returns c k h = c .before .loop .inv .1 .1 .at k (omega arith)
 
 pub unpack-spec : {M : Type 1} → statement M
 unpack-spec =

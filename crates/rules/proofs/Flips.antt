@@ -1,0 +1,42 @@
+-- What the code writes at the first places, as a whole flip. Assumes nothing.
+use mathlib.Core.Path.{_≡_, refl, sym, _∙_, ap}
+use mathlib.Core.Bool.{Bool, cond}
+use mathlib.Core.List.{List}
+use Prim.Native.Nat.{ℕ, _≤_, _<_, _*_, _/_}
+use native.Mathlib.Omega.{arith}
+use native.Mathlib.Decide.{decLt}
+use lib.Dec.{ltb}
+use lib.ListN.{getD}
+use lib.IntN.{ℤ, pos, negℤ}
+use borrow.Author.Tests.{lt-ltb, le-ltb}
+use Rattle.paper.specs.declared.Mode.the-variants.{Houd, Pair}
+use Rattle.paper.specs.Move.Moving.{other, partner}
+use Rattle.paper.specs.Law.Partners.{pairs-fit, partner-in, partner-out}
+use Rattle.columns.specs.Column.{flipped}
+use Rattle.rules.specs.Tables.{spinAt, Written}
+
+-- more places than were written: the others are as they were
+written-on : {A : Type 0} (d : A) (s m : ℕ) (g f : ℕ → A) (p q : List A) → s ≤ m → ((k : ℕ) → k < s → g k ≡ f k) → ((k : ℕ) → s ≤ k → getD p k d ≡ f k) → Written d s g p q → Written d m f p q
+written-on d s m g f p q h a b w = record { long = w .long; at = λ k l. there k (decLt k s); beyond = λ k l. w .beyond k (omega arith) }
+  where
+    there : (k : ℕ) → Dec (k < s) → getD q k d ≡ f k
+    there k (yes l) = w .at k l ∙ a k l
+    there k (no l) = let o : s ≤ k = omega arith in w .beyond k o ∙ b k o
+
+pub flip-none : (m : ℕ) (p : List ℤ) → Written (pos 0) m (spinAt p) p p
+flip-none m p = record { long = refl; at = λ k h. refl; beyond = λ k h. refl }
+
+module _ (m : ℕ) (p q : List ℤ) where
+  pub flip-signs : Written (pos 0) (2 * (m / 2)) (λ k. negℤ (spinAt p k)) p q → Written (pos 0) m (flipped Houd m (spinAt p)) p q
+  flip-signs w =
+      written-on (pos 0) (2 * (m / 2)) m (λ k. negℤ (spinAt p k)) (flipped Houd m (spinAt p)) p q (pairs-fit m)
+      (λ k h. ap (λ (b : Bool). cond b (negℤ (spinAt p k)) (spinAt p k)) (sym (lt-ltb k (2 * (m / 2)) h)))
+      (λ k h. ap (λ (b : Bool). cond b (negℤ (spinAt p k)) (spinAt p k)) (sym (le-ltb k (2 * (m / 2)) h)))
+      w
+
+  pub flip-pairs : Written (pos 0) (2 * (m / 2)) (λ k. spinAt p (other k)) p q → Written (pos 0) m (flipped Pair m (spinAt p)) p q
+  flip-pairs w =
+      written-on (pos 0) (2 * (m / 2)) m (λ k. spinAt p (other k)) (flipped Pair m (spinAt p)) p q (pairs-fit m)
+      (λ k h. ap (spinAt p) (sym (partner-in m k h)))
+      (λ k h. ap (spinAt p) (sym (partner-out m k h)))
+      w

@@ -1,0 +1,68 @@
+-- The look-up of every site's column, one site at a time. Assumes nothing.
+use mathlib.Core.Path.{_≡_, refl, sym, _∙_, ap, subst}
+use mathlib.Core.Bool.{Bool, true, false}
+use mathlib.Core.List.{List}
+use Prim.Native.Nat.{ℕ, _≤_, _<_, _+_}
+use native.Mathlib.Omega.{arith}
+use native.Mathlib.Decide.{ℕ-discrete}
+use lib.ListN.{length, getD, set}
+use lib.Seq.{getD-set-same, getD-set-other}
+use Rattle.paper.specs.Component.Marks.{Tells}
+use Rattle.rules.specs.Tables.{Written, SomeMarked, Looked}
+use Rattle.rules.proofs.Bytes.{written-none, written-more}
+
+-- the first i sites are looked up
+pub record Looking (table cols old acts : List ℕ) (found : Bool) (i : ℕ) : Type 0 where
+  pub below : i ≤ length cols
+  pub long : length old ≡ length cols
+  pub written : Written 0 i (λ j. getD table (getD cols j 0) 0) old acts
+  pub tells : Tells found (SomeMarked i acts)
+
+pub looking-none : (table cols old : List ℕ) → length cols ≡ length old → Looking table cols old old false 0
+looking-none table cols old e = record { below = omega arith; long = sym e; written = written-none 0 _ old; tells = λ m. omega (arith, m .below) }
+
+-- ---- a byte is set at the site i
+module _ (acts : List ℕ) (i v : ℕ) (fits : i < length acts) where
+  some-hit : v ≡ 1 → SomeMarked (i + 1) (set acts i v)
+  some-hit e = record { site = i; below = omega arith; is = getD-set-same acts i v 0 fits ∙ e }
+
+  some-on : SomeMarked i acts → SomeMarked (i + 1) (set acts i v)
+  some-on m =
+      record {
+        site = m .site;
+        below = omega (arith, m .below);
+        is = getD-set-other acts i (m .site) v 0 (λ e. omega (arith, m .below)) ∙ m .is;
+      }
+
+  some-back : (v ≡ 1 → ⊥) → SomeMarked (i + 1) (set acts i v) → SomeMarked i acts
+  some-back ne m = go (ℕ-discrete (m .site) i)
+    where
+      go : Dec (m .site ≡ i) → SomeMarked i acts
+      go (yes e) = absurd (ne (sym (getD-set-same acts i v 0 fits) ∙ (ap (λ (x : ℕ). getD (set acts i v) x 0) (sym e) ∙ m .is)))
+      go (no e) = record { site = m .site; below = omega (arith, m .below); is = sym (getD-set-other acts i (m .site) v 0 e) ∙ m .is }
+
+  some-miss : (found : Bool) → (v ≡ 1 → ⊥) → Tells found (SomeMarked i acts) → Tells found (SomeMarked (i + 1) (set acts i v))
+  some-miss true ne t = some-on t
+  some-miss false ne t = λ m. t (some-back ne m)
+
+module _ {table cols old acts : List ℕ} {found : Bool} {i : ℕ} (w : Looking table cols old acts found i) (v : ℕ) (more : i < length cols) (is : v ≡ getD table (getD cols i 0) 0) where
+  fits : i < length acts
+  fits = omega (arith, more, w .long, w .written .long)
+
+  step : (b : Bool) → Tells b (SomeMarked (i + 1) (set acts i v)) → Looking table cols old (set acts i v) b (i + 1)
+  step b t = record { below = omega (arith, more); long = w .long; written = written-more 0 i _ old acts v fits is (w .written); tells = t }
+
+  pub looking-hit : (b : Bool) → b ≡ true → v ≡ 1 → Looking table cols old (set acts i v) b (i + 1)
+  looking-hit b e h = step b (subst (λ (x : Bool). Tells x (SomeMarked (i + 1) (set acts i v))) (sym e) (some-hit acts i v fits h))
+
+  pub looking-miss : (b : Bool) → b ≡ found → (v ≡ 1 → ⊥) → Looking table cols old (set acts i v) b (i + 1)
+  looking-miss b e h = step b (subst (λ (x : Bool). Tells x (SomeMarked (i + 1) (set acts i v))) (sym e) (some-miss acts i v fits found h (w .tells)))
+
+pub looking-done : {table cols old acts : List ℕ} {found : Bool} {i : ℕ} → Looking table cols old acts found i → length cols ≤ i → Looked table cols acts found
+looking-done {table} {cols} {old} {acts} {found} {i} w h =
+    let e : i ≡ length cols = omega (arith, w .below) in
+    record {
+      long = w .written .long ∙ w .long;
+      at = λ j l. w .written .at j (omega arith);
+      tells = subst (λ (n : ℕ). Tells found (SomeMarked n acts)) e (w .tells);
+    }

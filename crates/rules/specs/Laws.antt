@@ -1,0 +1,83 @@
+-- The rules on the column of a pattern are the rules on the pattern. Assumes nothing.
+use Prim.Native.Nat.{ℕ, _*_, _/_, _<_}
+use mathlib.Core.Path.{_≡_, refl, sym, _∙_, ap, subst}
+use mathlib.Core.Bool.{Bool, true, false, cond}
+use mathlib.Core.List.{List}
+use native.Mathlib.Omega.{arith}
+use lib.Dec.{ltb}
+use lib.ListN.{getD}
+use lib.IntN.{ℤ, negℤ}
+use Rattle.paper.specs.declared.Mode.{Mode}
+use Rattle.paper.specs.declared.Mode.the-variants.{Houd, Pair, Perm, Gperm, Jorg, Cmr}
+use Rattle.paper.specs.Panel.Input.{Pattern}
+use Rattle.paper.specs.Site.Acting.{testBy}
+use Rattle.paper.specs.Component.Sizes.{bit}
+use Rattle.paper.specs.Component.Marks.{Flags, Tells}
+use Rattle.paper.specs.Move.Moving.{partner}
+use Rattle.paper.specs.Law.Partners.{partner-lt}
+use Rattle.paper.specs.Demand3.Reversible.{Spinning}
+use Rattle.paper.specs.Demand3.ActsKept.{test-ext}
+use Rattle.columns.specs.Column.{shown, columnOf, flipped, Columns, shown-column, column-ext, column-lt}
+use Rattle.rules.specs.Tables.{Table, SomeMarked, Looked}
+
+-- a flip reads the first m places alone
+pub flipped-ext : (mode : Mode) (m : ℕ) (f g : Pattern) → ((k : ℕ) → k < m → f k ≡ g k) → (k : ℕ) → k < m → flipped mode m f k ≡ flipped mode m g k
+flipped-ext Houd m f g e k h = ap (λ (z : ℤ). cond (ltb k (2 * (m / 2))) (negℤ z) z) (e k h)
+flipped-ext Pair m f g e k h = e (partner m k) (partner-lt m k h)
+flipped-ext Perm m f g e k h = e k h
+flipped-ext Gperm m f g e k h = e k h
+flipped-ext Jorg m f g e k h = e (partner m k) (partner-lt m k h)
+flipped-ext Cmr m f g e k h = ap negℤ (e k h)
+
+module _ (mode : Mode) (m : ℕ) (f : Pattern) (spins : Spinning m f) where
+  pub test-column : 0 < m → testBy mode m (shown (columnOf m f)) ≡ testBy mode m f
+  test-column z = test-ext mode m (shown (columnOf m f)) f z (λ k h. shown-column m f k h (spins k h))
+
+  pub flip-column : (k : ℕ) → k < m → flipped mode m (shown (columnOf m f)) k ≡ flipped mode m f k
+  flip-column = flipped-ext mode m (shown (columnOf m f)) f (λ k h. shown-column m f k h (spins k h))
+
+  -- so the flipped column is the column of the flipped pattern
+  pub flipped-column : columnOf m (flipped mode m (shown (columnOf m f))) ≡ columnOf m (flipped mode m f)
+  flipped-column = column-ext m (flipped mode m (shown (columnOf m f))) (flipped mode m f) flip-column
+
+-- ---- from the table of acting columns and a panel's columns to the sites: site i has the pattern f i
+-- some site passes the test t
+pub record SomeSite (n : ℕ) (t : ℕ → Bool) : Type 0 where
+  pub site : ℕ
+  pub below : site < n
+  pub does : t site ≡ true
+
+on : (b : Bool) → bit b ≡ 1 → b ≡ true
+on true e = refl
+on false e = absurd (omega arith)
+
+off : (b : Bool) → (b ≡ true → ⊥) → b ≡ false
+off true e = absurd (e refl)
+off false e = refl
+
+module _ (n : ℕ) (t : ℕ → Bool) (acts : List ℕ) (flags : Flags n t acts) where
+  some-site : SomeMarked n acts → SomeSite n t
+  some-site m = record { site = m .site; below = m .below; does = on (t (m .site)) (sym (flags .at (m .site) (m .below)) ∙ m .is) }
+
+  some-marked : SomeSite n t → SomeMarked n acts
+  some-marked s = record { site = s .site; below = s .below; is = flags .at (s .site) (s .below) ∙ ap bit (s .does) }
+
+  -- what a test tells of the bytes, it tells of the sites
+  pub flags-tell : (r : Bool) → Tells r (SomeMarked n acts) → Tells r (SomeSite n t)
+  flags-tell true m = some-site m
+  flags-tell false m = λ s. m (some-marked s)
+
+-- and where it says no, no site passes
+pub none-passes : (n : ℕ) (t : ℕ → Bool) → (SomeSite n t → ⊥) → (i : ℕ) → i < n → t i ≡ false
+none-passes n t h i l = off (t i) (λ e. h (record { site = i; below = l; does = e }))
+
+module _ (mode : Mode) (m n : ℕ) (f : ℕ → Pattern) (some : 0 < m) (spins : (i : ℕ) → i < n → Spinning m (f i)) {table cols acts : List ℕ} {r : Bool} (rule : Table m (λ x. bit (testBy mode m (shown x))) table) (panel : Columns n m f cols) (looked : Looked table cols acts r) where
+  pub looked-flags : Flags n (λ i. testBy mode m (f i)) acts
+  looked-flags =
+      record {
+        long = looked .long ∙ panel .long;
+        at = λ i h. looked .at i (omega (arith, panel .long)) ∙ (ap (λ (x : ℕ). getD table x 0) (panel .at i h) ∙ (rule .at (columnOf m (f i)) (column-lt m (f i)) ∙ ap bit (test-column mode m (f i) (spins i h) some)));
+      }
+
+  pub looked-tells : Tells r (SomeSite n (λ i. testBy mode m (f i)))
+  looked-tells = flags-tell n (λ i. testBy mode m (f i)) acts looked-flags r (subst (λ (x : ℕ). Tells r (SomeMarked x acts)) (panel .long) (looked .tells))
