@@ -3,7 +3,7 @@ use Prim.Native.Nat.{ℕ, suc, _+_, _*_, _≤_, _<_}
 use mathlib.Core.Path.{_≡_, refl, sym, _∙_, ap}
 use mathlib.Core.Bool.{Bool, true, false}
 use mathlib.Core.List.{List}
-use native.Mathlib.Nat.{le-trans, mul-le-mul-left, mul-le-mul-right, suc-mul, zero-add}
+use native.Mathlib.Nat.{le-of-lt, le-trans, mul-le-mul-left, mul-le-mul-right, suc-mul, zero-add}
 use native.Mathlib.Numerals.{add-one}
 use native.Mathlib.Decide.{decLt}
 use native.Mathlib.Omega.{arith}
@@ -12,15 +12,26 @@ use lib.ListN.{length, getD, set, length-set, List·getD-eq-default}
 use lib.Seq.{getD-set-same, getD-set-other}
 use Rattle.paper.specs.Component.Sizes.{bit}
 use Rattle.paper.specs.Component.Marks.{Marks}
+use Rattle.bonds.specs.Table.{Forward}
 use Rattle.bonds.specs.Row.{Row, Blank}
 
--- the entry of a bond is in the table
-pub slot : (n d i e : ℕ) → i < n → e < d → i * d + e < n * d
+-- ---- the bond (i, e): its entry is in the table, which is short, and it leads to a site
+slot : (n d i e : ℕ) → i < n → e < d → i * d + e < n * d
 slot n d i e hi he = omega (arith, mul-le-mul-right d hi, suc-mul i d)
 
--- and the table is short
-pub table-short : (n d : ℕ) → n ≤ 4096 → d ≤ 4 → n * d ≤ 16384
-table-short n d hn hd = le-trans (mul-le-mul-right d hn) (mul-le-mul-left 4096 hd)
+pub record Place (n d : ℕ) (fwd : List ℕ) (i e : ℕ) : Type 0 where
+  pub entry : i * d + e < n * d
+  pub short : n * d ≤ 16384
+  pub ahead : getD fwd (i * d + e) 0 < n
+
+short-table : {n d : ℕ} {fwd : List ℕ} → Forward n d fwd → n * d ≤ 16384
+short-table {n} {d} h = le-trans (mul-le-mul-right d (h .sites)) (mul-le-mul-left 4096 (h .directions))
+
+pub place : {n d : ℕ} {fwd : List ℕ} → Forward n d fwd → (i e : ℕ) → i < n → e < d → Place n d fwd i e
+place {n} {d} h i e hi he = record { entry = slot n d i e hi he; short = short-table h; ahead = h .inside i e hi he }
+
+pub base-short : {n d : ℕ} {fwd : List ℕ} → Forward n d fwd → (i : ℕ) → i < n → i * d ≤ 16384
+base-short {n} {d} h i hi = le-trans (mul-le-mul-right d (le-of-lt hi)) (short-table h)
 
 -- ---- a row
 pub row-none : (base : ℕ) (f : ℕ → Bool) (xs : List ℕ) → Row base 0 f xs xs

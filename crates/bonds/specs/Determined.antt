@@ -14,7 +14,7 @@ use Rattle.paper.specs.declared.BondKind.{BondKind}
 use Rattle.paper.specs.Site.Bonds.{kindOf, blueHolds, greyHolds}
 use Rattle.paper.specs.Component.Marks.{Marks}
 use Rattle.columns.specs.Column.{shown}
-use Rattle.bonds.specs.Table.{bothActing}
+use Rattle.bonds.specs.Table.{CmrOut, bothActing}
 
 some-directions : (n d k : ℕ) → k < n * d → 0 < d
 some-directions n zero k h = absurd (omega (arith, mul-zero n))
@@ -42,3 +42,12 @@ draw-grey-determined kind s cut r r′ p q = p ∙ sym q
 module _ (n d : ℕ) (fwd acts : List ℕ) where
   pub active-bonds-determined : (xs ys : List ℕ) → Marks n d (bothActing d fwd acts) xs → Marks n d (bothActing d fwd acts) ys → xs ≡ ys
   active-bonds-determined xs ys = marks-same
+
+-- both lent tables
+pub record SameTables (bs gs bs′ gs′ : List ℕ) : Type 0 where
+  pub blue : bs ≡ bs′
+  pub grey : gs ≡ gs′
+
+module _ (n d : ℕ) (fwd : List ℕ) (couplings : List ℤ) (cuts : List Float) (s : Sampler) (cols : List ℕ) where
+  pub cmr-bonds-determined : (bs gs bs′ gs′ : List ℕ) → CmrOut n d fwd couplings cuts s cols bs gs → CmrOut n d fwd couplings cuts s cols bs′ gs′ → SameTables bs gs bs′ gs′
+  cmr-bonds-determined bs gs bs′ gs′ p q = record { blue = marks-same (p .blue) (q .blue); grey = marks-same (p .grey) (q .grey) }

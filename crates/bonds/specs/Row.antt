@@ -16,3 +16,8 @@ pub record Row (base m : ℕ) (f : ℕ → Bool) (xs ys : List ℕ) : Type 0 whe
 -- from `from` on each byte is 0
 abbrev pub Blank : ℕ → List ℕ → Type 0
 Blank from xs = (k : ℕ) → from ≤ k → getD xs k 0 ≡ 0
+
+-- both tables of CMR, after m bonds of one site
+pub record BothRows (base m : ℕ) (f g : ℕ → Bool) (bs gs bs′ gs′ : List ℕ) : Type 0 where
+  pub blue : Row base m f bs bs′
+  pub grey : Row base m g gs gs′

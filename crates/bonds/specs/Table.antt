@@ -34,6 +34,13 @@ pub record ActiveIn (n d : ℕ) (fwd acts holds : List ℕ) : Type 0 where
   pub acts-long : length acts ≡ n
   pub holds-long : length holds ≡ n * d
 
+pub record CmrIn (n d : ℕ) (fwd : List ℕ) (couplings : List ℤ) (cuts : List Float) (cols blue grey : List ℕ) : Type 0 where
+  pub forward : Forward n d fwd
+  pub coupled : Coupled n d couplings cuts
+  pub cols-long : length cols ≡ n
+  pub blue-long : length blue ≡ n * d
+  pub grey-long : length grey ≡ n * d
+
 -- the site i acts: its byte is 1
 pub record Acts (n : ℕ) (acts : List ℕ) (i : ℕ) : Type 0 where
   pub below : i < n
@@ -47,3 +54,18 @@ acting acts i = eqb (getD acts i 0) 1
 
 abbrev pub bothActing : ℕ → List ℕ → List ℕ → ℕ → ℕ → Bool
 bothActing d fwd acts i e = acting acts i && acting acts (getD fwd (i * d + e) 0)
+
+-- CMR: the kind of the bond (i, e), and whether it is drawn blue, and blue or red
+abbrev pub kindAt : ℕ → List ℕ → List ℤ → List ℕ → ℕ → ℕ → BondKind
+kindAt d fwd couplings cols i e =
+    kindOf (getD couplings (i * d + e) (pos 0)) (shown (getD cols i 0)) (shown (getD cols (getD fwd (i * d + e) 0) 0))
+
+abbrev pub blueAt : ℕ → List ℕ → List ℤ → List Float → Sampler → List ℕ → ℕ → ℕ → Bool
+blueAt d fwd couplings cuts s cols i e = blueHolds (kindAt d fwd couplings cols i e) s (getD cuts (i * d + e) nan)
+
+abbrev pub greyAt : ℕ → List ℕ → List ℤ → List Float → Sampler → List ℕ → ℕ → ℕ → Bool
+greyAt d fwd couplings cuts s cols i e = greyHolds (kindAt d fwd couplings cols i e) s (getD cuts (i * d + e) nan)
+
+pub record CmrOut (n d : ℕ) (fwd : List ℕ) (couplings : List ℤ) (cuts : List Float) (s : Sampler) (cols bs gs : List ℕ) : Type 0 where
+  pub blue : Marks n d (blueAt d fwd couplings cuts s cols) bs
+  pub grey : Marks n d (greyAt d fwd couplings cuts s cols) gs

@@ -6,8 +6,8 @@ ghost use lib.IntN.{natAbs, _*ℤ_};
 ghost use Rattle.paper.specs.Site.Bonds.{whole, drawn, kindOf, blueHolds, greyHolds};
 ghost use Rattle.paper.specs.Component.Marks.{Marks};
 ghost use Rattle.columns.specs.Column.{sign, shown};
-ghost use Rattle.bonds.specs.Table.{ActiveIn, Acts, bothActing};
-ghost use Rattle.bonds.specs.Row.{Row, Blank};
+ghost use Rattle.bonds.specs.Table.{ActiveIn, CmrIn, CmrOut, Acts, bothActing, blueAt, greyAt};
+ghost use Rattle.bonds.specs.Row.{Row, BothRows, Blank};
 use paper::BondKind;
 use paper::Sampler;
 
@@ -123,5 +123,56 @@ pub fn draw_grey(kind: BondKind, sampler: Sampler, cut: f32) -> bool
         BondKind::None => false,
         BondKind::Blue(w) => is_drawn(sampler.four, w, cut),
         BondKind::Red(w) => is_drawn(sampler.two, w, cut),
+    }
+}
+
+// The bonds of site i.
+fn cmr_site(
+    i: usize,
+    n: usize,
+    d: usize,
+    fwd: &[u32],
+    couplings: &[i32],
+    cuts: &[f32],
+    sampler: Sampler,
+    cols: &[u8],
+    blue: &mut [u8],
+    grey: &mut [u8],
+)
+    requires { ⌜ CmrIn n d (now fwd) (now couplings) (now cuts) (now cols) (now blue) (now grey) ⌝ }
+    requires { ⌜ i < n ⌝ }
+    ensures { λ _. ⌜ BothRows (i * d) d
+        (blueAt d (now (fwd .entry)) (now (couplings .entry)) (now (cuts .entry)) sampler (now (cols .entry)) i)
+        (greyAt d (now (fwd .entry)) (now (couplings .entry)) (now (cuts .entry)) sampler (now (cols .entry)) i)
+        (now (blue .entry)) (now (grey .entry)) (now (blue .exit)) (now (grey .exit)) ⌝ }
+{
+    let base = i * d;
+    let col = cols[i];
+    for e in 0..d {
+        let b = base + e;
+        let kind = classify(col, cols[wide(fwd[b])], couplings[b]);
+        blue[b] = draw_blue(kind, sampler, cuts[b]) as u8;
+        grey[b] = draw_grey(kind, sampler, cuts[b]) as u8;
+    }
+}
+
+// Every site takes part.
+pub fn cmr_bonds(
+    n: usize,
+    d: usize,
+    fwd: &[u32],
+    couplings: &[i32],
+    cuts: &[f32],
+    sampler: Sampler,
+    cols: &[u8],
+    blue: &mut [u8],
+    grey: &mut [u8],
+)
+    requires { ⌜ CmrIn n d (now fwd) (now couplings) (now cuts) (now cols) (now blue) (now grey) ⌝ }
+    ensures { λ _. ⌜ CmrOut n d (now (fwd .entry)) (now (couplings .entry)) (now (cuts .entry)) sampler
+        (now (cols .entry)) (now (blue .exit)) (now (grey .exit)) ⌝ }
+{
+    for i in 0..n {
+        cmr_site(i, n, d, fwd, couplings, cuts, sampler, cols, blue, grey);
     }
 }

@@ -2,13 +2,13 @@
 use Prim.Native.Nat.{ℕ, _+_, _*_, _≤_, _<_, _-_}
 use mathlib.Core.Path.{_≡_, refl, ap, _∙_}
 use mathlib.Core.Bool.{Bool, false}
-use native.Mathlib.Nat.{le-antisymm, le-of-lt, mul-le-mul-right}
+use native.Mathlib.Nat.{le-antisymm}
 use native.Mathlib.Omega.{arith}
 use lib.ListN.{length, getD}
 use Rattle.paper.specs.Component.Sizes.{bit}
-use Rattle.bonds.specs.Table.{ActiveIn, acting, bothActing}
+use Rattle.bonds.specs.Table.{acting, bothActing}
 use Rattle.bonds.specs.Row.{Row}
-use Rattle.bonds.proofs.Rows.{slot, table-short, row-none, row-more}
+use Rattle.bonds.proofs.Rows.{Place, place, base-short, row-none, row-more}
 use borrow.Author.Needs.{needs}
 use Rattle.bonds.proofs.active_site.Statement.{statement}
 use Rattle.bonds.proofs.active_site.Tie as tie
@@ -19,38 +19,27 @@ Inv-loop i n d fwd acts holds₀ base e₀ holds e = (e ≤ d) × Row (i * d) e 
 abbrev μ-loop : tie.MeasureT-loop
 μ-loop i n d fwd acts holds₀ base e₀ holds e = d - e
 
-module _ (s : tie.Start Inv-loop μ-loop) where
-  abbrev lent : ActiveIn (s .args .n) (s .args .d) (s .args .fwd .now) (s .args .acts .now) (s .args .holds .now)
-  lent = s .pre .0
-
-  -- the bond's entry is in the table, which is short
-  entry : (e : ℕ) → e < s .args .d → s .args .i * s .args .d + e < s .args .n * s .args .d
-  entry e h = slot (s .args .n) (s .args .d) (s .args .i) e (s .pre .1 .below) h
-
-  short : s .args .n * s .args .d ≤ 16384
-  short = table-short (s .args .n) (s .args .d) (lent .forward .sites) (lent .forward .directions)
-
-  -- what is written: the byte of the other end
-  right : (e : ℕ) → acting (s .args .acts .now) (getD (s .args .fwd .now) (s .args .i * s .args .d + e) 0) ≡ bothActing (s .args .d) (s .args .fwd .now) (s .args .acts .now) (s .args .i) e
-  right e = rw (s .pre .1 .does)
-
 abbrev of-turn : tie.In-loop Inv-loop μ-loop → tie.Start Inv-loop μ-loop
 of-turn c = c .before .before .before .before .before
 
-at : (c : tie.In-loop Inv-loop μ-loop) → of-turn c .args .i * of-turn c .args .d + c .before .loop .e < of-turn c .args .n * of-turn c .args .d
-at c = entry (of-turn c) (c .before .loop .e) (c .loop-test .taken)
+at : (c : tie.In-loop Inv-loop μ-loop) → (let a = of-turn c .args in Place (a .n) (a .d) (a .fwd .now) (a .i) (c .before .loop .e))
+at c = let s = of-turn c in place (s .pre .0 .forward) (s .args .i) (c .before .loop .e) (s .pre .1 .below) (c .loop-test .taken)
+
+-- the site acts, so the other end decides
+right : (s : tie.Start Inv-loop μ-loop) (e : ℕ) → (let a = s .args in acting (a .acts .now) (getD (a .fwd .now) (a .i * a .d + e) 0) ≡ bothActing (a .d) (a .fwd .now) (a .acts .now) (a .i) e)
+right s e = rw (s .pre .1 .does)
 
 mul-base : tie.Need-mul-base Inv-loop μ-loop
-mul-base c = let s = c .before .before .before in omega (arith, short s, mul-le-mul-right (s .args .d) (le-of-lt (s .pre .1 .below)))
+mul-base c = let s = c .before .before .before in omega (arith, base-short (s .pre .0 .forward) (s .args .i) (s .pre .1 .below))
 
 loop-holds : tie.Need-loop-holds Inv-loop μ-loop
 loop-holds c = (omega arith, row-none _ _ _)
 
 add-b : tie.Need-add-b Inv-loop μ-loop
-add-b c = omega (arith, at c, short (of-turn c))
+add-b c = omega (arith, at c)
 
 mul-wide : tie.Need-mul-wide Inv-loop μ-loop
-mul-wide c = omega (arith, at c, short (of-turn c))
+mul-wide c = omega (arith, at c)
 
 shared-slice-read-wide : tie.Need-shared-slice-read-wide Inv-loop μ-loop
 shared-slice-read-wide c = omega (arith, at (c .before))
@@ -59,9 +48,7 @@ wide-requires : tie.Need-wide-requires Inv-loop μ-loop
 wide-requires c κs = search needs
 
 shared-slice-read-holds : tie.Need-shared-slice-read-holds Inv-loop μ-loop
-shared-slice-read-holds c =
-    let t = c .before .before .before in
-    omega (arith, c .before .wide .ensures, lent (of-turn t) .forward .inside _ (t .before .loop .e) (of-turn t .pre .1 .below) (t .loop-test .taken))
+shared-slice-read-holds c = omega (arith, c .before .wide .ensures, at (c .before .before .before))
 
 cast-holds : tie.Need-cast-holds Inv-loop μ-loop
 cast-holds c = search needs

@@ -1,0 +1,73 @@
+-- `bonds::cmr_bonds` meets its contract. Assumes nothing.
+use Prim.Native.Nat.{ℕ, _≤_, _-_}
+use mathlib.Core.Path.{_≡_, sym, _∙_}
+use native.Mathlib.Nat.{le-antisymm}
+use native.Mathlib.Omega.{arith}
+use borrow.Author.Needs.{needs}
+use Rattle.bonds.specs.Table.{CmrIn, blueAt, greyAt}
+use Rattle.bonds.proofs.Rows.{Begun, begun-none, begun-more, begun-all}
+use Rattle.bonds.proofs.cmr_bonds.Statement.{statement}
+use Rattle.bonds.proofs.cmr_bonds.Tie as tie
+
+abbrev Inv-loop : tie.InvT-loop
+Inv-loop n d fwd couplings cuts sampler cols blue₀ grey₀ i₀ blue grey i =
+    (i ≤ n) × Begun n d (blueAt d fwd couplings cuts sampler cols) i blue × Begun n d (greyAt d fwd couplings cuts sampler cols) i grey
+
+abbrev μ-loop : tie.MeasureT-loop
+μ-loop n d fwd couplings cuts sampler cols blue₀ grey₀ i₀ blue grey i = n - i
+
+abbrev of-turn : tie.In-loop Inv-loop μ-loop → tie.Start Inv-loop μ-loop
+of-turn c = c .before .before .before .before .before .before .before
+
+loop-holds : tie.Need-loop-holds Inv-loop μ-loop
+loop-holds c =
+    let s = c .before .before .before .before .before in
+    (omega arith, begun-none _ _ _ _ (s .pre .blue-long), begun-none _ _ _ _ (s .pre .grey-long))
+
+cmr-site-requires : tie.Need-cmr-site-requires Inv-loop μ-loop
+cmr-site-requires c κs =
+    let t = c .before .before in
+    let h = of-turn t .pre in
+    let inv = t .before .loop .inv in
+    (record { forward = h .forward; coupled = h .coupled; cols-long = h .cols-long; blue-long = inv .1 .long; grey-long = inv .2 .long }, t .loop-test .taken)
+
+add-i : tie.Need-add-i Inv-loop μ-loop
+add-i c = search needs
+
+loop-less : tie.Need-loop-less Inv-loop μ-loop
+loop-less c = search needs
+
+loop-again : tie.Need-loop-again Inv-loop μ-loop
+loop-again c =
+    let r = c .before .before .before .before in
+    let t = r .before .before .before in
+    let l = t .before .loop in
+    let rows = r .cmr-site .ensures in
+    (omega arith, begun-more _ _ _ (l .i) _ (l .inv .1) _ (rows .blue), begun-more _ _ _ (l .i) _ (l .inv .2) _ (rows .grey))
+
+same-length : tie.Need-same-length Inv-loop μ-loop
+same-length c = let s = c .before .before .before .before .before .before .before in c .before .loop .inv .1 .long ∙ sym (s .pre .blue-long)
+
+same-length-2 : tie.Need-same-length-2 Inv-loop μ-loop
+same-length-2 c = let s = c .before .before .before .before .before .before .before in c .before .loop .inv .2 .long ∙ sym (s .pre .grey-long)
+
+returns : tie.Need-returns Inv-loop μ-loop
+returns c =
+    let inv = c .before .loop .inv in
+    let all = le-antisymm (inv .0) (c .loop-test .left) in
+    record { blue = begun-all _ _ _ _ (rw all at (inv .1)); grey = begun-all _ _ _ _ (rw all at (inv .2)) }
+
+pub cmr-bonds-spec : {M : Type 1} → statement M
+cmr-bonds-spec =
+    tie.close
+    (tie.spec
+    Inv-loop
+    μ-loop
+    loop-holds
+    cmr-site-requires
+    add-i
+    loop-less
+    loop-again
+    same-length
+    same-length-2
+    returns)
