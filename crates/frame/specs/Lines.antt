@@ -14,10 +14,18 @@ use Rattle.frame.specs.Digits.{Digit, Digits, Below, not-feed, hex-lengt
 abbrev pub byteAt : List ℕ → ℕ → ℕ
 byteAt t p = 16 * digitValue (getD t p 0) + digitValue (getD t (p + 1) 0)
 
+-- the number whose two bytes stand at p
+abbrev pub wordAt : List ℕ → ℕ → ℕ
+wordAt t p = 256 * byteAt t p + byteAt t (p + 2)
+
 pub record TwoDigits (t : List ℕ) (p : ℕ) : Type 0 where
   pub inside : p + 1 < length t
   pub high : Digit (getD t p 0)
   pub low : Digit (getD t (p + 1) 0)
+
+pub record FourDigits (t : List ℕ) (p : ℕ) : Type 0 where
+  pub first : TwoDigits t p
+  pub second : TwoDigits t (p + 2)
 
 -- from the place a to e there are digits; and they end at e
 pub record DigitsTo (t : List ℕ) (a e : ℕ) : Type 0 where

@@ -2,10 +2,12 @@
 ghost use mathlib.Core.Path.{_≡_};
 ghost use Prim.Native.Nat.{_+_, _*_, _≤_, _<_};
 ghost use lib.ListN.{length, drop};
+ghost use mathlib.Core.List.{_++_, map};
 ghost use Rattle.paper.specs.Component.Marks.{Tells};
+ghost use Rattle.paper.specs.Answer.Frame.{bytes, words, signed, Frame, FrameSizes};
 ghost use Rattle.frame.specs.Digits.{Digit, Valued};
-ghost use Rattle.frame.specs.Lines.{byteAt, TwoDigits, DigitsEnd};
-ghost use Rattle.frame.specs.Found.{LineAt};
+ghost use Rattle.frame.specs.Lines.{byteAt, wordAt, TwoDigits, FourDigits, DigitsEnd};
+ghost use Rattle.frame.specs.Found.{LineAt, Lent};
 
 // A line at a place of the text: no frame of the tag asked for, or one of so many bytes behind the tag.
 enum Line {
@@ -82,4 +84,70 @@ fn line_at(text: &[u8], at: usize, tag: u8) -> Line
         return Line::Bad;
     }
     Line::Good(w - 1)
+}
+
+// The line is there and has m bytes behind its tag.
+fn framed(text: &[u8], at: usize, tag: u8, m: usize) -> bool
+    requires { ⌜ at ≤ length (now text) ⌝ }
+    ensures { λ r. ⌜ Tells r (Frame tag m (drop at (now (text .entry)))) ⌝ }
+{
+    let Line::Good(count) = line_at(text, at, tag) else {
+        return false;
+    };
+    if count != m {
+        return false;
+    }
+    true
+}
+
+fn word_at(text: &[u8], p: usize) -> u32
+    requires { ⌜ FourDigits (now text) p ⌝ }
+    ensures { λ r. ⌜ r ≡ wordAt (now (text .entry)) p ⌝ }
+{
+    let high = byte_at(text, p);
+    let low = byte_at(text, p + 2);
+    256 * (high as u32) + (low as u32)
+}
+
+fn spin_of(b: u8) -> i8
+    ensures { λ r. ⌜ r ≡ signed b ⌝ }
+{
+    if b < 128 {
+        b as i8
+    } else {
+        -1 - ((255 - b) as i8)
+    }
+}
+
+fn fill_spins(text: &[u8], at: usize, count: usize, spins: &mut [i8])
+    requires { ⌜ Lent 0x11 count (drop at (now text)) count (length (now spins)) ⌝ }
+    ensures { λ _. ⌜ now (spins .exit) ≡ map signed (bytes (drop at (now (text .entry)))) ++ drop count (now (spins .entry)) ⌝ }
+{
+    let mut k = 0;
+    while k < count {
+        spins[k] = spin_of(byte_at(text, at + 2 * k + 2));
+        k += 1;
+    }
+}
+
+fn fill_words(text: &[u8], at: usize, count: usize, fwd: &mut [u32])
+    requires { ⌜ Lent 0x12 (2 * count) (drop at (now text)) count (length (now fwd)) ⌝ }
+    ensures { λ _. ⌜ now (fwd .exit) ≡ words (bytes (drop at (now (text .entry)))) ++ drop count (now (fwd .entry)) ⌝ }
+{
+    let mut k = 0;
+    while k < count {
+        fwd[k] = word_at(text, at + 4 * k + 2);
+        k += 1;
+    }
+}
+
+fn fill_bytes(text: &[u8], at: usize, count: usize, perms: &mut [u8])
+    requires { ⌜ Lent 0x14 count (drop at (now text)) count (length (now perms)) ⌝ }
+    ensures { λ _. ⌜ now (perms .exit) ≡ bytes (drop at (now (text .entry))) ++ drop count (now (perms .entry)) ⌝ }
+{
+    let mut k = 0;
+    while k < count {
+        perms[k] = byte_at(text, at + 2 * k + 2);
+        k += 1;
+    }
 }
