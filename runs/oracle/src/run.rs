@@ -1,0 +1,326 @@
+//! Drives the published `overlap_update` over one sweep whose areas are laid out as the port's.
+use crate::clusters::overlap::overlap_update;
+use crate::config::{ClusterAction, ClusterMode, OverlapClusterBuildMode};
+use crate::geometry::Lattice;
+use crate::{Branch, Xoshiro256StarStar};
+use calls::{Form, Mode, Step, Sweep};
+
+/// What the published Rust is handed for one sweep, and its outputs. Slots are the Rust's, t * (r / 2) + g.
+pub struct Prepared {
+    lattice: Lattice,
+    couplings: Vec<f32>,
+    temperatures: Vec<f32>,
+    system_ids: Vec<usize>,
+    active_temps: Vec<bool>,
+    n_replicas: usize,
+    n_temps: usize,
+    members: usize,
+    mode: Mode,
+    form: Form,
+    branch: Branch,
+    sources: Vec<Xoshiro256StarStar>,
+    counts: Vec<Vec<u64>>,
+    top4: Vec<[u32; 4]>,
+    labels: Vec<Vec<u32>>,
+    blue_labels: Vec<Vec<u32>>,
+}
+
+impl Prepared {
+    pub fn new(call: &Sweep, branch: Branch) -> Self {
+        let mut prepared = Self::unfilled(call, branch);
+        if call.form == Form::Sw {
+            prepared.queue_by_smallest_sites(call);
+        }
+        prepared
+    }
+
+    /// All but the all-clusters choices, whose order in the queues is not known yet.
+    fn unfilled(call: &Sweep, branch: Branch) -> Self {
+        let slots = call.t * (call.r / 2);
+        let order = |k: usize, j: usize| call.order[j * call.r + k] as usize;
+        let mut prepared = Self {
+            lattice: Lattice::new(call.n, call.d, call.fwd, call.bwd),
+            couplings: call.couplings.iter().map(|&j| j as f32).collect(),
+            temperatures: call.temperatures.to_vec(),
+            system_ids: (0..call.r * call.t)
+                .map(|at| order(at / call.t, at % call.t))
+                .collect(),
+            active_temps: call.masks.iter().map(|&mask| mask == 0).collect(),
+            n_replicas: call.r,
+            n_temps: call.t,
+            members: call.members,
+            mode: call.mode,
+            form: call.form,
+            branch,
+            sources: vec![Xoshiro256StarStar::default(); slots],
+            counts: vec![vec![0; call.n + 1]; slots],
+            top4: vec![[0; 4]; slots],
+            labels: vec![Vec::new(); slots],
+            blue_labels: vec![Vec::new(); slots],
+        };
+        for (task, slot) in prepared.unmasked() {
+            prepared.sources[slot] = by_turn(call, task);
+        }
+        prepared
+    }
+
+    /// Task numbers of the port with the Rust's slots, masked temperatures left out.
+    fn unmasked(&self) -> Vec<(usize, usize)> {
+        let groups = self.n_replicas / self.members;
+        let pairs = self.n_replicas / 2;
+        (0..self.n_temps * groups)
+            .filter(|task| self.active_temps[task / groups])
+            .map(|task| (task, task / groups * pairs + task % groups))
+            .collect()
+    }
+
+    /// A scouting run on a copy of the spins tells from the Rust itself which components draw: its labels, and for
+    /// permutations the acting sites, which are those that a rotation by one place changes.
+    fn queue_by_smallest_sites(&mut self, call: &Sweep) {
+        let n = call.n;
+        self.sources
+            .iter_mut()
+            .for_each(|source| source.scout = true);
+        let mut spins = call.spins.to_vec();
+        self.run(&mut spins, true);
+        for (task, slot) in self.unmasked() {
+            let first = self.blue_or_only(slot);
+            let acting = self.changed(call, task, &spins);
+            let source = &mut self.sources[slot];
+            let scouted = source.taken;
+            if call.mode.permutes() {
+                for i in (0..n).filter(|&i| first[i] == i && acting[i]) {
+                    let at = (task * n + i) * call.members;
+                    source
+                        .perms
+                        .extend_from_slice(&call.perms[at..at + call.members]);
+                }
+            } else {
+                let flipped = first_of_two_or_more(&first);
+                source.flips = flipped.map(|i| call.flips[task * n + i]).collect();
+            }
+            if call.mode == Mode::Cmr {
+                let grey = smallest_sites(&self.labels[slot]);
+                let flipped = first_of_two_or_more(&grey);
+                source.greys = flipped.map(|i| call.greys[task * n + i]).collect();
+            }
+            source.taken = scouted;
+            assert!(
+                source.used_up(call.members),
+                "the Rust draws at other components than it labels"
+            );
+            source.scout = false;
+        }
+    }
+
+    fn blue_or_only(&self, slot: usize) -> Vec<usize> {
+        smallest_sites(match self.mode {
+            Mode::Cmr => &self.blue_labels[slot],
+            _ => &self.labels[slot],
+        })
+    }
+
+    fn changed(&self, call: &Sweep, task: usize, now: &[i8]) -> Vec<bool> {
+        let groups = call.r / call.members;
+        let from = task / groups * call.r + task % groups * call.members;
+        let group = &call.order[from..from + call.members];
+        (0..call.n)
+            .map(|i| {
+                group.iter().any(|&system| {
+                    let at = system as usize * call.n + i;
+                    now[at] != call.spins[at]
+                })
+            })
+            .collect()
+    }
+
+    pub fn run(&mut self, spins: &mut [i8], sequential: bool) {
+        for source in &mut self.sources {
+            source.taken = Default::default();
+        }
+        let labelled = self.branch == Branch::UnionFind;
+        for counts in self.counts.iter_mut().filter(|_| labelled) {
+            counts.fill(0); // The published histogram adds.
+        }
+        let build_mode = match self.mode {
+            Mode::Houd => OverlapClusterBuildMode::Houdayer(self.members),
+            Mode::Pair => OverlapClusterBuildMode::Pair(self.members),
+            Mode::Perm => OverlapClusterBuildMode::Perm(self.members),
+            Mode::Gperm => OverlapClusterBuildMode::GaugedPerm(self.members),
+            Mode::Jorg => OverlapClusterBuildMode::Jorg(self.members),
+            Mode::Cmr => OverlapClusterBuildMode::Cmr,
+        };
+        overlap_update(
+            &self.lattice,
+            spins,
+            &self.couplings,
+            &self.temperatures,
+            &self.system_ids,
+            self.n_replicas,
+            self.n_temps,
+            &self.active_temps,
+            &mut self.sources,
+            &build_mode,
+            match self.form {
+                Form::Wolff => ClusterMode::Wolff,
+                _ => ClusterMode::Sw,
+            },
+            match self.form {
+                Form::Observe => ClusterAction::Observe,
+                _ => ClusterAction::Update,
+            },
+            labelled.then_some(&mut self.counts[..]),
+            labelled.then_some(&mut self.top4[..]),
+            None,
+            sequential,
+            labelled.then_some(&mut self.labels[..]),
+            labelled.then_some(&mut self.blue_labels[..]),
+            None,
+            None,
+        );
+    }
+
+    /// The outputs in the port's layout, labels renamed to smallest sites. Masked areas stay as they are.
+    fn write(&self, call: &mut Sweep) {
+        let n = call.n;
+        for (task, slot) in self.unmasked() {
+            let labels = self.blue_or_only(slot);
+            copy(&mut call.labels[task * n..], &labels);
+            if self.mode == Mode::Cmr && self.form != Form::Observe {
+                let grey = smallest_sites(&self.labels[slot]);
+                copy(&mut call.grey_labels[task * n..], &grey);
+            }
+            for (count, &rust) in call.counts[task * (n + 1)..]
+                .iter_mut()
+                .zip(&self.counts[slot])
+            {
+                *count = rust as u32;
+            }
+            call.sizes[task * 4..task * 4 + 4].copy_from_slice(&self.top4[slot]);
+        }
+    }
+}
+
+/// The choices whose turn does not depend on the components.
+fn by_turn(call: &Sweep, task: usize) -> Xoshiro256StarStar {
+    let mut source = Xoshiro256StarStar::default();
+    if call.mode.draws() {
+        let bonds = call.n * call.d;
+        source.cuts = call.cuts[task * bonds..(task + 1) * bonds].to_vec();
+    }
+    if call.mode == Mode::Gperm {
+        source.sites.push(call.references[task] as usize);
+    }
+    if call.form == Form::Wolff {
+        source.sites.push(call.seeds[task] as usize);
+        if call.mode.permutes() {
+            let at = task * call.members;
+            source.perms = call.perms[at..at + call.members].to_vec();
+        }
+        if call.mode == Mode::Cmr {
+            source.greys = vec![call.greys[task]];
+        }
+    }
+    source
+}
+
+/// Renames the published roots: each site's label becomes the smallest site with its root.
+fn smallest_sites(roots: &[u32]) -> Vec<usize> {
+    let mut smallest = vec![usize::MAX; roots.len()];
+    for (i, &root) in roots.iter().enumerate() {
+        let found = &mut smallest[root as usize];
+        *found = i.min(*found);
+    }
+    roots.iter().map(|&root| smallest[root as usize]).collect()
+}
+
+fn first_of_two_or_more(labels: &[usize]) -> impl Iterator<Item = usize> {
+    let mut sizes = vec![0usize; labels.len()];
+    labels.iter().for_each(|&label| sizes[label] += 1);
+    (0..labels.len()).filter(move |&i| sizes[i] > 1)
+}
+
+fn copy(to: &mut [u32], labels: &[usize]) {
+    for (to, &label) in to.iter_mut().zip(labels) {
+        *to = label as u32;
+    }
+}
+
+/// Runs a sweep that document 01 accepts. In the one-cluster form the answer says which tasks found no acting site,
+/// by task number; a seed that acts is found at its first probe.
+pub fn sweep(mut call: Sweep, branch: Branch, sequential: bool) -> Vec<bool> {
+    let mut prepared = Prepared::new(&call, branch);
+    prepared.run(call.spins, sequential);
+    let mut none_acts = vec![false; call.t * (call.r / call.members)];
+    for (task, slot) in prepared.unmasked() {
+        let source = &prepared.sources[slot];
+        let probes = source.taken.sites - usize::from(call.mode == Mode::Gperm);
+        none_acts[task] = call.form == Form::Wolff && call.mode != Mode::Cmr && probes == 64;
+        assert!(
+            none_acts[task] || source.used_up(call.members),
+            "the Rust left a lent choice"
+        );
+    }
+    if branch == Branch::UnionFind {
+        prepared.write(&mut call);
+    }
+    none_acts
+}
+
+/// A single move is a sweep of one group at one temperature.
+fn with_sweep<T>(call: Step, run: impl FnOnce(Sweep) -> T) -> T {
+    run(Sweep {
+        mode: call.mode,
+        form: call.form,
+        n: call.n,
+        d: call.d,
+        s: call.s,
+        t: 1,
+        r: call.group.len(),
+        members: call.group.len(),
+        spins: call.spins,
+        fwd: call.fwd,
+        bwd: call.bwd,
+        couplings: call.couplings,
+        order: call.group,
+        masks: &[0],
+        temperatures: &[call.temperature],
+        cuts: call.cuts,
+        references: &[call.reference as u32],
+        seeds: &[call.seed as u32],
+        flips: call.flips,
+        perms: call.perms,
+        greys: call.greys,
+        labels: call.labels,
+        grey_labels: call.grey_labels,
+        counts: call.counts,
+        sizes: call.sizes,
+    })
+}
+
+/// Runs a move that document 01 accepts; see `sweep` for the answer.
+pub fn step(call: Step, branch: Branch) -> bool {
+    with_sweep(call, |call| sweep(call, branch, true))[0]
+}
+
+/// The sites at which the published `is_active` answers yes: each is handed to the seed search as its probe, and
+/// the search stops at once exactly if the site acts. Not for CMR, which searches no seed.
+pub fn active(call: &Step) -> Vec<bool> {
+    let rotation: Vec<u8> = (1..call.group.len() as u8).chain([0]).collect();
+    (0..call.n)
+        .map(|seed| {
+            let probe = Step {
+                form: Form::Wolff,
+                spins: &mut call.spins.to_vec(),
+                perms: &rotation,
+                seed,
+                labels: &mut [],
+                grey_labels: &mut [],
+                counts: &mut [],
+                sizes: &mut [],
+                ..*call
+            };
+            !step(probe, Branch::DepthFirst)
+        })
+        .collect()
+}

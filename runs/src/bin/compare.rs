@@ -1,0 +1,128 @@
+//! compare [cases] [seed]: the model of document 01, the published Rust and the port on the same random calls.
+//!
+//! `cases` is the number of single moves, and of sweeps, for each mode and form (default 2000). Each is also damaged;
+//! damaged calls go to the model and the port alone, since the Rust checks nothing.
+use calls::{Form, Mode, Port};
+use std::process::ExitCode;
+use tsorvenk_runs::compare::{self, keep, Found, Line};
+use tsorvenk_runs::make::{self, Size};
+use tsorvenk_runs::rand::Rand;
+use tsorvenk_runs::{damage, port};
+
+struct Run {
+    cases: u64,
+    seed: u64,
+    port: Option<Box<dyn Port>>,
+    smallest: Option<Found>,
+}
+
+impl Run {
+    /// A generator for each case, so that any of them can be made again by itself.
+    fn rand(&self, mode: Mode, form: Form, kind: u64, case: u64) -> Rand {
+        Rand::of(&[self.seed, mode as u64, form as u64, kind, case])
+    }
+
+    fn note(&mut self, found: Option<Found>) {
+        if let Some(found) = found {
+            keep(&mut self.smallest, found);
+        }
+    }
+
+    fn single(&mut self, mode: Mode, form: Form, number: u64, line: &mut Line) {
+        let mut rand = self.rand(mode, form, 0, number);
+        let size = Size::mixed(&mut rand);
+        let mut case = make::single(&mut rand, mode, form, size);
+        let found = compare::single(&case, self.port.as_mut(), line);
+        self.note(found);
+        if let Some(port) = self.port.as_mut() {
+            let bonds = case.panel.n * case.panel.d;
+            let holds: Vec<u8> = (0..bonds).map(|_| rand.range(0, 1) as u8).collect();
+            let found = compare::labelling(&case, &holds, port.as_mut(), line);
+            self.note(found);
+        }
+        damage::single(&mut rand, &mut case);
+        let found = compare::damaged_single(&case, self.port.as_mut(), line);
+        self.note(found);
+    }
+
+    fn sweep(&mut self, mode: Mode, form: Form, number: u64, line: &mut Line) {
+        let mut rand = self.rand(mode, form, 1, number);
+        let size = Size::mixed(&mut rand);
+        let mut case = make::swept(&mut rand, mode, form, size);
+        let found = compare::swept(&case, self.port.as_mut(), line);
+        self.note(found);
+        damage::swept(&mut rand, &mut case);
+        let found = compare::damaged_sweep(&case, self.port.as_mut(), line);
+        self.note(found);
+    }
+
+    fn mode_and_form(&mut self, mode: Mode, form: Form) -> Line {
+        let mut line = Line::default();
+        for number in 0..self.cases {
+            self.single(mode, form, number, &mut line);
+            self.sweep(mode, form, number, &mut line);
+        }
+        line
+    }
+}
+
+fn print(mode: Mode, form: Form, line: &Line) {
+    println!(
+        "{:5} {:7} singles {:6} sweeps {:6} | Rust: labelled {:6} depth first {:6} acting sites {:6} | odd N {:5} idle {:6} | port {:6} | damaged {:6} refused {:?} | differences {}",
+        mode.name(),
+        form.name(),
+        line.singles,
+        line.sweeps,
+        line.union_find,
+        line.depth_first,
+        line.acting,
+        line.odd,
+        line.idle,
+        line.port,
+        line.damaged,
+        &line.refused[1..],
+        line.differences,
+    );
+}
+
+fn main() -> ExitCode {
+    let mut words = std::env::args().skip(1).map(|word| word.parse());
+    let mut number = |default: u64| words.next().map_or(Ok(default), |parsed| parsed);
+    let (Ok(cases), Ok(seed)) = (number(2000), number(1)) else {
+        eprintln!("compare [cases] [seed]");
+        return ExitCode::from(2);
+    };
+    let port = port::linked();
+    match oracle::PRESENT {
+        true => println!("oracle: the published Rust, with lent choices"),
+        false => println!("oracle: left out, the published Rust was not found when this was built"),
+    }
+    match port {
+        Some(_) => println!("port: linked"),
+        None => println!("port: left out, its static library was not found when this was built"),
+    }
+    let mut run = Run {
+        cases,
+        seed,
+        port,
+        smallest: None,
+    };
+    let mut differences = 0;
+    for mode in Mode::ALL {
+        for form in Form::ALL {
+            let line = run.mode_and_form(mode, form);
+            print(mode, form, &line);
+            differences += line.differences;
+        }
+    }
+    match run.smallest {
+        None => {
+            println!("no difference");
+            ExitCode::SUCCESS
+        }
+        Some(found) => {
+            println!("{differences} differences; the smallest:\n{}", found.text);
+            ExitCode::FAILURE
+        }
+    }
+}

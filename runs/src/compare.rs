@@ -1,0 +1,311 @@
+//! One case, every side: what differs, as text.
+use crate::case::{Lent, Single, Swept};
+use crate::model::{self, Model};
+use calls::{Answer, Form, Label, Mode, Port, SweepAnswer};
+use oracle::Branch;
+use std::fmt::{Debug, Write};
+use std::panic::{catch_unwind, AssertUnwindSafe};
+
+/// How much was compared for one mode and form.
+#[derive(Default)]
+pub struct Line {
+    pub singles: usize,
+    pub sweeps: usize,
+    pub union_find: usize,
+    pub depth_first: usize,
+    pub acting: usize,
+    pub odd: usize,
+    pub idle: usize,
+    pub port: usize,
+    pub damaged: usize,
+    /// Damaged calls by the model's refusal number; entry 0 those that are accepted all the same.
+    pub refused: [usize; 11],
+    pub differences: usize,
+}
+
+/// A difference, with a measure of its case's size.
+pub struct Found {
+    pub weight: usize,
+    pub text: String,
+}
+
+/// Keeps the smallest.
+pub fn keep(smallest: &mut Option<Found>, found: Found) {
+    if smallest.as_ref().is_none_or(|s| found.weight < s.weight) {
+        *smallest = Some(found);
+    }
+}
+
+fn differ<T: PartialEq + Debug>(text: &mut String, what: &str, one: T, other: T) {
+    if one != other {
+        let _ = writeln!(text, "  {what}: {one:?}\n  against {other:?}");
+    }
+}
+
+fn differ_lent(text: &mut String, model: &Lent, other: &Lent) {
+    differ(text, "spins", &model.spins, &other.spins);
+    differ(text, "labels", &model.labels, &other.labels);
+    differ(text, "grey", &model.grey_labels, &other.grey_labels);
+    differ(text, "counts", &model.counts, &other.counts);
+    differ(text, "sizes", &model.sizes, &other.sizes);
+}
+
+/// Runs the published Rust; a panic is a difference too.
+fn rust<T>(text: &mut String, run: impl FnOnce() -> T) -> Option<T> {
+    let answer = catch_unwind(AssertUnwindSafe(run));
+    if answer.is_err() {
+        let _ = writeln!(text, "  the Rust panics");
+    }
+    answer.ok()
+}
+
+fn report(heading: &str, case: &impl Debug, text: &str) -> String {
+    format!("{heading}\n{text}  case: {case:?}\n")
+}
+
+/// Odd N is outside the published domain of these modes, though their steps take it.
+fn odd(mode: Mode, members: usize) -> bool {
+    matches!(mode, Mode::Houd | Mode::Pair | Mode::Jorg) && members % 2 == 1
+}
+
+fn single_weight(case: &Single) -> usize {
+    case.panel.n * (case.panel.d + case.panel.s)
+}
+
+fn single_oracle(case: &Single, answer: Answer, lent: &Lent, line: &mut Line) -> String {
+    let mut text = String::new();
+    let (mode, form) = (case.panel.mode, case.panel.form);
+    let mut branches = vec![Branch::UnionFind];
+    if form == Form::Wolff {
+        branches.push(Branch::DepthFirst);
+    }
+    for branch in branches {
+        let mut rust_lent = case.lent.clone();
+        let run = || oracle::step(case.step(&mut rust_lent), branch);
+        let Some(none_acts) = rust(&mut text, run) else {
+            continue;
+        };
+        match branch {
+            Branch::UnionFind => {
+                line.union_find += 1;
+                differ_lent(&mut text, lent, &rust_lent);
+            }
+            Branch::DepthFirst => {
+                line.depth_first += 1;
+                differ(&mut text, "depth first", &lent.spins, &rust_lent.spins);
+            }
+        }
+        if form == Form::Wolff {
+            differ(&mut text, "idle", answer == Answer::Idle, none_acts);
+        }
+    }
+    if mode != Mode::Cmr && case.panel.n <= 12 {
+        line.acting += 1;
+        let mut copy = case.lent.clone();
+        let call = case.step(&mut copy);
+        let ours = model::active(&call);
+        differ(
+            &mut text,
+            "idle",
+            answer == Answer::Idle,
+            !ours.contains(&true),
+        );
+        if let Some(theirs) = rust(&mut text, || oracle::active(&call)) {
+            differ(&mut text, "acting", ours, theirs);
+        }
+    }
+    text
+}
+
+fn single_port(case: &Single, answer: Answer, lent: &Lent, port: &mut dyn Port) -> String {
+    let mut text = String::new();
+    let (port_answer, port_lent) = case.run(port);
+    differ(&mut text, "answer", answer, port_answer);
+    differ_lent(&mut text, lent, &port_lent);
+    for system in [0, case.panel.s / 2, case.panel.s] {
+        let (ours, theirs) = (
+            Model.energy(case.meter(system)),
+            port.energy(case.meter(system)),
+        );
+        differ(&mut text, "energy", ours, theirs);
+    }
+    text
+}
+
+/// A good single move on every side.
+pub fn single(case: &Single, port: Option<&mut Box<dyn Port>>, line: &mut Line) -> Option<Found> {
+    let (answer, lent) = case.run(&mut Model);
+    let mut text = String::new();
+    if let Answer::Refused(number) = answer {
+        let _ = writeln!(text, "  the model refuses a good call: {number}");
+    }
+    line.singles += 1;
+    line.odd += usize::from(odd(case.panel.mode, case.group.len()));
+    line.idle += usize::from(answer == Answer::Idle);
+    if oracle::PRESENT {
+        let found = single_oracle(case, answer, &lent, line);
+        if !found.is_empty() {
+            text += &report("single move, model against Rust", case, &found);
+        }
+    }
+    if let Some(port) = port {
+        line.port += 1;
+        let found = single_port(case, answer, &lent, port.as_mut());
+        if !found.is_empty() {
+            text += &report("single move, model against port", case, &found);
+        }
+    }
+    found(text, single_weight(case), line)
+}
+
+fn found(text: String, weight: usize, line: &mut Line) -> Option<Found> {
+    line.differences += usize::from(!text.is_empty());
+    (!text.is_empty()).then_some(Found { weight, text })
+}
+
+fn sweep_oracle(case: &Swept, answer: SweepAnswer, lent: &Lent, line: &mut Line) -> String {
+    let mut text = String::new();
+    let wolff = case.panel.form == Form::Wolff;
+    let mut runs = vec![(Branch::UnionFind, true), (Branch::UnionFind, false)];
+    if wolff {
+        runs.extend([(Branch::DepthFirst, true), (Branch::DepthFirst, false)]);
+    }
+    for (branch, sequential) in runs {
+        let mut rust_lent = case.lent.clone();
+        let run = || oracle::sweep(case.sweep(&mut rust_lent), branch, sequential);
+        let Some(none_acts) = rust(&mut text, run) else {
+            continue;
+        };
+        match branch {
+            Branch::UnionFind => {
+                line.union_find += 1;
+                differ_lent(&mut text, lent, &rust_lent);
+            }
+            Branch::DepthFirst => {
+                line.depth_first += 1;
+                differ(&mut text, "depth first", &lent.spins, &rust_lent.spins);
+            }
+        }
+        if let (true, SweepAnswer::Swept { idle, .. }) = (wolff, answer) {
+            let theirs = none_acts.iter().filter(|&&none| none).count();
+            differ(&mut text, "idle tasks", idle as usize, theirs);
+        }
+    }
+    text
+}
+
+/// A good sweep on every side.
+pub fn swept(case: &Swept, port: Option<&mut Box<dyn Port>>, line: &mut Line) -> Option<Found> {
+    let (answer, lent) = case.run(&mut Model);
+    let mut text = String::new();
+    line.sweeps += 1;
+    line.odd += usize::from(odd(case.panel.mode, case.members));
+    match answer {
+        SweepAnswer::Refused(number) => {
+            let _ = writeln!(text, "  the model refuses a good call: {number}");
+        }
+        SweepAnswer::Swept { idle, .. } => line.idle += idle as usize,
+    }
+    if oracle::PRESENT {
+        let found = sweep_oracle(case, answer, &lent, line);
+        if !found.is_empty() {
+            text += &report("sweep, model against Rust", case, &found);
+        }
+    }
+    if let Some(port) = port {
+        line.port += 1;
+        let mut found = String::new();
+        let (port_answer, port_lent) = case.run(port.as_mut());
+        differ(&mut found, "answer", answer, port_answer);
+        differ_lent(&mut found, &lent, &port_lent);
+        if !found.is_empty() {
+            text += &report("sweep, model against port", case, &found);
+        }
+    }
+    found(text, case.panel.n * (case.panel.d + case.panel.s), line)
+}
+
+/// A damaged single move: the port must answer as the model, and a refusal leaves every buffer alone.
+pub fn damaged_single(
+    case: &Single,
+    port: Option<&mut Box<dyn Port>>,
+    line: &mut Line,
+) -> Option<Found> {
+    let (answer, lent) = case.run(&mut Model);
+    let mut text = String::new();
+    line.damaged += 1;
+    if let Answer::Refused(number) = answer {
+        line.refused[usize::from(number)] += 1;
+        differ_lent(&mut text, &case.lent, &lent);
+    } else {
+        line.refused[0] += 1;
+    }
+    if let Some(port) = port {
+        text += &single_port(case, answer, &lent, port.as_mut());
+    }
+    if !text.is_empty() {
+        text = report("damaged single move", case, &text);
+    }
+    found(text, case.lent.spins.len() + case.panel.fwd.len(), line)
+}
+
+pub fn damaged_sweep(
+    case: &Swept,
+    port: Option<&mut Box<dyn Port>>,
+    line: &mut Line,
+) -> Option<Found> {
+    let (answer, lent) = case.run(&mut Model);
+    let mut text = String::new();
+    line.damaged += 1;
+    if let SweepAnswer::Refused(number) = answer {
+        line.refused[usize::from(number)] += 1;
+        differ_lent(&mut text, &case.lent, &lent);
+    } else {
+        line.refused[0] += 1;
+    }
+    if let Some(port) = port {
+        let (port_answer, port_lent) = case.run(port.as_mut());
+        differ(&mut text, "answer", answer, port_answer);
+        differ_lent(&mut text, &lent, &port_lent);
+    }
+    if !text.is_empty() {
+        text = report("damaged sweep", case, &text);
+    }
+    found(text, case.lent.spins.len() + case.panel.fwd.len(), line)
+}
+
+/// The port's labelling of a table of bonds against the model's.
+pub fn labelling(
+    case: &Single,
+    holds: &[u8],
+    port: &mut dyn Port,
+    line: &mut Line,
+) -> Option<Found> {
+    let (n, d) = (case.panel.n, case.panel.d);
+    let run = |side: &mut dyn Port| {
+        let mut lent = Lent {
+            labels: vec![0; n],
+            counts: vec![0; n + 1],
+            sizes: vec![0; 4],
+            ..Lent::default()
+        };
+        let code = side.label(Label {
+            n,
+            d,
+            fwd: &case.panel.fwd,
+            holds,
+            labels: &mut lent.labels,
+            counts: &mut lent.counts,
+            sizes: &mut lent.sizes,
+        });
+        (code, lent)
+    };
+    let ((code, lent), (port_code, port_lent)) = (run(&mut Model), run(port));
+    let mut text = String::new();
+    differ(&mut text, "code", code, port_code);
+    differ_lent(&mut text, &lent, &port_lent);
+    if !text.is_empty() {
+        text = report("labelling", &(&case.panel, holds), &text);
+    }
+    found(text, n * d, line)
+}

@@ -1,0 +1,177 @@
+//! Damaged copies of good calls: one to three faults each, so that the first number in the table's order must win.
+use crate::case::{Choices, Lent, Panel, Single, Swept};
+use crate::rand::Rand;
+
+fn longer_or_shorter<T: Copy + Default>(rand: &mut Rand, buffer: &mut Vec<T>) {
+    match rand.once_in(2) {
+        true => buffer.push(T::default()),
+        false => drop(buffer.pop()),
+    }
+}
+
+fn set<T: Copy>(rand: &mut Rand, buffer: &mut [T], values: &[T]) {
+    if !buffer.is_empty() {
+        let at = rand.range(0, buffer.len() - 1);
+        buffer[at] = rand.pick(values);
+    }
+}
+
+fn size(rand: &mut Rand, size: &mut usize, most: usize) {
+    let near = [size.wrapping_sub(1), *size + 1];
+    let far = [0, most, most + 1, usize::MAX, 1 << 63];
+    *size = match rand.once_in(2) {
+        true => rand.pick(&near),
+        false => rand.pick(&far),
+    };
+}
+
+/// Two entries of one direction change places: each table alone stays a permutation.
+fn crossed(rand: &mut Rand, table: &mut [u32], n: usize, d: usize) {
+    if n * d == table.len() && n > 0 && d > 0 {
+        let along = rand.range(0, d - 1);
+        let (i, j) = (rand.range(0, n - 1), rand.range(0, n - 1));
+        table.swap(i * d + along, j * d + along);
+    }
+}
+
+fn table(rand: &mut Rand, table: &mut [u32], n: usize, d: usize) {
+    match rand.once_in(2) {
+        true => crossed(rand, table, n, d),
+        false => {
+            let near = rand.range(0, n.min(5000)) as u32;
+            set(rand, table, &[n as u32, u32::MAX, 0, near]);
+        }
+    }
+}
+
+fn panel(rand: &mut Rand, panel: &mut Panel, lent: &mut Lent) {
+    match rand.range(0, 11) {
+        0 => size(rand, &mut panel.n, 4096),
+        1 => size(rand, &mut panel.d, 4),
+        2 => size(rand, &mut panel.s, 64),
+        3 => longer_or_shorter(rand, &mut panel.fwd),
+        4 => longer_or_shorter(rand, &mut panel.bwd),
+        5 => longer_or_shorter(rand, &mut panel.couplings),
+        6 => table(rand, &mut panel.fwd, panel.n, panel.d),
+        7 => table(rand, &mut panel.bwd, panel.n, panel.d),
+        8 | 9 => set(
+            rand,
+            &mut panel.couplings,
+            &[1_000_001, -1_000_001, i32::MIN, i32::MAX, 1_000_000],
+        ),
+        _ => set(rand, &mut lent.spins, &[0, 2, -2, 127, -128, 3]),
+    }
+}
+
+fn outputs(rand: &mut Rand, lent: &mut Lent) {
+    match rand.range(0, 4) {
+        0 => longer_or_shorter(rand, &mut lent.spins),
+        1 => longer_or_shorter(rand, &mut lent.labels),
+        2 => longer_or_shorter(rand, &mut lent.grey_labels),
+        3 => longer_or_shorter(rand, &mut lent.counts),
+        _ => longer_or_shorter(rand, &mut lent.sizes),
+    }
+}
+
+fn choices(rand: &mut Rand, choices: &mut Choices) {
+    let faulty = [
+        f32::NAN,
+        f32::INFINITY,
+        f32::NEG_INFINITY,
+        -1.0,
+        -f32::from_bits(1),
+        -0.0,
+    ];
+    match rand.range(0, 11) {
+        0 => longer_or_shorter(rand, &mut choices.cuts),
+        1 => longer_or_shorter(rand, &mut choices.flips),
+        2 => longer_or_shorter(rand, &mut choices.perms),
+        3 => longer_or_shorter(rand, &mut choices.greys),
+        4 | 5 => set(rand, &mut choices.cuts, &faulty),
+        6 | 7 => set(rand, &mut choices.flips, &[2, 255, 128]),
+        8 | 9 => set(rand, &mut choices.perms, &[0, 1, 2, 8, 255]),
+        _ => set(rand, &mut choices.greys, &[0, 4, 255, 3]),
+    }
+}
+
+fn temperatures() -> [f32; 10] {
+    let (least, most) = (1.0f32 / 1024.0, 1_048_576.0f32);
+    [
+        f32::NAN,
+        f32::INFINITY,
+        0.0,
+        -0.0,
+        -1.0,
+        f32::from_bits(least.to_bits() - 1),
+        f32::from_bits(most.to_bits() + 1),
+        f32::NEG_INFINITY,
+        least,
+        most,
+    ]
+}
+
+fn systems(rand: &mut Rand, systems: &mut [u32], s: usize) {
+    let other = rand.range(0, s.clamp(1, 64)) as u32;
+    set(rand, systems, &[s as u32, u32::MAX, other, other]);
+}
+
+pub fn single(rand: &mut Rand, case: &mut Single) {
+    for _ in 0..rand.pick(&[1, 1, 2, 3]) {
+        let n = case.panel.n;
+        match rand.range(0, 9) {
+            0..=2 => panel(rand, &mut case.panel, &mut case.lent),
+            3 => outputs(rand, &mut case.lent),
+            4 | 5 => choices(rand, &mut case.choices),
+            6 => match rand.range(0, 3) {
+                0 => longer_or_shorter(rand, &mut case.group),
+                1 => case.group = (0..rand.range(0, 10) as u32).collect(),
+                _ => systems(rand, &mut case.group, case.panel.s),
+            },
+            7 => case.temperature = rand.pick(&temperatures()),
+            8 => case.reference = rand.pick(&[n, usize::MAX, 0, 1 << 32]),
+            _ => {
+                let site = rand.range(0, n.clamp(1, 4096) - 1);
+                case.seed = rand.pick(&[n, usize::MAX, 1 << 32, site, site]);
+            }
+        }
+    }
+}
+
+fn sweep_sizes(rand: &mut Rand, case: &mut Swept) {
+    match rand.range(0, 4) {
+        0 => size(rand, &mut case.t, 64),
+        1 => size(rand, &mut case.r, 64),
+        2 => size(rand, &mut case.members, 8),
+        3 => (case.t, case.r) = (case.r, case.t),
+        _ => (case.t, case.r) = ((1 << 63) + 1, 2),
+    }
+}
+
+fn sweep_lists(rand: &mut Rand, case: &mut Swept) {
+    let n = case.panel.n;
+    let site = rand.range(0, n.clamp(1, 4096) - 1) as u32;
+    match rand.range(0, 11) {
+        0 => longer_or_shorter(rand, &mut case.order),
+        1 => longer_or_shorter(rand, &mut case.masks),
+        2 => longer_or_shorter(rand, &mut case.temperatures),
+        3 => longer_or_shorter(rand, &mut case.references),
+        4 => longer_or_shorter(rand, &mut case.seeds),
+        5 => systems(rand, &mut case.order, case.panel.s),
+        6 => set(rand, &mut case.masks, &[2, 255, 1, 0]),
+        7 | 8 => set(rand, &mut case.temperatures, &temperatures()),
+        9 => set(rand, &mut case.references, &[n as u32, u32::MAX, 0]),
+        _ => set(rand, &mut case.seeds, &[n as u32, u32::MAX, site, site]),
+    }
+}
+
+pub fn swept(rand: &mut Rand, case: &mut Swept) {
+    for _ in 0..rand.pick(&[1, 1, 2, 3]) {
+        match rand.range(0, 7) {
+            0 | 1 => panel(rand, &mut case.panel, &mut case.lent),
+            2 => outputs(rand, &mut case.lent),
+            3 | 4 => choices(rand, &mut case.choices),
+            5 => sweep_sizes(rand, case),
+            _ => sweep_lists(rand, case),
+        }
+    }
+}

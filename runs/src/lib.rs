@@ -1,0 +1,8 @@
+//! The comparison runs: the model of document 01, the published Rust as oracle, and the port.
+pub mod case;
+pub mod compare;
+pub mod damage;
+pub mod make;
+pub mod model;
+pub mod port;
+pub mod rand;

@@ -1,0 +1,375 @@
+//! Random calls that document 01 accepts.
+use crate::case::{Choices, Lent, Panel, Single, Swept};
+use crate::model::{self, lengths, Lengths};
+use crate::rand::Rand;
+use calls::{Form, Mode};
+
+/// What an output holds before the call, so that a byte left alone is seen.
+pub const UNTOUCHED: u32 = 0xaaaa_aaaa;
+
+#[derive(Clone, Copy, Debug, PartialEq, Eq)]
+pub enum Size {
+    Tiny,
+    Small,
+    Middle,
+    Full,
+}
+
+impl Size {
+    /// Mostly small; one call in 400 has the largest lattice.
+    pub fn mixed(rand: &mut Rand) -> Size {
+        match rand.range(1, 400) {
+            1 => Size::Full,
+            2..=20 => Size::Middle,
+            21..=140 => Size::Small,
+            _ => Size::Tiny,
+        }
+    }
+
+    fn most(self) -> usize {
+        match self {
+            Size::Tiny => 8,
+            Size::Small => 40,
+            Size::Middle => 300,
+            Size::Full => 4096,
+        }
+    }
+}
+
+struct Lattice {
+    n: usize,
+    d: usize,
+    fwd: Vec<u32>,
+}
+
+/// Each direction a permutation of its own: random, a repetition or an inverse of an earlier one (double bonds),
+/// the identity (self-bonds) or a shift.
+fn scattered(rand: &mut Rand, size: Size) -> Lattice {
+    let n = match size {
+        Size::Full => rand.pick(&[4095, 4096]),
+        _ => rand.range(1, size.most()),
+    };
+    let d = rand.range(1, 4);
+    let mut directions: Vec<Vec<usize>> = Vec::new();
+    for _ in 0..d {
+        let next = match (rand.range(0, 7), directions.last()) {
+            (0, Some(last)) => last.clone(),
+            (1, Some(last)) => inverse(last),
+            (2, _) => (0..n).collect(),
+            (3, _) => (0..n).map(|i| (i + 1) % n).collect(),
+            _ => rand.permutation(n),
+        };
+        directions.push(next);
+    }
+    let fwd = (0..n * d)
+        .map(|bond| directions[bond % d][bond / d] as u32)
+        .collect();
+    Lattice { n, d, fwd }
+}
+
+fn inverse(of: &[usize]) -> Vec<usize> {
+    let mut back = vec![0; of.len()];
+    of.iter().enumerate().for_each(|(i, &to)| back[to] = i);
+    back
+}
+
+/// A rectangular torus; sides of 1 and 2 give self-bonds and double bonds.
+fn torus(rand: &mut Rand, size: Size) -> Lattice {
+    let sides: Vec<usize> = match size {
+        Size::Full => rand
+            .pick::<&[usize]>(&[&[64, 64], &[16, 16, 16], &[8, 8, 8, 8], &[4096], &[2, 2048]])
+            .to_vec(),
+        _ => loop {
+            let sides: Vec<usize> = (0..rand.range(1, 4)).map(|_| rand.range(1, 8)).collect();
+            if sides.iter().product::<usize>() <= size.most() {
+                break sides;
+            }
+        },
+    };
+    let (n, d) = (sides.iter().product(), sides.len());
+    let step = |bond: usize| {
+        let (i, along) = (bond / d, bond % d);
+        let stride: usize = sides[..along].iter().product();
+        let at = i / stride % sides[along];
+        (i - at * stride + (at + 1) % sides[along] * stride) as u32
+    };
+    Lattice {
+        n,
+        d,
+        fwd: (0..n * d).map(step).collect(),
+    }
+}
+
+pub fn backward(n: usize, d: usize, fwd: &[u32]) -> Vec<u32> {
+    let mut bwd = vec![0; n * d];
+    for (bond, &to) in fwd.iter().enumerate() {
+        bwd[to as usize * d + bond % d] = (bond / d) as u32;
+    }
+    bwd
+}
+
+fn couplings(rand: &mut Rand, bonds: usize) -> Vec<i32> {
+    let most = rand.pick(&[1, 3, 3, 100, 1_000_000]);
+    let zeros = rand.once_in(3);
+    let draw = |_| {
+        if zeros && rand.once_in(2) {
+            0
+        } else {
+            rand.range(0, 2 * most) as i32 - most as i32
+        }
+    };
+    (0..bonds).map(draw).collect()
+}
+
+fn spins(rand: &mut Rand, n: usize, s: usize) -> Vec<i8> {
+    let sign = |up: bool| if up { 1 } else { -1 };
+    let style = rand.range(0, 5);
+    let mut spins = vec![0; s * n];
+    for i in 0..n {
+        let base = rand.once_in(2);
+        let agree = match style {
+            0 => true,
+            1 => !rand.once_in(6),
+            2 => rand.once_in(2),
+            _ => false,
+        };
+        for system in 0..s {
+            let up = match style {
+                _ if agree => base,
+                3 => base != rand.once_in(4),
+                4 => (system % 2 == 0) == base,
+                _ => rand.once_in(2),
+            };
+            spins[system * n + i] = sign(up);
+        }
+    }
+    spins
+}
+
+fn temperature(rand: &mut Rand, couplings: &[i32]) -> f32 {
+    let most = couplings.iter().map(|j| j.abs()).max().unwrap_or(1).max(1) as f64;
+    let fitted = (most * 4.0 / (0.2 + 6.0 * rand.unit())) as f32;
+    let any = rand.pick(&[1.0 / 1024.0, 1_048_576.0, 0.1, 1.0, 2.0, 3.0, 4.0]);
+    match rand.range(0, 3) {
+        0 => any,
+        _ => fitted.clamp(1.0 / 1024.0, 1_048_576.0),
+    }
+}
+
+/// A cut near what the bond may be compared with, often equal to it or one step beside it.
+fn cut(rand: &mut Rand, coupling: i32, temperature: f32, members: usize) -> f32 {
+    let strength = (rand.range(1, members / 2) as f32) * (coupling as f32).abs();
+    let scale = rand.pick(&[4.0, 2.0]) / temperature;
+    let equal = scale * strength;
+    match rand.range(0, 9) {
+        0 => rand.pick(&[0.0, -0.0, f32::from_bits(1), f32::MAX]),
+        1 => -rand.unit().ln() as f32,
+        2 | 3 => equal,
+        4 => f32::from_bits(equal.to_bits() + 1),
+        5 => f32::from_bits(equal.to_bits().saturating_sub(1)),
+        _ => 2.0 * rand.unit() as f32 * equal,
+    }
+}
+
+fn flips(rand: &mut Rand, count: usize) -> Vec<u8> {
+    (0..count).map(|_| rand.range(0, 1) as u8).collect()
+}
+
+fn permutation(rand: &mut Rand, members: usize, form: Form) -> Vec<u8> {
+    loop {
+        let p: Vec<u8> = rand.permutation(members).iter().map(|&v| v as u8).collect();
+        if form == Form::Sw || p.iter().enumerate().any(|(k, &v)| usize::from(v) != k) {
+            return p;
+        }
+    }
+}
+
+/// What a call does not take may be anything.
+fn untaken<T>(rand: &mut Rand, mut value: impl FnMut(u64) -> T) -> Vec<T> {
+    (0..rand.range(0, 3)).map(|_| value(rand.word())).collect()
+}
+
+fn choices(
+    rand: &mut Rand,
+    panel: &Panel,
+    members: usize,
+    exact: Lengths,
+    temperatures: &[f32],
+) -> Choices {
+    let bonds = panel.n * panel.d;
+    let draw = |rand: &mut Rand, at: usize| {
+        let tasks = exact.cuts.unwrap_or(0) / bonds;
+        let each = (tasks / temperatures.len()).max(1);
+        let temperature = temperatures[at / bonds / each];
+        cut(rand, panel.couplings[at % bonds], temperature, members)
+    };
+    Choices {
+        cuts: match exact.cuts {
+            Some(count) => (0..count).map(|at| draw(rand, at)).collect(),
+            None => untaken(rand, |word| f32::from_bits(word as u32)),
+        },
+        flips: match exact.flips {
+            Some(count) => flips(rand, count),
+            None => untaken(rand, |word| word as u8),
+        },
+        perms: match exact.perms {
+            Some(count) => (0..count / members)
+                .flat_map(|_| permutation(rand, members, panel.form))
+                .collect(),
+            None => untaken(rand, |word| word as u8),
+        },
+        greys: match exact.greys {
+            Some(count) => {
+                let least = usize::from(panel.form == Form::Wolff);
+                (0..count).map(|_| rand.range(least, 3) as u8).collect()
+            }
+            None => untaken(rand, |word| word as u8),
+        },
+    }
+}
+
+fn outputs(rand: &mut Rand, exact: Lengths, spins: Vec<i8>) -> Lent {
+    Lent {
+        spins,
+        labels: vec![UNTOUCHED; exact.labels],
+        grey_labels: match exact.grey_labels {
+            Some(count) => vec![UNTOUCHED; count],
+            None => untaken(rand, |word| word as u32),
+        },
+        counts: vec![UNTOUCHED; exact.counts],
+        sizes: vec![UNTOUCHED; exact.sizes],
+    }
+}
+
+fn members(rand: &mut Rand, mode: Mode) -> usize {
+    match mode {
+        Mode::Cmr => 2,
+        Mode::Perm | Mode::Gperm => rand.range(2, 8),
+        _ if rand.once_in(4) => rand.range(2, 8),
+        _ => rand.pick(&[2, 2, 4, 4, 6, 8]),
+    }
+}
+
+fn panel(rand: &mut Rand, mode: Mode, form: Form, size: Size, s: usize) -> Panel {
+    let lattice = match rand.range(0, 2) {
+        0 => torus(rand, size),
+        _ => scattered(rand, size),
+    };
+    let (n, d) = (lattice.n, lattice.d);
+    Panel {
+        mode,
+        form,
+        n,
+        d,
+        s,
+        couplings: match mode.draws() {
+            true => couplings(rand, n * d),
+            false => untaken(rand, |word| word as i32),
+        },
+        bwd: backward(n, d, &lattice.fwd),
+        fwd: lattice.fwd,
+    }
+}
+
+/// An acting site if there is one.
+fn seed(rand: &mut Rand, active: &[bool]) -> usize {
+    let acting: Vec<usize> = (0..active.len()).filter(|&i| active[i]).collect();
+    match acting.is_empty() {
+        true => rand.range(0, active.len() - 1),
+        false => rand.pick(&acting),
+    }
+}
+
+pub fn single(rand: &mut Rand, mode: Mode, form: Form, size: Size) -> Single {
+    let members = members(rand, mode);
+    let s = match rand.range(0, 15) {
+        0 => 64,
+        1..=3 => rand.range(members, 64),
+        _ => rand.range(members, members + 3),
+    };
+    let panel = panel(rand, mode, form, size, s);
+    let exact = lengths(mode, form, panel.n, panel.d, members, 1);
+    let group = rand.permutation(s)[..members]
+        .iter()
+        .map(|&system| system as u32)
+        .collect();
+    let temperature = match mode.draws() {
+        true => temperature(rand, &panel.couplings),
+        false => f32::NAN,
+    };
+    let spins = spins(rand, panel.n, s);
+    let mut case = Single {
+        group,
+        temperature,
+        reference: rand.range(0, panel.n - 1),
+        seed: 0,
+        choices: choices(rand, &panel, members, exact, &[temperature]),
+        lent: outputs(rand, exact, spins),
+        panel,
+    };
+    if form == Form::Wolff {
+        let active = model::active(&case.step(&mut case.lent.clone()));
+        case.seed = seed(rand, &active);
+    }
+    case
+}
+
+/// Temperatures and replicas of a sweep, and their masks.
+fn sweep_shape(rand: &mut Rand, members: usize, size: Size) -> (usize, usize, Vec<u8>) {
+    let wide = rand.once_in(20);
+    let r = match wide {
+        true => rand.range(members, 64),
+        false => rand.range(members, (2 * members + 1).min(64)),
+    };
+    let t = match (wide, size) {
+        (true, _) => 64 / r,
+        (_, Size::Full) => 1,
+        _ => rand.range(1, (64 / r).min(4)),
+    };
+    let masked = rand.pick(&[0, 1, 3]);
+    let mask = |_| u8::from(masked > 0 && rand.range(0, 3) < masked);
+    (t, r, (0..t).map(mask).collect())
+}
+
+pub fn swept(rand: &mut Rand, mode: Mode, form: Form, size: Size) -> Swept {
+    let members = members(rand, mode);
+    let (t, r, masks) = sweep_shape(rand, members, size);
+    let s = t * r;
+    let panel = panel(rand, mode, form, size, s);
+    let tasks = t * (r / members);
+    let exact = lengths(mode, form, panel.n, panel.d, members, tasks);
+    let temperatures: Vec<f32> = match mode.draws() {
+        true => (0..t)
+            .map(|_| temperature(rand, &panel.couplings))
+            .collect(),
+        false => untaken(rand, |word| f32::from_bits(word as u32)),
+    };
+    let spins = spins(rand, panel.n, s);
+    let site = |rand: &mut Rand| rand.range(0, panel.n - 1) as u32;
+    let mut case = Swept {
+        t,
+        r,
+        members,
+        order: rand.permutation(s).iter().map(|&v| v as u32).collect(),
+        masks,
+        references: match exact.references {
+            Some(count) => (0..count).map(|_| site(rand)).collect(),
+            None => untaken(rand, |word| word as u32),
+        },
+        seeds: untaken(rand, |word| word as u32),
+        choices: choices(rand, &panel, members, exact, &temperatures),
+        lent: outputs(rand, exact, spins),
+        temperatures,
+        panel,
+    };
+    if form == Form::Wolff {
+        let mut lent = case.lent.clone();
+        let mut seeds = Vec::new();
+        for task in 0..tasks {
+            let active = model::active_in_task(&case.sweep(&mut lent), task);
+            seeds.push(seed(rand, &active) as u32);
+        }
+        case.seeds = seeds;
+    }
+    case
+}

@@ -1,0 +1,130 @@
+//! What moves.
+use super::bonds::{acts, column, holding};
+use super::components::{component_sizes, labels};
+use super::{Panel, Task};
+use calls::{Form, Mode};
+
+pub struct Outcome {
+    pub idle: bool,
+    pub labels: Vec<usize>,
+    pub grey_labels: Option<Vec<usize>>,
+    /// Spins of the group after the move: site by site, member by member.
+    pub columns: Vec<Vec<i8>>,
+}
+
+/// One site's flip: houd and blue negate whole pairs, pair and Jörg exchange each pair's spins.
+fn flip(mode: Mode, spins: &mut [i8]) {
+    for pair in spins.chunks_exact_mut(2) {
+        match mode {
+            Mode::Houd | Mode::Cmr => pair.iter_mut().for_each(|spin| *spin = -*spin),
+            _ => pair.swap(0, 1),
+        }
+    }
+}
+
+/// Whether the flip chosen for site i's component acts on it.
+fn flip_chosen(task: &Task, of: &Components, i: usize) -> bool {
+    let label = of.labels[i];
+    match task.form {
+        Form::Sw => of.sizes[label] >= 2 && task.flips[label] == 1,
+        Form::Wolff => label == of.labels[task.seed],
+        Form::Observe => false,
+    }
+}
+
+/// The permutation chosen for site i, if its component has one.
+fn permutation<'a>(task: &Task<'a>, of: &Components, i: usize) -> Option<&'a [u8]> {
+    let (label, members) = (of.labels[i], task.group.len());
+    match task.form {
+        Form::Sw => Some(&task.perms[label * members..(label + 1) * members]),
+        Form::Wolff => (label == of.labels[task.seed]).then_some(task.perms),
+        Form::Observe => None,
+    }
+}
+
+fn grey_number(task: &Task, of: &Components, i: usize) -> u8 {
+    let label = of.labels[i];
+    match task.form {
+        Form::Sw if of.sizes[label] >= 2 => task.greys[label],
+        Form::Wolff if label == of.labels[task.seed] => task.greys[0],
+        _ => 0,
+    }
+}
+
+/// A component's labels and sizes.
+struct Components {
+    labels: Vec<usize>,
+    sizes: Vec<usize>,
+}
+
+impl Components {
+    fn new(panel: Panel, task: &Task, grey: bool) -> Self {
+        let labels = labels(panel.n, panel.d, panel.fwd, &holding(panel, task, grey));
+        let sizes = component_sizes(&labels);
+        Self { labels, sizes }
+    }
+}
+
+/// Site i's spins after a flip of its component, if one is chosen.
+fn flipped(panel: Panel, task: &Task, first: &Components, i: usize) -> Vec<i8> {
+    let mut spins = column(panel, &task.group, i);
+    if flip_chosen(task, first, i) {
+        flip(task.mode, &mut spins);
+    }
+    spins
+}
+
+/// Site i's spins after the permutation of its component, if it acts and one is chosen.
+fn permuted(panel: Panel, task: &Task, first: &Components, i: usize) -> Vec<i8> {
+    let old = column(panel, &task.group, i);
+    let pattern = match task.mode {
+        Mode::Gperm => column(panel, &task.group, task.reference),
+        _ => vec![1; old.len()],
+    };
+    match permutation(task, first, i) {
+        Some(p) if acts(panel, task, i) => (0..old.len())
+            .map(|k| {
+                let from = usize::from(p[k]);
+                pattern[k] * pattern[from] * old[from]
+            })
+            .collect(),
+        _ => old,
+    }
+}
+
+/// Site i's spins after the blue flip and the grey number of its components.
+fn recoloured(
+    panel: Panel,
+    task: &Task,
+    blue: &Components,
+    grey: &Components,
+    i: usize,
+) -> Vec<i8> {
+    let mut spins = flipped(panel, task, blue, i);
+    let number = grey_number(task, grey, i);
+    for (k, spin) in spins.iter_mut().enumerate() {
+        if number >> k & 1 == 1 {
+            *spin = -*spin;
+        }
+    }
+    spins
+}
+
+pub fn outcome(panel: Panel, task: &Task) -> Outcome {
+    let first = Components::new(panel, task, false);
+    let grey = (task.mode == Mode::Cmr && task.form != Form::Observe)
+        .then(|| Components::new(panel, task, true));
+    let idle = (0..panel.n).all(|i| !acts(panel, task, i));
+    let after = |i: usize| match (task.mode, &grey) {
+        _ if idle => column(panel, &task.group, i),
+        (Mode::Perm | Mode::Gperm, _) => permuted(panel, task, &first, i),
+        (_, Some(grey)) => recoloured(panel, task, &first, grey, i),
+        _ => flipped(panel, task, &first, i),
+    };
+    Outcome {
+        idle,
+        columns: (0..panel.n).map(after).collect(),
+        labels: first.labels,
+        grey_labels: grey.map(|grey| grey.labels),
+    }
+}

@@ -1,0 +1,153 @@
+//! The refusal tests, each by itself; the calls ask them in the order of their numbers.
+use super::bonds::acts;
+use super::{Panel, Task};
+use calls::{Form, Mode};
+
+pub fn sizes_refused(n: usize, d: usize, s: usize) -> bool {
+    !(1..=4096).contains(&n) || !(1..=4).contains(&d) || !(1..=64).contains(&s)
+}
+
+pub fn members_refused(mode: Mode, members: usize) -> bool {
+    !(2..=8).contains(&members) || (mode == Mode::Cmr && members != 2)
+}
+
+pub fn panel_length_refused(panel: Panel) -> bool {
+    panel.spins.len() != panel.s * panel.n
+        || panel.fwd.len() != panel.n * panel.d
+        || panel.bwd.len() != panel.n * panel.d
+}
+
+pub fn spins_refused(spins: &[i8]) -> bool {
+    spins.iter().any(|&spin| spin != 1 && spin != -1)
+}
+
+pub fn tables_refused(panel: Panel) -> bool {
+    let at = |table: &[u32], i: usize, d: usize| table[i * panel.d + d] as usize;
+    let outside = |table: &[u32]| table.iter().any(|&site| site as usize >= panel.n);
+    if outside(panel.fwd) || outside(panel.bwd) {
+        return true;
+    }
+    (0..panel.n * panel.d).any(|bond| {
+        let (i, d) = (bond / panel.d, bond % panel.d);
+        at(panel.bwd, at(panel.fwd, i, d), d) != i || at(panel.fwd, at(panel.bwd, i, d), d) != i
+    })
+}
+
+pub fn systems_refused(systems: &[u32], s: usize) -> bool {
+    systems
+        .iter()
+        .enumerate()
+        .any(|(k, &system)| system as usize >= s || systems[..k].contains(&system))
+}
+
+pub fn coupling_refused(couplings: &[i32]) -> bool {
+    couplings
+        .iter()
+        .any(|&coupling| !(-1_000_000..=1_000_000).contains(&coupling))
+}
+
+pub fn temperature_refused(temperature: f32) -> bool {
+    !(1.0 / 1024.0..=1_048_576.0).contains(&temperature)
+}
+
+pub fn cut_refused(cut: f32) -> bool {
+    !(cut >= 0.0 && cut < f32::INFINITY)
+}
+
+pub fn permutation_refused(p: &[u8]) -> bool {
+    (0..p.len()).any(|value| !p.iter().any(|&entry| usize::from(entry) == value))
+}
+
+pub fn identity(p: &[u8]) -> bool {
+    p.iter().enumerate().all(|(k, &v)| usize::from(v) == k)
+}
+
+/// The exact length of each buffer beside the panel's, for this many tasks; none where the call takes no such buffer.
+#[derive(Clone, Copy, Debug)]
+pub struct Lengths {
+    pub couplings: Option<usize>,
+    pub cuts: Option<usize>,
+    pub references: Option<usize>,
+    pub seeds: Option<usize>,
+    pub flips: Option<usize>,
+    pub perms: Option<usize>,
+    pub greys: Option<usize>,
+    pub labels: usize,
+    pub grey_labels: Option<usize>,
+    pub counts: usize,
+    pub sizes: usize,
+}
+
+pub fn lengths(
+    mode: Mode,
+    form: Form,
+    n: usize,
+    d: usize,
+    members: usize,
+    tasks: usize,
+) -> Lengths {
+    let (sw, wolff) = (form == Form::Sw, form == Form::Wolff);
+    let cmr = mode == Mode::Cmr;
+    Lengths {
+        couplings: mode.draws().then_some(n * d),
+        cuts: mode.draws().then_some(tasks * n * d),
+        references: (mode == Mode::Gperm).then_some(tasks),
+        seeds: wolff.then_some(tasks),
+        flips: (sw && !mode.permutes()).then_some(tasks * n),
+        perms: match (mode.permutes(), form) {
+            (true, Form::Sw) => Some(tasks * n * members),
+            (true, Form::Wolff) => Some(tasks * members),
+            _ => None,
+        },
+        greys: match (cmr, form) {
+            (true, Form::Sw) => Some(tasks * n),
+            (true, Form::Wolff) => Some(tasks),
+            _ => None,
+        },
+        labels: tasks * n,
+        grey_labels: (cmr && (sw || wolff)).then_some(tasks * n),
+        counts: tasks * (n + 1),
+        sizes: tasks * 4,
+    }
+}
+
+pub fn differs(wanted: Option<usize>, found: usize) -> bool {
+    wanted.is_some_and(|wanted| wanted != found)
+}
+
+pub fn choices_refused(panel: Panel, task: &Task) -> bool {
+    let permutes = task.mode.permutes();
+    let reference = task.mode == Mode::Gperm && task.reference >= panel.n;
+    let choices = match task.form {
+        Form::Sw if permutes => task.perms.chunks(task.group.len()).any(permutation_refused),
+        Form::Sw => {
+            let grey = task.mode == Mode::Cmr && task.greys.iter().any(|&grey| grey > 3);
+            task.flips.iter().any(|&flip| flip > 1) || grey
+        }
+        Form::Wolff if permutes => permutation_refused(task.perms) || identity(task.perms),
+        Form::Wolff => task.mode == Mode::Cmr && !(1..=3).contains(&task.greys[0]),
+        Form::Observe => false,
+    };
+    reference || choices
+}
+
+pub fn seed_refused(panel: Panel, task: &Task) -> bool {
+    task.form == Form::Wolff
+        && (task.seed >= panel.n
+            || (task.mode != Mode::Cmr
+                && (0..panel.n).any(|i| acts(panel, task, i))
+                && !acts(panel, task, task.seed)))
+}
+
+/// Tests 8, 9 and 10 of one task.
+pub fn task_refusal(panel: Panel, task: &Task) -> Option<u8> {
+    if task.mode.draws() && task.cuts.iter().any(|&cut| cut_refused(cut)) {
+        Some(8)
+    } else if choices_refused(panel, task) {
+        Some(9)
+    } else if seed_refused(panel, task) {
+        Some(10)
+    } else {
+        None
+    }
+}
