@@ -24,12 +24,12 @@ bit-is : (b : Bool) → cond b 1 0 ≡ bit b
 bit-is true = refl
 bit-is false = refl
 
-is-reached : (form : Form) (mode : Mode) (seed : ℕ) (labels tally : List ℕ) (i : ℕ) → getD tally (labelOf labels i) 0 ≡ sizeOf labels (labelOf labels i)
-    → cond (isSw form) (leb (leastSize mode) (getD tally (labelOf labels i) 0)) (isWolff form && eqb (labelOf labels i) (cond (isWolff form) (labelOf labels seed) 0))
-    ≡ reachedBy form mode seed labels i
-is-reached Sw mode seed labels tally i e = rw e
-is-reached Wolff mode seed labels tally i e = refl
-is-reached Observe mode seed labels tally i e = refl
+is-reached : (form : Form) (mode : Mode) (seed : ℕ) (l tally : List ℕ) (i : ℕ) → getD tally (labelOf l i) 0 ≡ sizeOf l (labelOf l i)
+    → cond (isSw form) (leb (leastSize mode) (getD tally (labelOf l i) 0)) (isWolff form && eqb (labelOf l i) (cond (isWolff form) (labelOf l seed) 0))
+    ≡ reachedBy form mode seed l i
+is-reached Sw mode seed l tally i e = rw e
+is-reached Wolff mode seed l tally i e = refl
+is-reached Observe mode seed l tally i e = refl
 
 pub all-reached : (form : Form) (mode : Mode) (seed : ℕ) (acts labels tally xs ys : List ℕ) (least own : ℕ) → Marked form seed acts labels tally xs
     → least ≡ leastSize mode → own ≡ cond (isWolff form) (getD labels seed 0) 0 → Becomes (λ i. cond (tested form least own acts labels tally i) 1 0) xs ys

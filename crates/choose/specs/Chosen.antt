@@ -19,7 +19,6 @@ pub record Becomes (f : ℕ → ℕ) (xs ys : List ℕ) : Type 0 where
 
 -- the columns of all sites, with a mark of each that moves and its label
 pub record Sites (reached labels cols : List ℕ) : Type 0 where
-  pub few : length cols ≤ 4096
   pub marked : length reached ≡ length cols
   pub labelled : length labels ≡ length cols
   pub below : (i : ℕ) → i < length cols → getD labels i 0 < length cols
@@ -32,7 +31,6 @@ isOne xs i = eqb (getD xs i 0) 1
 
 -- what `reach` is lent: a mark of each site that acts, its label, how many sites have each label, and Wolff's seed
 pub record Marked (form : Form) (seed : ℕ) (acts labels tally reached : List ℕ) : Type 0 where
-  pub few : length acts ≤ 4096
   pub labelled : length labels ≡ length acts
   pub below : (i : ℕ) → i < length acts → getD labels i 0 < length acts
   pub sized : Sized labels tally
@@ -56,12 +54,16 @@ flippedAt form reached labels flips table cols i =
 
 -- ---- grey numbers
 
--- a column of two systems and a number 0 to 3
-pub record Grey (column grey : ℕ) : Type 0 where
-  pub two : column < 4
-  pub small : grey ≤ 3
+-- a column of two systems, with the spins flipped that a grey number's bits name
+abbrev pub greyed : ℕ → ℕ → ℕ
+greyed grey column = columnOf 2 (flipSome (greyBit grey) (shown column))
 
--- one number, 0 to 3, for each component in SW and one in all in Wolff; the columns are of two systems
+-- the column is of two systems, and the number is 0 to 3
+pub record Grey (grey column : ℕ) : Type 0 where
+  pub small : grey ≤ 3
+  pub two : column < 4
+
+-- one number for each component in SW and one in all in Wolff
 pub record Greys (form : Form) (reached labels greys cols : List ℕ) : Type 0 where
   pub sites : Sites reached labels cols
   pub moving : moves form ≡ true
@@ -70,8 +72,7 @@ pub record Greys (form : Form) (reached labels greys cols : List ℕ) : Type 0 w
   pub two : (i : ℕ) → i < length cols → getD cols i 0 < 4
 
 abbrev pub greyedAt : Form → List ℕ → List ℕ → List ℕ → List ℕ → ℕ → ℕ
-greyedAt form reached labels greys cols i =
-    cond (isOne reached i) (columnOf 2 (flipSome (greyBit (greyAt form greys (labelOf labels i))) (shown (getD cols i 0)))) (getD cols i 0)
+greyedAt form reached labels greys cols i = cond (isOne reached i) (greyed (greyAt form greys (labelOf labels i)) (getD cols i 0)) (getD cols i 0)
 
 -- ---- permutations
 
@@ -79,7 +80,6 @@ greyedAt form reached labels greys cols i =
 pub record Perms (form : Form) (m : ℕ) (reached labels perms cols : List ℕ) : Type 0 where
   pub sites : Sites reached labels cols
   pub moving : moves form ≡ true
-  pub some : 1 ≤ m
   pub few : m ≤ 8
   pub lent : length perms ≡ entries form (length cols) * m
   pub places : (x : ℕ) → x < length perms → getD perms x 0 < m

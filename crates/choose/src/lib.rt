@@ -5,9 +5,8 @@ ghost use Prim.Native.Nat.{ℕ, _<_};
 ghost use lib.Dec.{eqb, leb};
 ghost use lib.ListN.{length, getD};
 ghost use Rattle.paper.specs.Panel.Takes.{isSw, isWolff, entry};
-ghost use Rattle.paper.specs.Move.Moving.{flipBy, flipSome, greyBit, leastSize};
+ghost use Rattle.paper.specs.Move.Moving.{flipBy, leastSize};
 ghost use Rattle.paper.specs.Component.Marks.{Flags};
-ghost use Rattle.columns.specs.Column.{shown, columnOf};
 ghost use Rattle.choose.specs.Chosen.{
   Becomes,
   Marked,
@@ -15,6 +14,7 @@ ghost use Rattle.choose.specs.Chosen.{
   Flips,
   flippedAt,
   Grey,
+  greyed,
   Greys,
   greyedAt,
   Perms,
@@ -120,7 +120,8 @@ pub fn flip_columns(
     cols: &mut [u8],
 )
     requires { ⌜ Flips form (now reached) (now labels) (now flips) (now cols) ⌝ }
-    ensures { λ _. ⌜ Becomes (flippedAt form (now (reached .entry)) (now (labels .entry)) (now (flips .entry)) table (now (cols .entry))) (now (cols .entry)) (now (cols .exit)) ⌝ }
+    ensures { λ _. ⌜ Becomes (flippedAt form (now (reached .entry)) (now (labels .entry)) (now (flips .entry)) table (now (cols .entry)))
+        (now (cols .entry)) (now (cols .exit)) ⌝ }
 {
     let n = cols.len();
     let mut i: usize = 0;
@@ -144,24 +145,25 @@ fn entry_of(form: Form, label: usize) -> usize
     }
 }
 
-// The grey number's bits flip the two spins of a column.
-fn grey_column(column: u8, grey: u8) -> u8
-    requires { ⌜ Grey column grey ⌝ }
-    ensures { λ r. ⌜ r ≡ columnOf 2 (flipSome (greyBit grey) (shown column)) ⌝ }
+// On two bits, the exclusive or is the flip of those that the grey number has.
+fn grey_column(grey: u8, column: u8) -> u8
+    requires { ⌜ Grey grey column ⌝ }
+    ensures { λ r. ⌜ r ≡ greyed grey column ⌝ }
 {
     column ^ grey
 }
 
 pub fn grey_columns(form: Form, reached: &[u8], labels: &[u32], greys: &[u8], cols: &mut [u8])
     requires { ⌜ Greys form (now reached) (now labels) (now greys) (now cols) ⌝ }
-    ensures { λ _. ⌜ Becomes (greyedAt form (now (reached .entry)) (now (labels .entry)) (now (greys .entry)) (now (cols .entry))) (now (cols .entry)) (now (cols .exit)) ⌝ }
+    ensures { λ _. ⌜ Becomes (greyedAt form (now (reached .entry)) (now (labels .entry)) (now (greys .entry)) (now (cols .entry)))
+        (now (cols .entry)) (now (cols .exit)) ⌝ }
 {
     let n = cols.len();
     let mut i: usize = 0;
     while i < n {
         let old = cols[i];
         let at = entry_of(form, wide(labels[i]));
-        let new = grey_column(old, greys[at]);
+        let new = grey_column(greys[at], old);
         cols[i] = pick(reached[i] == 1, new, old);
         i += 1;
     }
@@ -176,7 +178,8 @@ pub fn permute_columns(
     cols: &mut [u8],
 )
     requires { ⌜ Perms form (group .len) (now reached) (now labels) (now perms) (now cols) ⌝ }
-    ensures { λ _. ⌜ Becomes (permutedAt form (group .len) (now (reached .entry)) (now (labels .entry)) (now (perms .entry)) (now (cols .entry))) (now (cols .entry)) (now (cols .exit)) ⌝ }
+    ensures { λ _. ⌜ Becomes (permutedAt form (group .len) (now (reached .entry)) (now (labels .entry)) (now (perms .entry)) (now (cols .entry)))
+        (now (cols .entry)) (now (cols .exit)) ⌝ }
 {
     let n = cols.len();
     let len = group.len;

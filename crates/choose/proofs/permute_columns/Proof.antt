@@ -103,14 +103,20 @@ loop-again c =
     let t = c .before .before in
     let a = S t .args in
     let l = t .before .loop in
+    let m = a .group .len in
     ⊎-elim
-    (λ w. rw (w .7)
+    (λ w. let e = row-at (a .form) _ m (w .2 .ensures) (w .3 .ensures) in
+    rw (w .7)
     (pass-more _ _ (l .i) (l .cols) (w .6 .result) (l .inv) (t .loop-test .taken)
-    (let e = row-at (a .form) _ (a .group .len) (w .2 .ensures) (w .3 .ensures) in
-    moved (a .form) (a .group .len) (now (a .reached)) (now (a .labels)) (now (a .perms)) (now (a .cols)) (l .i) _ _ (w .6 .result) (w .0 .taken) e (same t) (omega (arith, e, within t)) (w .6 .ensures))))
+    (moved (a .form) m (now (a .reached)) (now (a .labels)) (now (a .perms)) (now (a .cols)) (l .i) _ _ (w .6 .result)
+    (w .0 .taken)
+    e
+    (same t)
+    (omega (arith, e, within t))
+    (w .6 .ensures))))
     (λ w. rw (w .1)
     (pass-skip _ _ (l .i) (l .cols) (l .inv) (t .loop-test .taken)
-    (kept (a .form) (a .group .len) (now (a .reached)) (now (a .labels)) (now (a .perms)) (now (a .cols)) (l .i) (w .0 .left))))
+    (kept (a .form) m (now (a .reached)) (now (a .labels)) (now (a .perms)) (now (a .cols)) (l .i) (w .0 .left))))
     (c .if1 .came)
 
 same-length : tie.Need-same-length Inv-loop μ-loop

@@ -87,7 +87,10 @@ returns c =
     let h = c .before .before in
     let s = h .before .before .before .before .before .before in
     let a = s .args in
-    all-reached (a .form) (a .mode) (a .seed) (now (a .acts)) (now (a .labels)) (now (a .tally)) (now (a .reached)) (l .reached) _ _ (s .pre) (h .before .least-size .ensures) (h .home .ensures)
+    all-reached (a .form) (a .mode) (a .seed) (now (a .acts)) (now (a .labels)) (now (a .tally)) (now (a .reached)) (l .reached) _ _
+    (s .pre)
+    (h .before .least-size .ensures)
+    (h .home .ensures)
     (pass-all _ _ (l .i) (l .reached) (l .inv) (omega (arith, s .pre .lent, c .loop-test .left)))
 
 pub reach-spec : {M : Type 1} → statement M
