@@ -1,7 +1,7 @@
 // The choose step of a move: each site's new column, from the labels and the lent choices.
 ghost use mathlib.Core.Path.{_≡_};
 ghost use mathlib.Core.Bool.{true, cond, _&&_};
-ghost use Prim.Native.Nat.{ℕ, _<_};
+ghost use Prim.Native.Nat.{_<_};
 ghost use lib.Dec.{eqb, leb};
 ghost use lib.ListN.{length, getD};
 ghost use Rattle.paper.specs.Panel.Takes.{isSw, isWolff, entry};

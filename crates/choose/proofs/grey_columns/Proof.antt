@@ -1,5 +1,5 @@
 -- `choose::grey_columns` meets its contract. The invariant: the columns below i are new, the others are old. Assumes nothing.
-use Prim.Native.Nat.{ℕ, _≤_, _<_, _-_}
+use Prim.Native.Nat.{_<_, _-_}
 use mathlib.Core.Path.{_≡_, _∙_}
 use denote.Ref.{now}
 use native.Mathlib.Omega.{arith}

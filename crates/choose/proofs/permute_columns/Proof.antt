@@ -1,6 +1,6 @@
 -- `choose::permute_columns` meets its contract. The invariant: the columns below i are new, the others are old. Assumes nothing.
-use Prim.Native.Nat.{ℕ, _+_, _*_, _≤_, _<_, _-_}
-use mathlib.Core.Path.{_≡_, _∙_}
+use Prim.Native.Nat.{ℕ, _+_, _*_, _≤_, _-_}
+use mathlib.Core.Path.{_≡_}
 use mathlib.Core.Logic.{⊎-elim}
 use denote.Ref.{now}
 use native.Mathlib.Omega.{arith}

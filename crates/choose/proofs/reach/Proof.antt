@@ -1,6 +1,6 @@
 -- `choose::reach` meets its contract. The invariant: the marks below i are made. Assumes nothing.
-use Prim.Native.Nat.{ℕ, _≤_, _<_, _-_}
-use mathlib.Core.Path.{_≡_, _∙_}
+use Prim.Native.Nat.{_<_, _-_}
+use mathlib.Core.Path.{_∙_}
 use mathlib.Core.Bool.{cond}
 use denote.Ref.{now}
 use native.Mathlib.Omega.{arith}
