@@ -2,3 +2,5 @@ pub mod Ready
 pub mod Looked
 pub mod Moved
 pub mod Finish
+pub mod Task
+pub mod Choosing

@@ -14,8 +14,6 @@ use Rattle.paper.specs.declared.Mode.the-variants.{Houd, Pair, Perm, Gperm, Jor
 use Rattle.paper.specs.Panel.Input.{Graph, Call, Pattern, patternOf, size}
 use Rattle.paper.specs.Panel.Takes.{isGperm}
 use Rattle.paper.specs.Site.Acting.{gauge, testBy, acts}
-use Rattle.paper.specs.Component.Links.{Linked, Linked.stay, Linked.along, Linked.against}
-use Rattle.paper.specs.Component.Labels.{Bond, Joined, Labels}
 use Rattle.paper.specs.Component.Sizes.{bit}
 use Rattle.paper.specs.Component.Marks.{Flags, Marks, marked}
 use Rattle.paper.specs.Refusal.Rules.{Spin}
@@ -100,18 +98,6 @@ flag-is false = refl
 pub flag-at : (n : ℕ) (f : ℕ → Bool) (xs : List ℕ) → Flags n f xs → (i : ℕ) → i < n → eqb (getD xs i 0) 1 ≡ f i
 flag-at n f xs h i l = ap (λ (x : ℕ). eqb x 1) (h .at i l) ∙ flag-is (f i)
 
--- ---- labels of a table of bonds are labels of the rule that it marks
-pub rejoin : (t : Graph) (f g : ℕ → ℕ → Bool) → ((i e : ℕ) → i < t .n → e < t .d → f i e ≡ g i e) → {a b : ℕ} → Joined t f a b → Joined t g a b
-rejoin t f g e stay = stay
-rejoin t f g e (along h r) = along (record { site = h .site; dir = h .dir; dir-lt = h .dir-lt; on = sym (e _ (h .dir) (h .site) (h .dir-lt)) ∙ h .on; leads = h .leads }) (rejoin t f g e r)
-rejoin t f g e (against h r) = against (record { site = h .site; dir = h .dir; dir-lt = h .dir-lt; on = sym (e _ (h .dir) (h .site) (h .dir-lt)) ∙ h .on; leads = h .leads }) (rejoin t f g e r)
-
-pub relabel : (t : Graph) (f g : ℕ → ℕ → Bool) (l : List ℕ) → ((i e : ℕ) → i < t .n → e < t .d → f i e ≡ g i e) → Labels t f l → Labels t g l
-relabel t f g l e h = record {
-  long = h .long;
-  joined = λ i hi. rejoin t f g e (h .joined i hi);
-  least = λ i j hi hj w. h .least i j hi hj (rejoin t g f (λ a b ha hb. sym (e a b ha hb)) w);
-}
-
+-- a marked bond read back
 pub mark-at : (n d : ℕ) (f : ℕ → ℕ → Bool) (xs : List ℕ) → Marks n d f xs → (i e : ℕ) → i < n → e < d → marked d xs i e ≡ f i e
 mark-at n d f xs h i e hi he = ap (λ (x : ℕ). eqb x 1) (h .at i e hi he) ∙ flag-is (f i e)

@@ -1,0 +1,86 @@
+-- What the steps of a task ask and promise. Assumes nothing.
+use Prim.Native.Nat.{ℕ, _+_, _*_, _^_, _≤_, _<_}
+use mathlib.Core.Path.{_≡_}
+use mathlib.Core.Bool.{Bool, true, false, cond}
+use mathlib.Core.List.{List}
+use lib.ListN.{length, getD}
+use lib.IntN.{ℤ}
+use lib.Ieee.{Float}
+use Rattle.paper.specs.declared.Group.{Group}
+use Rattle.paper.specs.declared.Mode.{Mode}
+use Rattle.paper.specs.declared.Mode.the-variants.{Cmr}
+use Rattle.paper.specs.declared.Form.{Form}
+use Rattle.paper.specs.declared.Answer.{Answer}
+use Rattle.paper.specs.declared.Answer.the-variants.{Refused, Idle, Moved}
+use Rattle.paper.specs.Panel.Input.{Call, Choices, Buffers, graph, size}
+use Rattle.paper.specs.Panel.Takes.{isPerm, isGperm, isCmr, isDrawn, isSw, isWolff, moves, entries, flipsBy, permsBy}
+use Rattle.paper.specs.Site.Acting.{testBy, acts, SomeActs, NoneActs}
+use Rattle.paper.specs.Site.Bonds.{holds, holdsGrey}
+use Rattle.paper.specs.Component.Labels.{Labels}
+use Rattle.paper.specs.Component.Sizes.{labelOf, Sized, Counted, Largest}
+use Rattle.paper.specs.Component.Marks.{Flags, Tells}
+use Rattle.paper.specs.Move.Moving.{reachedBy, permAt, Moves}
+use Rattle.paper.specs.Refusal.Rules.{Permutes}
+use Rattle.columns.specs.Column.{Inside, Spinning, Columns}
+use Rattle.choose.specs.Chosen.{isOne, reachedAt}
+use Rattle.bonds.specs.Table.{Coupled}
+use Rattle.rules.specs.Tables.{SomeMarked}
+use Rattle.moves.specs.Ready.{Ready}
+use Rattle.moves.specs.Looked.{seenBy, seenAt}
+use Rattle.moves.specs.Moved.{choiceColumn}
+
+abbrev pub callOf : Mode → Form → ℕ → ℕ → ℕ → List ℕ → List ℕ → List ℤ → Group → Float → List Float → ℕ → ℕ → Call
+callOf mode form n d s fwd bwd couplings group temperature cuts reference seed = record {
+  mode = mode;
+  form = form;
+  lattice = record { n = n; d = d; s = s; fwd = fwd; bwd = bwd; couplings = couplings };
+  group = group;
+  temperature = temperature;
+  cuts = cuts;
+  reference = reference;
+  seed = seed;
+}
+
+abbrev pub choicesOf : List ℕ → List ℕ → List ℕ → Choices
+choicesOf flips perms greys = record { flips = flips; perms = perms; greys = greys }
+
+abbrev pub buffersOf : List ℤ → List ℕ → List ℕ → List ℕ → List ℕ → Buffers
+buffersOf spins labels greyLabels counts sizes = record { spins = spins; labels = labels; greyLabels = greyLabels; counts = counts; sizes = sizes }
+
+-- ---- look: columns and acting sites
+pub record Seeable (mode : Mode) (n : ℕ) (g : Group) (q : ℕ) (xs : List ℤ) (cols flags : List ℕ) : Type 0 where
+  pub n-high : n ≤ 4096
+  pub size-low : 1 ≤ g .len
+  pub size-high : g .len ≤ 8
+  pub inside : Inside n g xs
+  pub spins : Spinning n g xs
+  pub reference : isGperm mode ≡ true → q < n
+  pub cols-long : length cols ≡ n
+  pub flags-long : length flags ≡ n
+
+pub record Sights (mode : Mode) (n : ℕ) (g : Group) (q : ℕ) (xs : List ℤ) (cols flags : List ℕ) (r : Bool) : Type 0 where
+  pub columns : Columns n (g .len) (seenBy mode n g q xs) cols
+  pub flagged : Flags n (λ i. testBy mode (g .len) (seenBy mode n g q xs i)) flags
+  pub some : Tells r (SomeMarked n flags)
+
+-- ---- choose: the new columns
+pub record Choosable (mode : Mode) (form : Form) (m seed : ℕ) (flags labels tally flips perms reached cols : List ℕ) : Type 0 where
+  pub few : length cols ≤ 4096
+  pub flags-long : length flags ≡ length cols
+  pub labels-long : length labels ≡ length cols
+  pub reached-long : length reached ≡ length cols
+  pub below : (i : ℕ) → i < length cols → getD labels i 0 < length cols
+  pub tallied : Sized labels tally
+  pub seeded : isWolff form ≡ true → seed < length cols
+  pub moving : moves form ≡ true
+  pub size-low : 1 ≤ m
+  pub size-high : m ≤ 8
+  pub flips-long : flipsBy mode form ≡ true → length flips ≡ length cols
+  pub perms-long : isPerm mode ≡ true → length perms ≡ entries form (length cols) * m
+  pub places : isPerm mode ≡ true → (x : ℕ) → x < length perms → getD perms x 0 < m
+  pub narrow : (i : ℕ) → i < length cols → getD cols i 0 < 2 ^ m
+
+-- the new column of the site i
+abbrev pub chosenAt : Mode → Form → ℕ → ℕ → List ℕ → List ℕ → List ℕ → List ℕ → List ℕ → ℕ → ℕ
+chosenAt mode form m seed flags labels flips perms cols i =
+    cond (reachedAt form mode seed flags labels i) (choiceColumn mode form m flips perms (labelOf labels i) (getD cols i 0)) (getD cols i 0)
