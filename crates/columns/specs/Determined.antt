@@ -4,16 +4,17 @@ use mathlib.Core.Path.{_≡_, sym, _∙_}
 use mathlib.Core.Logic.{_⊎_, inl, inr, _≢_}
 use mathlib.Core.List.{List}
 use native.Mathlib.Omega.{arith}
-use native.Mathlib.Decide.{ℕ-discrete}
+use native.Mathlib.Decide.{ℕ-discrete, decLt}
 use native.Mathlib.Nat.{div-add-mod', mod-lt}
 use lib.ListN.{length, getD}
 use lib.Seq.{ext-getD}
 use lib.IntN.{ℤ, pos}
 use Rattle.paper.specs.declared.Group.{Group}
+use Rattle.paper.specs.declared.Mode.{Mode}
 use Rattle.paper.specs.Panel.Input.{Pattern, member, spin, patternOf}
 use Rattle.paper.specs.Law.Unique.{Placed, place}
 use Rattle.columns.specs.Column.{shown, columnOf, Columns}
-use Rattle.columns.specs.Rows.{signed, Written}
+use Rattle.columns.specs.Rows.{Signed, signed, Written}
 
 pub permute-group-site-determined :
     (column : ℕ) (g : Group) (perm : List ℕ) (r r′ : ℕ)
@@ -52,3 +53,14 @@ write-rows-determined n g signs cols xs ys zs w v = go (ℕ-discrete n 0)
     go : Dec (n ≡ 0) → ys ≡ zs
     go (yes e) = w .empty e ∙ sym (v .empty e)
     go (no e) = ext-getD (pos 0) ys zs (w .long ∙ sym (v .long)) (λ x h. cell (omega (arith, e)) x)
+
+pub signs-determined :
+    (mode : Mode) (n : ℕ) (g : Group) (xs : List ℤ) (reference : ℕ) (r r′ : List ℤ)
+    → Signed mode n g xs reference r
+    → Signed mode n g xs reference r′
+    → r ≡ r′
+signs-determined mode n g xs reference r r′ s s′ = ext-getD (pos 0) r r′ (s .long ∙ sym (s′ .long)) (λ k h. at k h (decLt k (g .len)))
+  where
+    at : (k : ℕ) → k < length r → Dec (k < g .len) → getD r k (pos 0) ≡ getD r′ k (pos 0)
+    at k h (yes l) = s .at k l ∙ sym (s′ .at k l)
+    at k h (no l) = let b : k < 8 = omega (arith, s .long) in s .rest k (omega arith) b ∙ sym (s′ .rest k (omega arith) b)

@@ -2,4 +2,5 @@ pub mod Column
 pub mod Bits
 pub mod Filled
 pub mod Rows
+pub mod Laws
 pub mod Determined

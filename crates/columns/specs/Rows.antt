@@ -2,21 +2,36 @@
 use Prim.Native.Nat.{ℕ, _+_, _*_, _≤_, _<_}
 use mathlib.Core.Path.{_≡_}
 use mathlib.Core.Logic.{_≢_}
+use mathlib.Core.Bool.{true}
 use mathlib.Core.List.{List}
 use lib.ListN.{length, getD}
 use lib.IntN.{ℤ, pos, _*ℤ_}
 use Rattle.paper.specs.declared.Group.{Group}
+use Rattle.paper.specs.declared.Mode.{Mode}
 use Rattle.paper.specs.Panel.Input.{Pattern, member, spin, patternOf}
+use Rattle.paper.specs.Panel.Takes.{isGperm}
 use Rattle.paper.specs.Site.Acting.{eqZ}
 use Rattle.paper.specs.Component.Sizes.{bit}
 use Rattle.paper.specs.Refusal.Rules.{Spin, Distinct}
-use Rattle.columns.specs.Column.{shown, Inside, Spinning}
+use Rattle.columns.specs.Column.{shown, signBy, Inside, Spinning}
 
 -- what permute_group_site asks: perm has a byte for each of the m places of a group, and each names a place
 pub record Places (m : ℕ) (perm : List ℕ) : Type 0 where
   pub few : m ≤ 8
   pub long : length perm ≡ m
   pub below : (k : ℕ) → k < m → getD perm k 0 < m
+
+-- what signs asks
+pub record Signable (mode : Mode) (n : ℕ) (g : Group) (xs : List ℤ) (reference : ℕ) : Type 0 where
+  pub few : g .len ≤ 8
+  pub inside : Inside n g xs
+  pub site : isGperm mode ≡ true → reference < n
+
+-- a sign for each member, and +1 past them
+pub record Signed (mode : Mode) (n : ℕ) (g : Group) (xs : List ℤ) (reference : ℕ) (signs : List ℤ) : Type 0 where
+  pub long : length signs ≡ 8
+  pub at : (k : ℕ) → k < g .len → getD signs k (pos 0) ≡ signBy mode (patternOf n g xs reference) k
+  pub rest : (k : ℕ) → g .len ≤ k → k < 8 → getD signs k (pos 0) ≡ pos 1
 
 -- the sign of each of the first m members is +1 or -1
 abbrev pub Signs : ℕ → List ℤ → Type 0

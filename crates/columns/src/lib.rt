@@ -5,11 +5,55 @@ ghost use Prim.Native.Nat.{ℕ, _*_, _<_};
 ghost use lib.ListN.{getD};
 ghost use lib.IntN.{pos, _*ℤ_};
 ghost use Rattle.paper.specs.Component.Sizes.{bit};
+ghost use Rattle.paper.specs.Panel.Takes.{isGperm};
 ghost use Rattle.paper.specs.Site.Acting.{eqZ};
 ghost use Rattle.columns.specs.Column.{bitOf, shown, columnOf, Columns};
 ghost use Rattle.columns.specs.Filled.{Whole};
-ghost use Rattle.columns.specs.Rows.{Places, Packable, Writable, Written, signed, Room, Fills, added};
+ghost use Rattle.columns.specs.Rows.{Signable, Signed, Places, Packable, Writable, Written, signed, Room, Fills, added};
 use paper::Group;
+use paper::Mode;
+
+fn is_gperm(mode: Mode) -> bool
+    ensures { λ r. ⌜ r ≡ isGperm mode ⌝ }
+{
+    match mode {
+        Mode::Houd => false,
+        Mode::Pair => false,
+        Mode::Perm => false,
+        Mode::Gperm => true,
+        Mode::Jorg => false,
+        Mode::Cmr => false,
+    }
+}
+
+// The spins of the group's members at the reference site, and +1 past them.
+fn reference_signs(spins: &[i8], n: usize, group: Group, reference: usize) -> [i8; 8]
+    requires { ⌜ Signable Mode.Gperm n group (now spins) reference ⌝ }
+    ensures { λ r. ⌜ Signed Mode.Gperm n group (now (spins .entry)) reference r ⌝ }
+{
+    let mut signs = [1i8; 8];
+    let len = group.len;
+    let mut k: usize = 0;
+    while k < len {
+        let s = group.systems[k];
+        let v = spins[s * n + reference];
+        signs[k] = v;
+        k += 1;
+    }
+    signs
+}
+
+// Each member's sign: in gperm its spin at the reference site, else +1.
+pub fn signs(mode: Mode, spins: &[i8], n: usize, group: Group, reference: usize) -> [i8; 8]
+    requires { ⌜ Signable mode n group (now spins) reference ⌝ }
+    ensures { λ r. ⌜ Signed mode n group (now (spins .entry)) reference r ⌝ }
+{
+    if is_gperm(mode) {
+        reference_signs(spins, n, group, reference)
+    } else {
+        [1i8; 8]
+    }
+}
 
 // Replica k gets what replica perm[k] had.
 pub fn permute_group_site(column: u8, group: Group, perm: &[u8]) -> u8
