@@ -90,6 +90,11 @@ ones-of (suc m) x l h =
     let low : x % 2 ≡ 1 = rw div-one at (h 0 (omega arith)) in
     omega (arith, pow-pos m)
 
+-- y is x with q marked, where q is below m
+pub record MarkedBelow (m q x y : ℕ) : Type 0 where
+  pub inside : q < m → y ≡ bitOr x (2 ^ q)
+  pub past : m ≤ q → y ≡ x
+
 -- a shift by less than the width loses nothing
 pub one-shifted : (w q : ℕ) → q < w → (1 * 2 ^ q) % 2 ^ w ≡ 2 ^ q
 one-shifted w q l = shl-exact 1 q w (omega arith) (omega arith) ∙ one-mul (2 ^ q)
@@ -124,6 +129,13 @@ module _ {m : ℕ} {p : ℕ → ℕ} where
     met = λ v b. ⊎-elim (λ o. met-more (h .met v o)) (λ n. record { place = i; below = omega arith; is = sym (only-bit (p i) v n) }) (or-either x (2 ^ p i) v b);
     marks = below-more (λ k. p k < m → Bit (bitOr x (2 ^ p i)) (p k)) i (λ k lk q. or-left x (2 ^ p i) (p k) (h .marks k lk q)) (λ q. or-right x (2 ^ p i) (p i) (own-bit (p i)));
   }
+
+  pub mark-below : {i x y : ℕ} → i < m → MarkedBelow m (p i) x y → Marked m p i x → Marked m p (i + 1) y
+  mark-below {i} {x} {y} li w h = go (decLt (p i) m)
+    where
+      go : Dec (p i < m) → Marked m p (i + 1) y
+      go (yes l) = rw (w .inside l) (mark-more li l h)
+      go (no n) = let l : m ≤ p i = omega arith in rw (w .past l) (mark-past li l h)
 
   pub mark-end : {i x : ℕ} → Marked m p i x → m ≤ i → Marked m p m x
   mark-end {i} {x} h l = subst (λ (k : ℕ). Marked m p k x) (le-antisymm (h .reached) l) h

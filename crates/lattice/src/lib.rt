@@ -11,7 +11,7 @@ ghost use Rattle.paper.specs.Panel.Takes.{isCmr};
 ghost use Rattle.paper.specs.Refusal.Rules.{Sizes, Ranged, Spin, Spins, SmallCouplings, Warm, isCut, Cuts, Back, Inverse, Grouped, Permutes, NotIdentity};
 ghost use Rattle.lattice.specs.Telling.{Each};
 ghost use Rattle.lattice.specs.Groups.{Fresh, Alone};
-ghost use Rattle.lattice.specs.Marking.{Marked, RowIn, Rows, RowsBelow, rowAt, OrderOf};
+ghost use Rattle.lattice.specs.Marking.{Marked, MarkedBelow, RowIn, Rows, RowsBelow, rowAt, OrderOf};
 ghost use Rattle.lattice.specs.Tables.{Tabled, TabledSite, TabledBond};
 use paper::Group;
 use paper::Mode;
@@ -256,4 +256,60 @@ pub fn permutations_ok(rows: usize, m: usize, perms: &[u8]) -> bool
         return false;
     }
     rows_full(rows, m, perms)
+}
+
+fn marked_below(s: usize, x: usize, marks: u64) -> u64
+    requires { ⌜ s ≤ 64 ⌝ }
+    ensures { λ r. ⌜ MarkedBelow s x marks r ⌝ }
+{
+    if x < s { marks | (1u64 << x) } else { marks }
+}
+
+fn order_marks(s: usize, order: &[u32]) -> u64
+    requires { ⌜ OrderOf s (now order) ⌝ }
+    ensures { λ r. ⌜ Marked s (λ k. getD (now (order .entry)) k 0) s r ⌝ }
+{
+    let mut marks = 0u64;
+    let mut k = 0;
+    while k < s {
+        marks = marked_below(s, wide(order[k]), marks);
+        k += 1;
+    }
+    marks
+}
+
+fn full(s: usize) -> u64
+    requires { ⌜ s ≤ 64 ⌝ }
+    ensures { λ r. ⌜ r ≡ 2 ^ s - 1 ⌝ }
+{
+    if s < 64 {
+        (1u64 << s) - 1
+    } else {
+        0xffff_ffff_ffff_ffff
+    }
+}
+
+pub fn order_ok(s: usize, order: &[u32]) -> bool
+    requires { ⌜ OrderOf s (now order) ⌝ }
+    ensures { λ r. ⌜ Tells r (Permutes s (λ k. getD (now (order .entry)) k 0)) ⌝ }
+{
+    order_marks(s, order) == full(s)
+}
+
+fn size(x: u8) -> usize
+    ensures { λ r. ⌜ r ≡ x ⌝ }
+{
+    x as usize
+}
+
+pub fn not_identity(row: &[u8]) -> bool
+    ensures { λ r. ⌜ Tells r (NotIdentity (length (now (row .entry))) (λ k. getD (now (row .entry)) k 0)) ⌝ }
+{
+    let mut moved = false;
+    let mut k = 0;
+    while k < row.len() {
+        moved = moved | (size(row[k]) != k);
+        k += 1;
+    }
+    moved
 }
