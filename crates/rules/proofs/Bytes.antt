@@ -20,27 +20,29 @@ use Rattle.columns.specs.Column.{code, columnOf, column-lt, isUp, shown, sign}
 use Rattle.rules.specs.Tables.{Written, Table}
 use Rattle.rules.proofs.Rules.{not-same}
 
--- nothing is written yet; one more place is
-pub written-none : {A : Type 0} (d : A) (f : ℕ → A) (p : List A) → Written d 0 f p p
-written-none d f p = record { long = refl; at = λ k h. absurd (omega arith); beyond = λ k h. refl }
+-- nothing is written yet; one more place is; the two places of one more pair are
+module _ {A : Type 0} (d : A) (f : ℕ → A) (p : List A) where
+  pub written-none : Written d 0 f p p
+  written-none = record { long = refl; at = λ k h. absurd (omega arith); beyond = λ k h. refl }
 
-pub written-more : {A : Type 0} (d : A) (m : ℕ) (f : ℕ → A) (p q : List A) (v : A) → m < length q → v ≡ f m → Written d m f p q → Written d (m + 1) f p (set q m v)
-written-more d m f p q v h e w =
-    record {
-      long = length-set q m v ∙ w .long;
-      at = λ k l. there k l (ℕ-discrete k m);
-      beyond = λ k l. getD-set-other q m k v d (λ x. omega arith) ∙ w .beyond k (omega arith);
-    }
-  where
-    there : (k : ℕ) → k < m + 1 → Dec (k ≡ m) → getD (set q m v) k d ≡ f k
-    there k l (yes x) = subst⁻¹ (λ (y : ℕ). getD (set q m v) y d ≡ f y) x (getD-set-same q m v d h ∙ e)
-    there k l (no x) = getD-set-other q m k v d x ∙ w .at k (omega arith)
+  pub written-more : (m : ℕ) (q : List A) (v : A) → m < length q → v ≡ f m → Written d m f p q → Written d (m + 1) f p (set q m v)
+  written-more m q v h e w =
+      record {
+        long = length-set q m v ∙ w .long;
+        at = λ k l. there k l (ℕ-discrete k m);
+        beyond = λ k l. getD-set-other q m k v d (λ x. omega arith) ∙ w .beyond k (omega arith);
+      }
+    where
+      there : (k : ℕ) → k < m + 1 → Dec (k ≡ m) → getD (set q m v) k d ≡ f k
+      there k l (yes x) = subst⁻¹ (λ (y : ℕ). getD (set q m v) y d ≡ f y) x (getD-set-same q m v d h ∙ e)
+      there k l (no x) = getD-set-other q m k v d x ∙ w .at k (omega arith)
 
--- the places of one more pair are
-pub written-pair : {A : Type 0} (d : A) (k : ℕ) (f : ℕ → A) (p q : List A) (v w : A) → 2 * k + 1 < length q → v ≡ f (2 * k) → w ≡ f (2 * k + 1) → Written d (2 * k) f p q → Written d (2 * (k + 1)) f p (set (set q (2 * k) v) (2 * k + 1) w)
-written-pair d k f p q v w h a b was =
-    let e : 2 * (k + 1) ≡ 2 * k + 1 + 1 = omega arith in
-    rw e (written-more d (2 * k + 1) f p (set q (2 * k) v) w (simp length-set h) b (written-more d (2 * k) f p q v (omega arith) a was))
+  module _ (k : ℕ) (q : List A) (v w : A) (fits : 2 * k + 1 < length q) (left : v ≡ f (2 * k)) (right : w ≡ f (2 * k + 1)) where
+    pub written-pair : Written d (2 * k) f p q → Written d (2 * (k + 1)) f p (set (set q (2 * k) v) (2 * k + 1) w)
+    written-pair was =
+        let e : 2 * (k + 1) ≡ 2 * k + 1 + 1 = omega arith in
+        let one = written-more (2 * k) q v (omega (arith, fits)) left was in
+        rw e (written-more (2 * k + 1) (set q (2 * k) v) w (simp length-set fits) right one)
 
 -- ---- a column, one system more
 pub column-none : (f : Pattern) → columnOf 0 f ≡ 0
@@ -68,6 +70,10 @@ one-room k x f h e =
     let l : 2 ^ (k + 1) ≤ 2 ^ 8 = pow-mono {j = 8} (omega arith) in
     let s : 2 ^ (k + 1) ≡ 2 ^ k * 2 = rw add-one (pow-suc 2 k) in
     rw (one-shl 8 k h, e) (omega (arith, column-lt k f))
+
+-- one system more, as the code adds its bit
+pub column-add : (k x : ℕ) (f : Pattern) → k < 8 → x ≡ columnOf k f → f k ≡ pos 1 → x + (1 * 2 ^ k) % 2 ^ 8 ≡ columnOf (k + 1) f
+column-add k x f h e up = rw (one-shl 8 k h, e) (column-up k f up)
 
 -- ---- what a column shows
 pub shown-up : (x k : ℕ) → x / 2 ^ k % 2 ≡ 1 → pos 1 ≡ shown x k
@@ -107,7 +113,7 @@ module _ {m end x : ℕ} {f : ℕ → ℕ} {blank table : List ℕ} (w : Filling
         few = w .few;
         long = w .long;
         zeros = w .zeros;
-        written = written-more 0 x f blank table v (omega (arith, w .written .long)) e (w .written);
+        written = written-more 0 f blank x table v (omega (arith, w .written .long)) e (w .written);
       }
 
   pub filling-done : end ≤ x → Table m f table

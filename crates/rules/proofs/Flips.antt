@@ -5,23 +5,23 @@ use mathlib.Core.List.{List}
 use Prim.Native.Nat.{ℕ, _≤_, _<_, _*_, _/_}
 use native.Mathlib.Omega.{arith}
 use native.Mathlib.Decide.{decLt}
-use lib.Dec.{ltb}
 use lib.ListN.{getD}
 use lib.IntN.{ℤ, pos, negℤ}
 use borrow.Author.Tests.{lt-ltb, le-ltb}
 use Rattle.paper.specs.declared.Mode.the-variants.{Houd, Pair}
-use Rattle.paper.specs.Move.Moving.{other, partner}
+use Rattle.paper.specs.Move.Moving.{other}
 use Rattle.paper.specs.Law.Partners.{pairs-fit, partner-in, partner-out}
 use Rattle.columns.specs.Column.{flipped}
 use Rattle.rules.specs.Tables.{spinAt, Written}
 
 -- more places than were written: the others are as they were
-written-on : {A : Type 0} (d : A) (s m : ℕ) (g f : ℕ → A) (p q : List A) → s ≤ m → ((k : ℕ) → k < s → g k ≡ f k) → ((k : ℕ) → s ≤ k → getD p k d ≡ f k) → Written d s g p q → Written d m f p q
-written-on d s m g f p q h a b w = record { long = w .long; at = λ k l. there k (decLt k s); beyond = λ k l. w .beyond k (omega arith) }
-  where
-    there : (k : ℕ) → Dec (k < s) → getD q k d ≡ f k
-    there k (yes l) = w .at k l ∙ a k l
-    there k (no l) = let o : s ≤ k = omega arith in w .beyond k o ∙ b k o
+module _ {A : Type 0} (d : A) (s m : ℕ) (g f : ℕ → A) (p q : List A) (fewer : s ≤ m) where
+  written-on : ((k : ℕ) → k < s → g k ≡ f k) → ((k : ℕ) → s ≤ k → getD p k d ≡ f k) → Written d s g p q → Written d m f p q
+  written-on a b w = record { long = w .long; at = λ k l. there k (decLt k s); beyond = λ k l. w .beyond k (omega (arith, fewer)) }
+    where
+      there : (k : ℕ) → Dec (k < s) → getD q k d ≡ f k
+      there k (yes l) = w .at k l ∙ a k l
+      there k (no l) = let o : s ≤ k = omega arith in w .beyond k o ∙ b k o
 
 pub flip-none : (m : ℕ) (p : List ℤ) → Written (pos 0) m (spinAt p) p p
 flip-none m p = record { long = refl; at = λ k h. refl; beyond = λ k h. refl }

@@ -1,5 +1,5 @@
 -- The look-up of every site's column, one site at a time. Assumes nothing.
-use mathlib.Core.Path.{_≡_, refl, sym, _∙_, ap, subst}
+use mathlib.Core.Path.{_≡_, sym, _∙_, ap, subst}
 use mathlib.Core.Bool.{Bool, true, false}
 use mathlib.Core.List.{List}
 use Prim.Native.Nat.{ℕ, _≤_, _<_, _+_}
@@ -45,24 +45,32 @@ module _ (acts : List ℕ) (i v : ℕ) (fits : i < length acts) where
   some-miss true ne t = some-on t
   some-miss false ne t = λ m. t (some-back ne m)
 
-module _ {table cols old acts : List ℕ} {found : Bool} {i : ℕ} (w : Looking table cols old acts found i) (v : ℕ) (more : i < length cols) (is : v ≡ getD table (getD cols i 0) 0) where
-  fits : i < length acts
-  fits = omega (arith, more, w .long, w .written .long)
+module _ {table cols old acts : List ℕ} {found : Bool} {i : ℕ} (w : Looking table cols old acts found i) where
+  module _ (v : ℕ) (more : i < length cols) (is : v ≡ getD table (getD cols i 0) 0) where
+    fits : i < length acts
+    fits = omega (arith, more, w .long, w .written .long)
 
-  step : (b : Bool) → Tells b (SomeMarked (i + 1) (set acts i v)) → Looking table cols old (set acts i v) b (i + 1)
-  step b t = record { below = omega (arith, more); long = w .long; written = written-more 0 i _ old acts v fits is (w .written); tells = t }
+    -- the byte v is set at the site i, and b tells of one site more
+    step : (b b′ : Bool) → b ≡ b′ → Tells b′ (SomeMarked (i + 1) (set acts i v)) → Looking table cols old (set acts i v) b (i + 1)
+    step b b′ e t =
+        record {
+          below = omega (arith, more);
+          long = w .long;
+          written = written-more 0 _ old i acts v fits is (w .written);
+          tells = subst (λ (x : Bool). Tells x (SomeMarked (i + 1) (set acts i v))) (sym e) t;
+        }
 
-  pub looking-hit : (b : Bool) → b ≡ true → v ≡ 1 → Looking table cols old (set acts i v) b (i + 1)
-  looking-hit b e h = step b (subst (λ (x : Bool). Tells x (SomeMarked (i + 1) (set acts i v))) (sym e) (some-hit acts i v fits h))
+    pub looking-hit : (b : Bool) → b ≡ true → v ≡ 1 → Looking table cols old (set acts i v) b (i + 1)
+    looking-hit b e h = step b true e (some-hit acts i v fits h)
 
-  pub looking-miss : (b : Bool) → b ≡ found → (v ≡ 1 → ⊥) → Looking table cols old (set acts i v) b (i + 1)
-  looking-miss b e h = step b (subst (λ (x : Bool). Tells x (SomeMarked (i + 1) (set acts i v))) (sym e) (some-miss acts i v fits found h (w .tells)))
+    pub looking-miss : (b : Bool) → b ≡ found → (v ≡ 1 → ⊥) → Looking table cols old (set acts i v) b (i + 1)
+    looking-miss b e h = step b found e (some-miss acts i v fits found h (w .tells))
 
-pub looking-done : {table cols old acts : List ℕ} {found : Bool} {i : ℕ} → Looking table cols old acts found i → length cols ≤ i → Looked table cols acts found
-looking-done {table} {cols} {old} {acts} {found} {i} w h =
-    let e : i ≡ length cols = omega (arith, w .below) in
-    record {
-      long = w .written .long ∙ w .long;
-      at = λ j l. w .written .at j (omega arith);
-      tells = subst (λ (n : ℕ). Tells found (SomeMarked n acts)) e (w .tells);
-    }
+  pub looking-done : length cols ≤ i → Looked table cols acts found
+  looking-done h =
+      let e : i ≡ length cols = omega (arith, w .below) in
+      record {
+        long = w .written .long ∙ w .long;
+        at = λ j l. w .written .at j (omega arith);
+        tells = subst (λ (n : ℕ). Tells found (SomeMarked n acts)) e (w .tells);
+      }

@@ -1,6 +1,6 @@
 -- For one input each public function's promise allows one result, and one content of the buffer that it was lent. Assumes nothing.
 use Prim.Native.Nat.{ℕ, _/_, _^_, _<_}
-use mathlib.Core.Path.{_≡_, refl, sym, _∙_, ap}
+use mathlib.Core.Path.{_≡_, refl, sym, _∙_}
 use mathlib.Core.Bool.{Bool, true, false}
 use mathlib.Core.List.{List}
 use native.Mathlib.Omega.{arith}
@@ -11,16 +11,16 @@ use lib.IntN.{ℤ, pos}
 use Rattle.paper.specs.declared.Group.{Group}
 use Rattle.paper.specs.declared.Mode.{Mode}
 use Rattle.paper.specs.Site.Acting.{pairDiffers, testBy}
-use Rattle.paper.specs.Component.Sizes.{bit}
 use Rattle.paper.specs.Component.Marks.{Tells}
-use Rattle.columns.specs.Column.{shown, columnOf, flipped}
-use Rattle.rules.specs.Tables.{spinAt, Written, Table, SomeMarked, Looked}
+use Rattle.columns.specs.Column.{flipped}
+use Rattle.rules.specs.Tables.{spinAt, Written, Table, actsEntry, flipEntry, SomeMarked, Looked}
 
-pub any-pair-differs-determined : (p : List ℤ) (g : Group) (r s : Bool) → r ≡ pairDiffers (g .len / 2) (spinAt p) → s ≡ pairDiffers (g .len / 2) (spinAt p) → r ≡ s
-any-pair-differs-determined p g r s a b = a ∙ sym b
+module _ (g : Group) (p : List ℤ) (r s : Bool) where
+  pub any-pair-differs-determined : r ≡ pairDiffers (g .len / 2) (spinAt p) → s ≡ pairDiffers (g .len / 2) (spinAt p) → r ≡ s
+  any-pair-differs-determined a b = a ∙ sym b
 
-pub acts-site-determined : (mode : Mode) (g : Group) (p : List ℤ) (r s : Bool) → r ≡ testBy mode (g .len) (spinAt p) → s ≡ testBy mode (g .len) (spinAt p) → r ≡ s
-acts-site-determined mode g p r s a b = a ∙ sym b
+  pub acts-site-determined : (mode : Mode) → r ≡ testBy mode (g .len) (spinAt p) → s ≡ testBy mode (g .len) (spinAt p) → r ≡ s
+  acts-site-determined mode a b = a ∙ sym b
 
 -- ---- tables
 pub table-unique : (m : ℕ) (f : ℕ → ℕ) (r s : List ℕ) → Table m f r → Table m f s → r ≡ s
@@ -30,11 +30,12 @@ table-unique m f r s a b = ext-getD 0 r s (a .long ∙ sym (b .long)) (λ x h. t
     there x h (yes l) = a .at x l ∙ sym (b .at x l)
     there x h (no l) = a .beyond x (omega arith) (omega (arith, a .long)) ∙ sym (b .beyond x (omega arith) (omega (arith, a .long)))
 
-pub acts-table-determined : (mode : Mode) (g : Group) (r s : List ℕ) → Table (g .len) (λ x. bit (testBy mode (g .len) (shown x))) r → Table (g .len) (λ x. bit (testBy mode (g .len) (shown x))) s → r ≡ s
-acts-table-determined mode g r s a b = table-unique (g .len) (λ x. bit (testBy mode (g .len) (shown x))) r s a b
+module _ (mode : Mode) (g : Group) (r s : List ℕ) where
+  pub acts-table-determined : Table (g .len) (actsEntry mode (g .len)) r → Table (g .len) (actsEntry mode (g .len)) s → r ≡ s
+  acts-table-determined = table-unique (g .len) (actsEntry mode (g .len)) r s
 
-pub flip-table-determined : (mode : Mode) (g : Group) (r s : List ℕ) → Table (g .len) (λ x. columnOf (g .len) (flipped mode (g .len) (shown x))) r → Table (g .len) (λ x. columnOf (g .len) (flipped mode (g .len) (shown x))) s → r ≡ s
-flip-table-determined mode g r s a b = table-unique (g .len) (λ x. columnOf (g .len) (flipped mode (g .len) (shown x))) r s a b
+  pub flip-table-determined : Table (g .len) (flipEntry mode (g .len)) r → Table (g .len) (flipEntry mode (g .len)) s → r ≡ s
+  flip-table-determined = table-unique (g .len) (flipEntry mode (g .len)) r s
 
 -- ---- an array of which the first places are written
 pub written-unique : {A : Type 0} (d : A) (m : ℕ) (f : ℕ → A) (p r s : List A) → Written d m f p r → Written d m f p s → r ≡ s
@@ -44,8 +45,12 @@ written-unique d m f p r s a b = ext-getD d r s (a .long ∙ sym (b .long)) (λ 
     there k (yes l) = a .at k l ∙ sym (b .at k l)
     there k (no l) = a .beyond k (omega arith) ∙ sym (b .beyond k (omega arith))
 
-pub flip-group-site-determined : (p : List ℤ) (g : Group) (mode : Mode) (r s : List ℤ) → Written (pos 0) (g .len) (flipped mode (g .len) (spinAt p)) p r → Written (pos 0) (g .len) (flipped mode (g .len) (spinAt p)) p s → r ≡ s
-flip-group-site-determined p g mode r s a b = written-unique (pos 0) (g .len) (flipped mode (g .len) (spinAt p)) p r s a b
+module _ (p : List ℤ) (g : Group) (mode : Mode) (r s : List ℤ) where
+  abbrev pub Flip : List ℤ → Type 0
+  Flip q = Written (pos 0) (g .len) (flipped mode (g .len) (spinAt p)) p q
+
+  pub flip-group-site-determined : Flip r → Flip s → r ≡ s
+  flip-group-site-determined = written-unique (pos 0) (g .len) (flipped mode (g .len) (spinAt p)) p r s
 
 -- ---- the look-up: the lent bytes and the result
 pub record SameLooked (acts : List ℕ) (r : Bool) (acts′ : List ℕ) (r′ : Bool) : Type 0 where
@@ -58,8 +63,12 @@ tells-unique P true false a b = absurd (b a)
 tells-unique P false true a b = absurd (a b)
 tells-unique P false false a b = refl
 
-pub mark-active-determined : (table cols acts acts′ : List ℕ) (r r′ : Bool) → Looked table cols acts r → Looked table cols acts′ r′ → SameLooked acts r acts′ r′
-mark-active-determined table cols acts acts′ r r′ a b = record { bytes = same; result = tells-unique (SomeMarked (length cols) acts) r r′ (a .tells) (rw same (b .tells)) }
-  where
-    same : acts ≡ acts′
-    same = ext-getD 0 acts acts′ (a .long ∙ sym (b .long)) (λ i h. a .at i (omega (arith, a .long)) ∙ sym (b .at i (omega (arith, a .long))))
+module _ (table cols acts acts′ : List ℕ) (r r′ : Bool) where
+  pub mark-active-determined : Looked table cols acts r → Looked table cols acts′ r′ → SameLooked acts r acts′ r′
+  mark-active-determined a b = record { bytes = same; result = tells-unique (SomeMarked (length cols) acts) r r′ (a .tells) (rw same (b .tells)) }
+    where
+      there : (i : ℕ) → i < length acts → getD acts i 0 ≡ getD acts′ i 0
+      there i h = let l : i < length cols = omega (arith, a .long) in a .at i l ∙ sym (b .at i l)
+
+      same : acts ≡ acts′
+      same = ext-getD 0 acts acts′ (a .long ∙ sym (b .long)) there

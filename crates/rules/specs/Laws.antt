@@ -18,7 +18,7 @@ use Rattle.paper.specs.Law.Partners.{partner-lt}
 use Rattle.paper.specs.Demand3.Reversible.{Spinning}
 use Rattle.paper.specs.Demand3.ActsKept.{test-ext}
 use Rattle.columns.specs.Column.{shown, columnOf, flipped, Columns, shown-column, column-ext, column-lt}
-use Rattle.rules.specs.Tables.{Table, SomeMarked, Looked}
+use Rattle.rules.specs.Tables.{Table, actsEntry, SomeMarked, Looked}
 
 -- a flip reads the first m places alone
 pub flipped-ext : (mode : Mode) (m : ℕ) (f g : Pattern) → ((k : ℕ) → k < m → f k ≡ g k) → (k : ℕ) → k < m → flipped mode m f k ≡ flipped mode m g k
@@ -71,13 +71,19 @@ module _ (n : ℕ) (t : ℕ → Bool) (acts : List ℕ) (flags : Flags n t acts)
 pub none-passes : (n : ℕ) (t : ℕ → Bool) → (SomeSite n t → ⊥) → (i : ℕ) → i < n → t i ≡ false
 none-passes n t h i l = off (t i) (λ e. h (record { site = i; below = l; does = e }))
 
-module _ (mode : Mode) (m n : ℕ) (f : ℕ → Pattern) (some : 0 < m) (spins : (i : ℕ) → i < n → Spinning m (f i)) {table cols acts : List ℕ} {r : Bool} (rule : Table m (λ x. bit (testBy mode m (shown x))) table) (panel : Columns n m f cols) (looked : Looked table cols acts r) where
-  pub looked-flags : Flags n (λ i. testBy mode m (f i)) acts
-  looked-flags =
-      record {
-        long = looked .long ∙ panel .long;
-        at = λ i h. looked .at i (omega (arith, panel .long)) ∙ (ap (λ (x : ℕ). getD table x 0) (panel .at i h) ∙ (rule .at (columnOf m (f i)) (column-lt m (f i)) ∙ ap bit (test-column mode m (f i) (spins i h) some)));
-      }
+module _ (mode : Mode) (m n : ℕ) (f : ℕ → Pattern) (some : 0 < m) (spins : (i : ℕ) → i < n → Spinning m (f i)) where
+  abbrev pub siteActs : ℕ → Bool
+  siteActs i = testBy mode m (f i)
 
-  pub looked-tells : Tells r (SomeSite n (λ i. testBy mode m (f i)))
-  looked-tells = flags-tell n (λ i. testBy mode m (f i)) acts looked-flags r (subst (λ (x : ℕ). Tells r (SomeMarked x acts)) (panel .long) (looked .tells))
+  module _ {t cols acts : List ℕ} {r : Bool} (rule : Table m (actsEntry mode m) t) (panel : Columns n m f cols) (looked : Looked t cols acts r) where
+    entry : (i : ℕ) → i < n → getD t (columnOf m (f i)) 0 ≡ bit (siteActs i)
+    entry i h = rule .at (columnOf m (f i)) (column-lt m (f i)) ∙ ap bit (test-column mode m (f i) (spins i h) some)
+
+    byte : (i : ℕ) → i < n → getD acts i 0 ≡ bit (siteActs i)
+    byte i h = looked .at i (omega (arith, panel .long)) ∙ (ap (λ (x : ℕ). getD t x 0) (panel .at i h) ∙ entry i h)
+
+    pub looked-flags : Flags n siteActs acts
+    looked-flags = record { long = looked .long ∙ panel .long; at = byte }
+
+    pub looked-tells : Tells r (SomeSite n siteActs)
+    looked-tells = flags-tell n siteActs acts looked-flags r (subst (λ (x : ℕ). Tells r (SomeMarked x acts)) (panel .long) (looked .tells))

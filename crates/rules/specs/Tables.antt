@@ -6,8 +6,12 @@ use mathlib.Core.List.{List}
 use lib.ListN.{length, getD}
 use lib.IntN.{ℤ, pos}
 use Rattle.paper.specs.declared.Group.{Group}
+use Rattle.paper.specs.declared.Mode.{Mode}
 use Rattle.paper.specs.Panel.Input.{Pattern}
+use Rattle.paper.specs.Site.Acting.{testBy}
+use Rattle.paper.specs.Component.Sizes.{bit}
 use Rattle.paper.specs.Component.Marks.{Tells}
+use Rattle.columns.specs.Column.{shown, columnOf, flipped}
 
 -- the pattern that an array holds
 abbrev pub spinAt : List ℤ → Pattern
@@ -29,6 +33,13 @@ pub record Table (m : ℕ) (f : ℕ → ℕ) (table : List ℕ) : Type 0 where
   pub long : length table ≡ 256
   pub at : (x : ℕ) → x < 2 ^ m → getD table x 0 ≡ f x
   pub beyond : (x : ℕ) → 2 ^ m ≤ x → x < 256 → getD table x 0 ≡ 0
+
+-- the entry of a column x of m systems: 1 where it acts; and the column that a flip makes of it
+abbrev pub actsEntry : Mode → ℕ → ℕ → ℕ
+actsEntry mode m x = bit (testBy mode m (shown x))
+
+abbrev pub flipEntry : Mode → ℕ → ℕ → ℕ
+flipEntry mode m x = columnOf m (flipped mode m (shown x))
 
 -- some of the first n bytes is 1
 pub record SomeMarked (n : ℕ) (xs : List ℕ) : Type 0 where

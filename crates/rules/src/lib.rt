@@ -4,13 +4,12 @@ use paper::Mode;
 ghost use mathlib.Core.Path.{_≡_};
 ghost use Prim.Native.Nat.{ℕ, _*_, _/_, _≤_, _<_};
 ghost use lib.IntN.{pos, negℤ};
-ghost use lib.ListN.{length, getD};
+ghost use lib.ListN.{length};
 ghost use Rattle.paper.specs.Site.Acting.{eqZ, sum, differs, pairDiffers, testBy};
-ghost use Rattle.paper.specs.Component.Sizes.{bit};
 ghost use Rattle.paper.specs.Move.Moving.{other};
 ghost use Rattle.paper.specs.Demand3.Reversible.{Spinning};
 ghost use Rattle.columns.specs.Column.{shown, columnOf, flipped};
-ghost use Rattle.rules.specs.Tables.{spinAt, Sized, Written, Table, Looked};
+ghost use Rattle.rules.specs.Tables.{spinAt, Sized, Written, Table, actsEntry, flipEntry, Looked};
 
 // pair and Jörg: some pair (0 1), (2 3), .. disagrees; an odd last system is not read.
 pub fn any_pair_differs(p: [i8; 8], group: Group) -> bool
@@ -119,7 +118,7 @@ fn pack_one(p: [i8; 8], len: usize) -> u8
 // The entry of the table of acting columns: 1 where the column acts.
 fn acts_entry(mode: Mode, group: Group, column: u8) -> u8
     requires { ⌜ Sized group ⌝ }
-    ensures { λ r. ⌜ r ≡ bit (testBy mode (group .len) (shown column)) ⌝ }
+    ensures { λ r. ⌜ r ≡ actsEntry mode (group .len) column ⌝ }
 {
     if acts_site(mode, group, unpack(column)) {
         1
@@ -131,7 +130,7 @@ fn acts_entry(mode: Mode, group: Group, column: u8) -> u8
 // Which columns act.
 pub fn acts_table(mode: Mode, group: Group) -> [u8; 256]
     requires { ⌜ Sized group ⌝ }
-    ensures { λ r. ⌜ Table (group .len) (λ x. bit (testBy mode (group .len) (shown x))) r ⌝ }
+    ensures { λ r. ⌜ Table (group .len) (actsEntry mode (group .len)) r ⌝ }
 {
     let mut table = [0u8; 256];
     let len = group.len;
@@ -197,7 +196,7 @@ pub fn flip_group_site(p: [i8; 8], group: Group, mode: Mode) -> [i8; 8]
 // The entry of the table of flipped columns.
 fn flip_entry(mode: Mode, group: Group, column: u8) -> u8
     requires { ⌜ group .len ≤ 8 ⌝ }
-    ensures { λ r. ⌜ r ≡ columnOf (group .len) (flipped mode (group .len) (shown column)) ⌝ }
+    ensures { λ r. ⌜ r ≡ flipEntry mode (group .len) column ⌝ }
 {
     pack_one(flip_group_site(unpack(column), group, mode), group.len)
 }
@@ -205,7 +204,7 @@ fn flip_entry(mode: Mode, group: Group, column: u8) -> u8
 // What a flip makes of each column.
 pub fn flip_table(mode: Mode, group: Group) -> [u8; 256]
     requires { ⌜ Sized group ⌝ }
-    ensures { λ r. ⌜ Table (group .len) (λ x. columnOf (group .len) (flipped mode (group .len) (shown x))) r ⌝ }
+    ensures { λ r. ⌜ Table (group .len) (flipEntry mode (group .len)) r ⌝ }
 {
     let mut table = [0u8; 256];
     let len = group.len;

@@ -6,7 +6,6 @@ use native.Mathlib.Omega.{arith}
 use borrow.Author.Needs.{needs}
 use Rattle.paper.specs.Site.Acting.{testBy}
 use Rattle.paper.specs.Component.Sizes.{bit}
-use Rattle.paper.specs.Refusal.Rules.{Spin}
 use Rattle.paper.specs.Demand3.ActsKept.{test-ext}
 use Rattle.columns.specs.Column.{shown, shown-spin}
 use Rattle.rules.specs.Tables.{spinAt}
@@ -22,15 +21,23 @@ shows c k h = c .unpack .ensures k (omega (arith, c .before .pre .few))
 acts-site-requires : tie.Need-acts-site-requires
 acts-site-requires c κs = (c .before .pre, λ k h. rw (shows c k h) (shown-spin (c .before .args .column) k))
 
-acts : (c : tie.After-acts-site) → c .acts-site .result ≡ testBy (c .before .before .args .mode) (c .before .before .args .group .len) (shown (c .before .before .args .column))
+-- what the column's entry is made of
+entry : tie.Start → Bool
+entry c = testBy (c .args .mode) (c .args .group .len) (shown (c .args .column))
+
+acts : (c : tie.After-acts-site) → c .acts-site .result ≡ entry (c .before .before)
+unfolding entry
 acts c =
-    let a = c .before .before .args in
-    c .acts-site .ensures ∙ test-ext (a .mode) (a .group .len) (spinAt (c .before .unpack .result)) (shown (a .column)) (c .before .before .pre .some) (shows (c .before))
+    let s = c .before .before in
+    let p = spinAt (c .before .unpack .result) in
+    c .acts-site .ensures ∙ test-ext (s .args .mode) (s .args .group .len) p (shown (s .args .column)) (s .pre .some) (shows (c .before))
 
 returns : tie.Need-returns
+unfolding entry
 returns c = ap bit (sym (c .if1 .taken) ∙ acts (c .before))
 
 returns-2 : tie.Need-returns-2
+unfolding entry
 returns-2 c = ap bit (sym (c .if1 .left) ∙ acts (c .before))
 
 pub acts-entry-spec : {M : Type 1} → statement M

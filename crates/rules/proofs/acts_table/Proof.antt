@@ -1,17 +1,13 @@
 -- `rules::acts_table` meets its contract. The invariant: the entries below x are written, and the others are 0.
-use mathlib.Core.Path.{_≡_}
 use Prim.Native.Nat.{_-_}
-use native.Mathlib.Omega.{arith}
 use borrow.Author.Needs.{needs}
-use Rattle.paper.specs.Site.Acting.{testBy}
-use Rattle.paper.specs.Component.Sizes.{bit}
-use Rattle.columns.specs.Column.{shown}
+use Rattle.rules.specs.Tables.{actsEntry}
 use Rattle.rules.proofs.Bytes.{Filling, filling-none, filling-more, filling-done}
 use Rattle.rules.proofs.acts_table.Statement.{statement}
 use Rattle.rules.proofs.acts_table.Tie as tie
 
 abbrev Inv-loop : tie.InvT-loop
-Inv-loop mode group table₀ len end x₀ table x = Filling len end x (λ y. bit (testBy mode len (shown y))) table₀ table
+Inv-loop mode group table₀ len end x₀ table x = Filling len end x (actsEntry mode len) table₀ table
 
 abbrev μ-loop : tie.MeasureT-loop
 μ-loop mode group table₀ len end x₀ table x = end - x

@@ -37,11 +37,12 @@ loop-again : tie.Need-loop-again Inv-loop μ-loop
 loop-again c =
     let l = c .before .before in
     let f = spinAt (l .before .before .before .args .t1) in
-    let k = l .before .loop .k in (
+    let k = l .before .loop .k in
+    let same = bits-inj (f k) (f 0) (record { sfits = c .before .v .given }) (record { sfits = l .before .before .first .given }) in (
       omega (arith, l .loop-test .taken),
       ⊎-elim
           (λ w. w .1 ∙ sym (differs-hit k f (λ e. w .0 .taken (ap (ofZ w8) e))))
-          (λ w. w .1 ∙ (l .before .loop .inv .1 ∙ sym (differs-miss k f (bits-inj (f k) (f 0) (record { sfits = c .before .v .given }) (record { sfits = l .before .before .first .given }) (w .0 .left)))))
+          (λ w. w .1 ∙ (l .before .loop .inv .1 ∙ sym (differs-miss k f (same (w .0 .left)))))
           (c .if1 .came),
     )
 

@@ -52,11 +52,12 @@ loop-again : tie.Need-loop-again Inv-loop μ-loop
 loop-again c =
     let l = c .before .before .before in
     let f = spinAt (l .before .before .args .t1) in
-    let k = l .before .loop .k in (
+    let k = l .before .loop .k in
+    let same = bits-inj (f (2 * k)) (f (2 * k + 1)) (record { sfits = c .before .before .a .given }) (record { sfits = c .before .b .given }) in (
       omega (arith, l .loop-test .taken),
       ⊎-elim
           (λ w. w .1 ∙ sym (pair-hit k f (λ e. w .0 .taken (ap (ofZ w8) e))))
-          (λ w. w .1 ∙ (l .before .loop .inv .1 ∙ sym (pair-miss k f (bits-inj (f (2 * k)) (f (2 * k + 1)) (record { sfits = c .before .before .a .given }) (record { sfits = c .before .b .given }) (w .0 .left)))))
+          (λ w. w .1 ∙ (l .before .loop .inv .1 ∙ sym (pair-miss k f (same (w .0 .left)))))
           (c .if1 .came),
     )
 

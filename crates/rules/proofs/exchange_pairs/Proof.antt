@@ -1,10 +1,10 @@
 -- `rules::exchange_pairs` meets its contract. The invariant: the first j pairs are exchanged in q.
 use mathlib.Core.Path.{_≡_, _∙_, sym, ap}
-use Prim.Native.Nat.{ℕ, _≤_, _<_, _-_, _*_, _+_, _/_}
+use Prim.Native.Nat.{_≤_, _<_, _-_, _*_, _+_, _/_}
 use native.Mathlib.Omega.{arith}
 use borrow.Author.Needs.{needs}
-use lib.IntN.{ℤ, pos}
-use lib.ListN.{length, length-set}
+use lib.IntN.{pos}
+use lib.ListN.{length}
 use mir.Syntax.{w8}
 use mir.ValLaws.{toZ-ofZ}
 use Rattle.paper.specs.Move.Moving.{other}
@@ -73,7 +73,7 @@ loop-again c =
     let g : 2 * (i .j + 1) ≤ c .before .before .before .before .args .len = omega arith in
     let a = toZ-ofZ w8 _ (record { sfits = c .before .a .given }) ∙ ap (spinAt p) (sym (other-second (i .j))) in
     let b = toZ-ofZ w8 _ (record { sfits = c .b .given }) ∙ ap (spinAt p) (sym (other-first (i .j))) in
-    (g, (i .inv .1 .0, written-pair (pos 0) (i .j) (λ m. spinAt p (other m)) p (i .q) _ _ h b a (i .inv .1 .1)))
+    (g, (i .inv .1 .0, written-pair (pos 0) (λ m. spinAt p (other m)) p (i .j) (i .q) _ _ h b a (i .inv .1 .1)))
 
 returns : tie.Need-returns Inv-loop μ-loop
 returns c =

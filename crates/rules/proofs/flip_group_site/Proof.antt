@@ -1,5 +1,4 @@
 -- `rules::flip_group_site` meets its contract: in each mode's arm the flip that is called is the mode's.
-use Prim.Native.Nat.{_*_, _/_}
 use native.Mathlib.Omega.{arith}
 use borrow.Author.Needs.{needs}
 use Rattle.paper.specs.Law.Partners.{pairs-fit}

@@ -1,15 +1,13 @@
 -- `rules::flip_table` meets its contract. The invariant: the entries below x are written, and the others are 0.
-use mathlib.Core.Path.{_≡_}
 use Prim.Native.Nat.{_-_}
-use native.Mathlib.Omega.{arith}
 use borrow.Author.Needs.{needs}
-use Rattle.columns.specs.Column.{shown, columnOf, flipped}
+use Rattle.rules.specs.Tables.{flipEntry}
 use Rattle.rules.proofs.Bytes.{Filling, filling-none, filling-more, filling-done}
 use Rattle.rules.proofs.flip_table.Statement.{statement}
 use Rattle.rules.proofs.flip_table.Tie as tie
 
 abbrev Inv-loop : tie.InvT-loop
-Inv-loop mode group table₀ len end x₀ table x = Filling len end x (λ y. columnOf len (flipped mode len (shown y))) table₀ table
+Inv-loop mode group table₀ len end x₀ table x = Filling len end x (flipEntry mode len) table₀ table
 
 abbrev μ-loop : tie.MeasureT-loop
 μ-loop mode group table₀ len end x₀ table x = end - x

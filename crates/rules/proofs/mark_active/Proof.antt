@@ -1,10 +1,9 @@
 -- `rules::mark_active` meets its contract. The invariant: the first i sites are looked up, and `found` tells of them.
-use mathlib.Core.Path.{_≡_, refl}
+use mathlib.Core.Path.{refl}
 use mathlib.Core.Logic.{⊎-elim}
 use Prim.Native.Nat.{_-_}
 use native.Mathlib.Omega.{arith}
 use borrow.Author.Needs.{needs}
-use denote.Ref.{now}
 use Rattle.rules.proofs.Marking.{Looking, looking-none, looking-hit, looking-miss, looking-done}
 use Rattle.rules.proofs.mark_active.Statement.{statement}
 use Rattle.rules.proofs.mark_active.Tie as tie

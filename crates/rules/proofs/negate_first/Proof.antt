@@ -44,7 +44,7 @@ loop-again c =
     let i = c .before .before .loop in
     let p = c .before .before .before .args .t1 in
     let h : i .k < length (i .q) = omega (arith, i .inv .1 .1 .long) in
-    (omega arith, (i .inv .1 .0, written-more (pos 0) (i .k) (λ m. negℤ (spinAt p m)) p (i .q) _ h (negate-bits _ (spin c)) (i .inv .1 .1)))
+    (omega arith, (i .inv .1 .0, written-more (pos 0) (λ m. negℤ (spinAt p m)) p (i .k) (i .q) _ h (negate-bits _ (spin c)) (i .inv .1 .1)))
 
 returns : tie.Need-returns Inv-loop μ-loop
 returns c =

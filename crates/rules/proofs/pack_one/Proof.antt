@@ -1,7 +1,7 @@
 -- `rules::pack_one` meets its contract. The invariant: x is the column of the first k spins.
 use mathlib.Core.Path.{_≡_, _∙_, sym, ap}
 use mathlib.Core.Logic.{⊎-elim}
-use Prim.Native.Nat.{ℕ, _≤_, _-_, _+_, _*_, _^_}
+use Prim.Native.Nat.{_≤_, _-_}
 use native.Mathlib.Omega.{arith}
 use borrow.Author.Needs.{needs}
 use lib.Dec.{lit<}
@@ -11,7 +11,7 @@ use mir.Val.{ofZ}
 use Rattle.columns.specs.Column.{columnOf}
 use Rattle.rules.specs.Tables.{spinAt}
 use Rattle.rules.proofs.Rules.{bits-inj}
-use Rattle.rules.proofs.Bytes.{column-none, column-up, column-down, one-shl, one-room}
+use Rattle.rules.proofs.Bytes.{column-none, column-down, column-add, one-room}
 use Rattle.rules.proofs.pack_one.Statement.{statement}
 use Rattle.rules.proofs.pack_one.Tie as tie
 
@@ -52,7 +52,7 @@ loop-again c =
     let h = bits-inj (f (i .k)) (pos 1) (record { sfits = c .before .v .given }) (record { sfits = lit< tt }) in (
       omega (arith, l .loop-test .taken),
       ⊎-elim
-          (λ w. w .1 ∙ (ap (λ (y : ℕ). i .x + y) (one-shl 8 (i .k) (omega arith)) ∙ (ap (λ (y : ℕ). y + 1 * 2 ^ i .k) (i .inv .1) ∙ column-up (i .k) f (h (w .0 .taken)))))
+          (λ w. w .1 ∙ column-add (i .k) (i .x) f (omega arith) (i .inv .1) (h (w .0 .taken)))
           (λ w. w .1 ∙ (i .inv .1 ∙ column-down (i .k) f (λ e. w .0 .left (ap (ofZ w8) e))))
           (c .if1 .came),
     )

@@ -46,7 +46,7 @@ loop-again c =
     let h : i .k < length (i .p) = omega (arith, i .inv .1 .1 .long) in
     let e : toZ w8 (c .if1 .v) ≡ shown x (i .k) =
     ⊎-elim (λ w. ap (toZ w8) (w .1) ∙ shown-up x (i .k) (w .0 .taken)) (λ w. ap (toZ w8) (w .1) ∙ shown-down x (i .k) (w .0 .left)) (c .if1 .came) in
-    (omega arith, (i .inv .1 .0, written-more (pos 0) (i .k) (shown x) _ (i .p) (toZ w8 (c .if1 .v)) h e (i .inv .1 .1)))
+    (omega arith, (i .inv .1 .0, written-more (pos 0) (shown x) _ (i .k) (i .p) (toZ w8 (c .if1 .v)) h e (i .inv .1 .1)))
 
 returns : tie.Need-returns Inv-loop μ-loop
 returns c k h = c .before .loop .inv .1 .1 .at k (omega arith)
