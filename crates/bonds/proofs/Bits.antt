@@ -21,29 +21,38 @@ odd x = go (x % 2) (mod-lt x (omega arith))
     go (suc zero) h = on
     go (suc (suc y)) h = absurd (omega arith)
 
-pub first : (x : ℕ) → shown x 0 ≡ sign (eqb (x % 2) 1)
+first : (x : ℕ) → shown x 0 ≡ sign (eqb (x % 2) 1)
 first x = rw div-one
 
--- a product of two spins is +1 where their bits are equal
-same-bits : {x y : ℕ} → Bit x → Bit y → sign (eqb x y) ≡ sign (eqb x 1) *ℤ sign (eqb y 1)
-same-bits off off = refl
-same-bits off on = refl
-same-bits on off = refl
-same-bits on on = refl
+-- ---- bits are equal where the spins are
+bits-same : {x y : ℕ} → Bit x → Bit y → eqb x y ≡ eqZ (sign (eqb x 1)) (sign (eqb y 1))
+bits-same off off = refl
+bits-same off on = refl
+bits-same on off = refl
+bits-same on on = refl
 
-pub overlap : (x : ℕ) → sign (eqb (x % 2) (x / 2 % 2)) ≡ shown x 0 *ℤ shown x 1
-overlap x = rw (first x) (same-bits (odd x) (odd (x / 2)))
+pub pair-same : (x : ℕ) → eqb (x % 2) (x / 2 % 2) ≡ eqZ (shown x 0) (shown x 1)
+pair-same x = rw (first x) (bits-same (odd x) (odd (x / 2)))
 
-pub signs-by : (x y t : Bool) {p q : ℤ} → sign x ≡ p → sign y ≡ q → Bool·beq x y ≡ t → eqZ p q ≡ t
-signs-by x y t ex ey e = rw (← ex, ← ey, ← e) (same x y)
-  where
-    same : (x y : Bool) → eqZ (sign x) (sign y) ≡ Bool·beq x y
-    same true true = refl
-    same true false = refl
-    same false true = refl
-    same false false = refl
+pub firsts-same : (x y : ℕ) → eqb (x % 2) (y % 2) ≡ eqZ (shown x 0) (shown y 0)
+firsts-same x y = rw (first x, first y) (bits-same (odd x) (odd y))
 
--- ---- a number times two spins
+-- ---- products of spins
+signs-same : (p q : Bool) → eqZ (sign p) (sign q) ≡ Bool·beq p q
+signs-same true true = refl
+signs-same true false = refl
+signs-same false true = refl
+signs-same false false = refl
+
+pub product : (p q : Bool) → sign p *ℤ sign q ≡ sign (eqZ (sign p) (sign q))
+product true true = refl
+product true false = refl
+product false true = refl
+product false false = refl
+
+pub overlaps-same : (p q r s : Bool) → eqZ (sign p *ℤ sign q) (sign r *ℤ sign s) ≡ Bool·beq (eqZ (sign p) (sign q)) (eqZ (sign r) (sign s))
+overlaps-same p q r s = rw (product p q, product r s) (signs-same (eqZ (sign p) (sign q)) (eqZ (sign r) (sign s)))
+
 times-one : (j : ℤ) → j *ℤ pos 1 ≡ j
 times-one (pos m) = rw mul-one
 times-one (negsuc m) = rw mul-one
@@ -51,11 +60,8 @@ times-one (negsuc m) = rw mul-one
 times-minus : (j : ℤ) → j *ℤ negsuc 0 ≡ negℤ j
 times-minus j = *ℤ-negsuc j 0 ∙ ap negℤ (times-one j)
 
-align : (j : ℤ) {x y : ℕ} → Bit x → Bit y → j *ℤ sign (eqb x 1) *ℤ sign (eqb y 1) ≡ cond (eqb x y) j (negℤ j)
-align j off off = times-minus (j *ℤ negsuc 0) ∙ (ap negℤ (times-minus j) ∙ negℤ-negℤ j)
-align j off on = times-one (j *ℤ negsuc 0) ∙ times-minus j
-align j on off = times-minus (j *ℤ pos 1) ∙ ap negℤ (times-one j)
-align j on on = times-one (j *ℤ pos 1) ∙ times-one j
-
-pub aligned-by : (j : ℤ) (a b : ℕ) (t : Bool) → eqb (a % 2) (b % 2) ≡ t → j *ℤ shown a 0 *ℤ shown b 0 ≡ cond t j (negℤ j)
-aligned-by j a b t e = rw (first a, first b, ← e) (align j (odd a) (odd b))
+pub align : (j : ℤ) (p q : Bool) → j *ℤ sign p *ℤ sign q ≡ cond (eqZ (sign p) (sign q)) j (negℤ j)
+align j true true = times-one (j *ℤ pos 1) ∙ times-one j
+align j true false = times-minus (j *ℤ pos 1) ∙ ap negℤ (times-one j)
+align j false true = times-one (j *ℤ negsuc 0) ∙ times-minus j
+align j false false = times-minus (j *ℤ negsuc 0) ∙ (ap negℤ (times-minus j) ∙ negℤ-negℤ j)

@@ -12,7 +12,7 @@ use lib.ListN.{length, getD, set, length-set, List·getD-eq-default}
 use lib.Seq.{getD-set-same, getD-set-other}
 use Rattle.paper.specs.Component.Sizes.{bit}
 use Rattle.paper.specs.Component.Marks.{Marks}
-use Rattle.bonds.specs.Table.{Forward}
+use Rattle.bonds.specs.Table.{Forward, ActiveIn}
 use Rattle.bonds.specs.Row.{Row, Blank}
 
 -- ---- the bond (i, e): its entry is in the table, which is short, and it leads to a site
@@ -105,3 +105,7 @@ module _ (n d : ℕ) (f : ℕ → ℕ → Bool) where
           below = λ k h. refl;
           above = λ k h. refl;
         })
+
+-- what a site's turn is lent, with the count of sites as the length of acts
+pub lent-on : {n d : ℕ} {fwd acts xs : List ℕ} (ys : List ℕ) → ActiveIn n d fwd acts xs → length ys ≡ n * d → ActiveIn (length acts) d fwd acts ys
+lent-on ys h long = record { forward = rw (h .acts-long) (h .forward); acts-long = refl; holds-long = rw (h .acts-long) long }

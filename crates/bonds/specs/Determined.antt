@@ -9,12 +9,13 @@ use lib.ListN.{length, getD}
 use lib.Seq.{ext-getD}
 use lib.IntN.{ℤ}
 use lib.Ieee.{Float}
+use Rattle.paper.specs.declared.Group.{Group}
 use Rattle.paper.specs.declared.Sampler.{Sampler}
 use Rattle.paper.specs.declared.BondKind.{BondKind}
 use Rattle.paper.specs.Site.Bonds.{kindOf, blueHolds, greyHolds}
 use Rattle.paper.specs.Component.Marks.{Marks}
 use Rattle.columns.specs.Column.{shown}
-use Rattle.bonds.specs.Table.{CmrOut, bothActing}
+use Rattle.bonds.specs.Table.{CmrOut, bothActing, jorgAt}
 
 some-directions : (n d k : ℕ) → k < n * d → 0 < d
 some-directions n zero k h = absurd (omega (arith, mul-zero n))
@@ -42,6 +43,13 @@ draw-grey-determined kind s cut r r′ p q = p ∙ sym q
 module _ (n d : ℕ) (fwd acts : List ℕ) where
   pub active-bonds-determined : (xs ys : List ℕ) → Marks n d (bothActing d fwd acts) xs → Marks n d (bothActing d fwd acts) ys → xs ≡ ys
   active-bonds-determined xs ys = marks-same
+
+module _ (n d : ℕ) (fwd : List ℕ) (couplings : List ℤ) (cuts : List Float) (g : Group) (s : Sampler) (acts cols : List ℕ) where
+  abbrev jorgBond : ℕ → ℕ → Bool
+  jorgBond = jorgAt d fwd couplings cuts (g .len) s acts cols
+
+  pub jorg-bonds-determined : (xs ys : List ℕ) → Marks n d jorgBond xs → Marks n d jorgBond ys → xs ≡ ys
+  jorg-bonds-determined xs ys = marks-same
 
 -- both lent tables
 pub record SameTables (bs gs bs′ gs′ : List ℕ) : Type 0 where

@@ -34,6 +34,14 @@ pub record ActiveIn (n d : ℕ) (fwd acts holds : List ℕ) : Type 0 where
   pub acts-long : length acts ≡ n
   pub holds-long : length holds ≡ n * d
 
+-- a group of m systems
+pub record JorgIn (n d : ℕ) (fwd : List ℕ) (couplings : List ℤ) (cuts : List Float) (m : ℕ) (acts cols holds : List ℕ) : Type 0 where
+  pub active : ActiveIn n d fwd acts holds
+  pub coupled : Coupled n d couplings cuts
+  pub size-low : 2 ≤ m
+  pub size-high : m ≤ 8
+  pub cols-long : length cols ≡ n
+
 pub record CmrIn (n d : ℕ) (fwd : List ℕ) (couplings : List ℤ) (cuts : List Float) (cols blue grey : List ℕ) : Type 0 where
   pub forward : Forward n d fwd
   pub coupled : Coupled n d couplings cuts
@@ -42,8 +50,8 @@ pub record CmrIn (n d : ℕ) (fwd : List ℕ) (couplings : List ℤ) (cuts : Lis
   pub grey-long : length grey ≡ n * d
 
 -- the site i acts: its byte is 1
-pub record Acts (n : ℕ) (acts : List ℕ) (i : ℕ) : Type 0 where
-  pub below : i < n
+pub record Acts (acts : List ℕ) (i : ℕ) : Type 0 where
+  pub below : i < length acts
   pub does : getD acts i 0 ≡ 1
 
 -- ---- what is judged
@@ -54,6 +62,12 @@ acting acts i = eqb (getD acts i 0) 1
 
 abbrev pub bothActing : ℕ → List ℕ → List ℕ → ℕ → ℕ → Bool
 bothActing d fwd acts i e = acting acts i && acting acts (getD fwd (i * d + e) 0)
+
+-- Jörg: both act, and the bond is drawn
+abbrev pub jorgAt : ℕ → List ℕ → List ℤ → List Float → ℕ → Sampler → List ℕ → List ℕ → ℕ → ℕ → Bool
+jorgAt d fwd couplings cuts m s acts cols i e =
+    bothActing d fwd acts i e
+    && jorgHolds (getD couplings (i * d + e) (pos 0)) m (shown (getD cols i 0)) (shown (getD cols (getD fwd (i * d + e) 0) 0)) s (getD cuts (i * d + e) nan)
 
 -- CMR: the kind of the bond (i, e), and whether it is drawn blue, and blue or red
 abbrev pub kindAt : ℕ → List ℕ → List ℤ → List ℕ → ℕ → ℕ → BondKind

@@ -2,13 +2,17 @@
 ghost use mathlib.Core.Path.{_≡_};
 ghost use Prim.Native.Nat.{_*_, _≤_, _<_};
 ghost use lib.ListN.{length, getD};
+ghost use mathlib.Core.Bool.{_&&_};
+ghost use lib.Dec.{eqb};
 ghost use lib.IntN.{natAbs, _*ℤ_};
-ghost use Rattle.paper.specs.Site.Bonds.{whole, drawn, kindOf, blueHolds, greyHolds};
+ghost use Rattle.paper.specs.Site.Acting.{eqZ, sum};
+ghost use Rattle.paper.specs.Site.Bonds.{whole, drawn, pairTerm, jorgHolds, kindOf, blueHolds, greyHolds};
 ghost use Rattle.paper.specs.Component.Marks.{Marks};
-ghost use Rattle.columns.specs.Column.{sign, shown};
-ghost use Rattle.bonds.specs.Table.{ActiveIn, CmrIn, CmrOut, Acts, bothActing, blueAt, greyAt};
+ghost use Rattle.columns.specs.Column.{shown};
+ghost use Rattle.bonds.specs.Table.{ActiveIn, JorgIn, CmrIn, CmrOut, Acts, bothActing, jorgAt, blueAt, greyAt};
 ghost use Rattle.bonds.specs.Row.{Row, BothRows, Blank};
 use paper::BondKind;
+use paper::Group;
 use paper::Sampler;
 
 fn wide(x: u32) -> usize
@@ -27,9 +31,9 @@ fn clear(holds: &mut [u8])
 }
 
 // The bonds of site i, which acts.
-fn active_site(i: usize, n: usize, d: usize, fwd: &[u32], acts: &[u8], holds: &mut [u8])
-    requires { ⌜ ActiveIn n d (now fwd) (now acts) (now holds) ⌝ }
-    requires { ⌜ Acts n (now acts) i ⌝ }
+fn active_site(i: usize, d: usize, fwd: &[u32], acts: &[u8], holds: &mut [u8])
+    requires { ⌜ ActiveIn (length (now acts)) d (now fwd) (now acts) (now holds) ⌝ }
+    requires { ⌜ Acts (now acts) i ⌝ }
     ensures { λ _. ⌜ Row (i * d) d (bothActing d (now (fwd .entry)) (now (acts .entry)) i) (now (holds .entry)) (now (holds .exit)) ⌝ }
 {
     let base = i * d;
@@ -47,7 +51,7 @@ pub fn active_bonds(n: usize, d: usize, fwd: &[u32], acts: &[u8], holds: &mut [u
     clear(holds);
     for i in 0..n {
         if acts[i] == 1 {
-            active_site(i, n, d, fwd, acts, holds);
+            active_site(i, d, fwd, acts, holds);
         }
     }
 }
@@ -60,11 +64,11 @@ fn size(j: i32) -> f32
     if j < 0 { (0 - j) as f32 } else { j as f32 }
 }
 
-// Are a site's two spins equal? Their product q is then +1, and else -1.
+// Are the first two spins of a column equal? Their product q is then +1, and else -1.
 fn agree(a: u8) -> bool
-    ensures { λ r. ⌜ sign r ≡ shown a 0 *ℤ shown a 1 ⌝ }
+    ensures { λ r. ⌜ r ≡ eqZ (shown a 0) (shown a 1) ⌝ }
 {
-    a % 2 == a / 2 % 2
+    a % 2 == (a >> 1) % 2
 }
 
 // The coupling times the first replica's spins at the two ends.
@@ -129,7 +133,6 @@ pub fn draw_grey(kind: BondKind, sampler: Sampler, cut: f32) -> bool
 // The bonds of site i.
 fn cmr_site(
     i: usize,
-    n: usize,
     d: usize,
     fwd: &[u32],
     couplings: &[i32],
@@ -139,8 +142,8 @@ fn cmr_site(
     blue: &mut [u8],
     grey: &mut [u8],
 )
-    requires { ⌜ CmrIn n d (now fwd) (now couplings) (now cuts) (now cols) (now blue) (now grey) ⌝ }
-    requires { ⌜ i < n ⌝ }
+    requires { ⌜ CmrIn (length (now cols)) d (now fwd) (now couplings) (now cuts) (now cols) (now blue) (now grey) ⌝ }
+    requires { ⌜ i < length (now cols) ⌝ }
     ensures { λ _. ⌜ BothRows (i * d) d
         (blueAt d (now (fwd .entry)) (now (couplings .entry)) (now (cuts .entry)) sampler (now (cols .entry)) i)
         (greyAt d (now (fwd .entry)) (now (couplings .entry)) (now (cuts .entry)) sampler (now (cols .entry)) i)
@@ -173,6 +176,115 @@ pub fn cmr_bonds(
         (now (cols .entry)) (now (blue .exit)) (now (grey .exit)) ⌝ }
 {
     for i in 0..n {
-        cmr_site(i, n, d, fwd, couplings, cuts, sampler, cols, blue, grey);
+        cmr_site(i, d, fwd, couplings, cuts, sampler, cols, blue, grey);
+    }
+}
+
+// What the first pair of two columns adds to the sum: where it disagrees at both ends, the product of its first spins.
+fn pair_term(a: u8, b: u8) -> i32
+    ensures { λ r. ⌜ r ≡ pairTerm (shown a) (shown b) 0 ⌝ }
+{
+    if agree(a) {
+        return 0;
+    }
+    if agree(b) {
+        return 0;
+    }
+    if a % 2 == b % 2 { 1 } else { -1 }
+}
+
+fn pair_sum(a: u8, b: u8, pairs: usize) -> i32
+    requires { ⌜ pairs ≤ 4 ⌝ }
+    ensures { λ r. ⌜ r ≡ sum pairs (pairTerm (shown a) (shown b)) ⌝ }
+{
+    let mut total: i32 = 0;
+    let mut x = a;
+    let mut y = b;
+    for k in 0..pairs {
+        total = total + pair_term(x, y);
+        x = x >> 2;
+        y = y >> 2;
+    }
+    total
+}
+
+fn jorg_holds(coupling: i32, len: usize, a: u8, b: u8, sampler: Sampler, cut: f32) -> bool
+    requires { ⌜ natAbs coupling ≤ 1000000 ⌝ }
+    requires { ⌜ len ≤ 8 ⌝ }
+    ensures { λ r. ⌜ r ≡ jorgHolds coupling len (shown a) (shown b) sampler cut ⌝ }
+{
+    let strength = coupling * pair_sum(a, b, len / 2);
+    if strength > 0 {
+        is_drawn(sampler.four, size(strength), cut)
+    } else {
+        false
+    }
+}
+
+// A bond of a site that acts: its other end has the byte `act`.
+fn jorg_bond(act: u8, coupling: i32, len: usize, a: u8, b: u8, sampler: Sampler, cut: f32) -> bool
+    requires { ⌜ natAbs coupling ≤ 1000000 ⌝ }
+    requires { ⌜ len ≤ 8 ⌝ }
+    ensures { λ r. ⌜ r ≡ (eqb act 1 && jorgHolds coupling len (shown a) (shown b) sampler cut) ⌝ }
+{
+    if act == 1 {
+        jorg_holds(coupling, len, a, b, sampler, cut)
+    } else {
+        false
+    }
+}
+
+// The bonds of site i, which acts.
+fn jorg_site(
+    i: usize,
+    d: usize,
+    fwd: &[u32],
+    couplings: &[i32],
+    cuts: &[f32],
+    len: usize,
+    sampler: Sampler,
+    acts: &[u8],
+    cols: &[u8],
+    holds: &mut [u8],
+)
+    requires { ⌜ JorgIn (length (now acts)) d (now fwd) (now couplings) (now cuts) len (now acts) (now cols) (now holds) ⌝ }
+    requires { ⌜ Acts (now acts) i ⌝ }
+    ensures { λ _. ⌜ Row (i * d) d
+        (jorgAt d (now (fwd .entry)) (now (couplings .entry)) (now (cuts .entry)) len sampler (now (acts .entry)) (now (cols .entry)) i)
+        (now (holds .entry)) (now (holds .exit)) ⌝ }
+{
+    let base = i * d;
+    let col = cols[i];
+    for e in 0..d {
+        let b = base + e;
+        let j = wide(fwd[b]);
+        holds[b] = jorg_bond(acts[j], couplings[b], len, col, cols[j], sampler, cuts[b]) as u8;
+    }
+}
+
+// Both ends act and the bond is drawn.
+pub fn jorg_bonds(
+    n: usize,
+    d: usize,
+    fwd: &[u32],
+    couplings: &[i32],
+    cuts: &[f32],
+    group: Group,
+    sampler: Sampler,
+    acts: &[u8],
+    cols: &[u8],
+    holds: &mut [u8],
+)
+    requires { ⌜ JorgIn n d (now fwd) (now couplings) (now cuts) (group .len) (now acts) (now cols) (now holds) ⌝ }
+    ensures { λ _. ⌜ Marks n d
+        (jorgAt d (now (fwd .entry)) (now (couplings .entry)) (now (cuts .entry)) (group .len) sampler (now (acts .entry)) (now (cols .entry)))
+        (now (holds .exit)) ⌝ }
+{
+    clear(holds);
+    let len = group.len;
+    for i in 0..n {
+        if acts[i] == 1 {
+            jorg_site(i, d, fwd, couplings, cuts, len, sampler, acts, cols, holds);
+        }
     }
 }

@@ -1,14 +1,13 @@
 -- `bonds::active_bonds` meets its contract. Assumes nothing.
-use Prim.Native.Nat.{ℕ, _+_, _*_, _≤_, _<_, _-_}
-use mathlib.Core.Path.{_≡_, refl, ap, _∙_}
+use Prim.Native.Nat.{_≤_, _-_}
+use mathlib.Core.Path.{_∙_}
 use mathlib.Core.Logic.{⊎-elim}
 use native.Mathlib.Nat.{le-antisymm}
 use native.Mathlib.Omega.{arith}
-use borrow.Author.Tests.{ne-eqb}
-use lib.ListN.{length, getD}
-use Rattle.bonds.specs.Table.{bothActing}
-use Rattle.bonds.proofs.Rows.{Marking, marking-none, marking-more, marking-skip, begun-all}
 use borrow.Author.Needs.{needs}
+use borrow.Author.Tests.{ne-eqb}
+use Rattle.bonds.specs.Table.{bothActing}
+use Rattle.bonds.proofs.Rows.{Marking, marking-none, marking-more, marking-skip, begun-all, lent-on}
 use Rattle.bonds.proofs.active_bonds.Statement.{statement}
 use Rattle.bonds.proofs.active_bonds.Tie as tie
 
@@ -31,7 +30,12 @@ shared-slice-read-if1 : tie.Need-shared-slice-read-if1 Inv-loop μ-loop
 shared-slice-read-if1 c = search needs
 
 active-site-requires : tie.Need-active-site-requires Inv-loop μ-loop
-active-site-requires c κs = search needs
+active-site-requires c κs =
+    let t = c .before .before .before in
+    let h = t .before .before .before .before .before .before .before .before .before .pre in (
+      lent-on _ h (t .before .loop .inv .1 .begun .long),
+      record { below = rw (h .acts-long) (t .loop-test .taken); does = c .before .if1 .taken },
+    )
 
 add-i : tie.Need-add-i Inv-loop μ-loop
 add-i c = search needs

@@ -14,15 +14,15 @@ use Rattle.bonds.proofs.active_site.Statement.{statement}
 use Rattle.bonds.proofs.active_site.Tie as tie
 
 abbrev Inv-loop : tie.InvT-loop
-Inv-loop i n d fwd acts holds₀ base e₀ holds e = (e ≤ d) × Row (i * d) e (bothActing d fwd acts i) holds₀ holds
+Inv-loop i d fwd acts holds₀ base e₀ holds e = (e ≤ d) × Row (i * d) e (bothActing d fwd acts i) holds₀ holds
 
 abbrev μ-loop : tie.MeasureT-loop
-μ-loop i n d fwd acts holds₀ base e₀ holds e = d - e
+μ-loop i d fwd acts holds₀ base e₀ holds e = d - e
 
 abbrev of-turn : tie.In-loop Inv-loop μ-loop → tie.Start Inv-loop μ-loop
 of-turn c = c .before .before .before .before .before
 
-at : (c : tie.In-loop Inv-loop μ-loop) → (let a = of-turn c .args in Place (a .n) (a .d) (a .fwd .now) (a .i) (c .before .loop .e))
+at : (c : tie.In-loop Inv-loop μ-loop) → (let a = of-turn c .args in Place (length (a .acts .now)) (a .d) (a .fwd .now) (a .i) (c .before .loop .e))
 at c = let s = of-turn c in place (s .pre .0 .forward) (s .args .i) (c .before .loop .e) (s .pre .1 .below) (c .loop-test .taken)
 
 -- the site acts, so the other end decides

@@ -1,12 +1,15 @@
 -- `bonds::aligned` meets its contract: the coupling, or minus it, as the two bits agree. Assumes nothing.
-use mathlib.Core.Path.{sym, _∙_}
-use mathlib.Core.Bool.{true, false}
+use Prim.Native.Nat.{_%_}
+use mathlib.Core.Path.{_≡_, sym, ap, _∙_}
+use mathlib.Core.Bool.{Bool, true, false, cond}
 use borrow.Author.Tests.{eq-eqb, ne-eqb}
-use lib.IntN.{pos, negℤ, _-ℤ_, +ℤ-idl}
+use lib.Dec.{eqb}
+use lib.IntN.{pos, negℤ, _*ℤ_, _-ℤ_, +ℤ-idl}
 use mir.Syntax.{w32}
 use mir.Val.{toZ, ofZ}
 use mir.Facts.{sfits-lit}
-use Rattle.bonds.proofs.Bits.{aligned-by}
+use Rattle.columns.specs.Column.{bitOf, shown}
+use Rattle.bonds.proofs.Bits.{align, firsts-same}
 use Rattle.bonds.proofs.Ints.{abs-neg}
 use Rattle.bonds.proofs.Held.{Holds, Value, given, asks, stored, reads, held-sub-to, small-fits}
 use Rattle.bonds.proofs.aligned.Statement.{statement}
@@ -24,15 +27,17 @@ module _ (s : tie.Start) where
 sub-result : tie.Need-sub-result
 sub-result c = asks (minus (c .before))
 
+aligned-by : (s : tie.Start) (t : Bool) → eqb (s .args .a % 2) (s .args .b % 2) ≡ t → (let a = s .args in a .coupling *ℤ shown (a .a) 0 *ℤ shown (a .b) 0 ≡ cond t (a .coupling) (negℤ (a .coupling)))
+aligned-by s t e =
+    let a = s .args in
+    align (a .coupling) (bitOf (a .a) 0) (bitOf (a .b) 0)
+    ∙ ap (λ (x : Bool). cond x (a .coupling) (negℤ (a .coupling))) (sym (firsts-same (a .a) (a .b)) ∙ e)
+
 returns : tie.Need-returns
-returns c =
-    let s = c .before in
-    reads (coupling s) ∙ sym (aligned-by (s .args .coupling) (s .args .a) (s .args .b) true (eq-eqb _ _ (c .if1 .taken)))
+returns c = reads (coupling (c .before)) ∙ sym (aligned-by (c .before) true (eq-eqb _ _ (c .if1 .taken)))
 
 returns-2 : tie.Need-returns-2
-returns-2 c =
-    let s = c .before in
-    reads (stored (minus s)) ∙ sym (aligned-by (s .args .coupling) (s .args .a) (s .args .b) false (ne-eqb _ _ (c .if1 .left)))
+returns-2 c = reads (stored (minus (c .before))) ∙ sym (aligned-by (c .before) false (ne-eqb _ _ (c .if1 .left)))
 
 pub aligned-spec : {M : Type 1} → statement M
 aligned-spec = tie.close (tie.spec sub-result returns returns-2)

@@ -1,5 +1,5 @@
 -- `bonds::classify` meets its contract. Assumes nothing.
-use mathlib.Core.Path.{_≡_, ap, _∙_}
+use mathlib.Core.Path.{_≡_, sym, ap, _∙_}
 use mathlib.Core.Bool.{Bool, true, false, Bool·beq}
 use Prim.Native.Nat.{_≤_}
 use native.Mathlib.Omega.{arith}
@@ -12,8 +12,8 @@ use mir.Facts.{sfits-lit}
 use Rattle.paper.specs.declared.BondKind.the-variants.{Blue, Red}
 use Rattle.paper.specs.Site.Acting.{eqZ}
 use Rattle.paper.specs.Site.Bonds.{whole}
-use Rattle.columns.specs.Column.{shown}
-use Rattle.bonds.proofs.Bits.{signs-by}
+use Rattle.columns.specs.Column.{bitOf, shown}
+use Rattle.bonds.proofs.Bits.{overlaps-same}
 use Rattle.bonds.proofs.Held.{Holds, given, bounded, reads, held-lt, held-same, held-differ}
 use Rattle.bonds.proofs.classify.Statement.{statement}
 use Rattle.bonds.proofs.classify.Tie as tie
@@ -33,7 +33,10 @@ module _ (s : tie.Start) where
 
 -- the test of the overlaps
 overlaps : (c : tie.After-agree2) (t : Bool) → Bool·beq (c .before .agree .result) (c .agree2 .result) ≡ t → (let s = c .before .before .args in eqZ (shown (s .a) 0 *ℤ shown (s .a) 1) (shown (s .b) 0 *ℤ shown (s .b) 1) ≡ t)
-overlaps c t e = signs-by (c .before .agree .result) (c .agree2 .result) t (c .before .agree .ensures) (c .agree2 .ensures) e
+overlaps c t e =
+    let s = c .before .before .args in
+    overlaps-same (bitOf (s .a) 0) (bitOf (s .a) 1) (bitOf (s .b) 0) (bitOf (s .b) 1)
+    ∙ ((λ i. Bool·beq (sym (c .before .agree .ensures) i) (sym (c .agree2 .ensures) i)) ∙ e)
 
 -- the test of the first replica's spins
 above : (c : tie.After-aligned) (t : Bool) → ltZ (toZ w32 0) (toZ w32 (ofZ w32 (c .aligned .result))) ≡ t → (let s = c .before .before .before .before .args in ltZ (pos 0) (s .coupling *ℤ shown (s .a) 0 *ℤ shown (s .b) 0) ≡ t)

@@ -28,8 +28,10 @@ cmr-site-requires : tie.Need-cmr-site-requires Inv-loop μ-loop
 cmr-site-requires c κs =
     let t = c .before .before in
     let h = of-turn t .pre in
-    let inv = t .before .loop .inv in
-    (record { forward = h .forward; coupled = h .coupled; cols-long = h .cols-long; blue-long = inv .1 .long; grey-long = inv .2 .long }, t .loop-test .taken)
+    let inv = t .before .loop .inv in (
+      rw (h .cols-long) (record { forward = h .forward; coupled = h .coupled; cols-long = h .cols-long; blue-long = inv .1 .long; grey-long = inv .2 .long }),
+      rw (h .cols-long) (t .loop-test .taken),
+    )
 
 add-i : tie.Need-add-i Inv-loop μ-loop
 add-i c = search needs

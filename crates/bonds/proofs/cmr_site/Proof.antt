@@ -6,56 +6,45 @@ use native.Mathlib.Nat.{le-antisymm}
 use native.Mathlib.Omega.{arith}
 use borrow.Author.Needs.{needs}
 use lib.ListN.{length, getD, length-set}
-use lib.IntN.{ℤ, pos, natAbs}
-use lib.Ieee.{Float, nan}
-use mir.Syntax.{w32}
-use mir.Val.{toZ, ofZ}
+use lib.Ieee.{nan}
 use Rattle.paper.specs.declared.BondKind.{BondKind}
 use Rattle.paper.specs.Site.Bonds.{kindOf, blueHolds, greyHolds}
 use Rattle.paper.specs.Component.Sizes.{bit}
 use Rattle.columns.specs.Column.{shown}
-use Rattle.bonds.specs.Table.{kindAt, blueAt, greyAt}
+use Rattle.bonds.specs.Table.{Coupled, kindAt, blueAt, greyAt}
 use Rattle.bonds.specs.Row.{BothRows}
-use Rattle.bonds.proofs.Held.{bounded, reads}
+use Rattle.bonds.proofs.Couplings.{coupling-back, read-small}
 use Rattle.bonds.proofs.Rows.{Place, place, base-short, row-none, row-more}
 use Rattle.bonds.proofs.cmr_site.Statement.{statement}
 use Rattle.bonds.proofs.cmr_site.Tie as tie
 
 abbrev Inv-loop : tie.InvT-loop
-Inv-loop i n d fwd couplings cuts sampler cols blue₀ grey₀ base col e₀ blue grey e =
+Inv-loop i d fwd couplings cuts sampler cols blue₀ grey₀ base col e₀ blue grey e =
     (e ≤ d) × BothRows (i * d) e (blueAt d fwd couplings cuts sampler cols i) (greyAt d fwd couplings cuts sampler cols i) blue₀ grey₀ blue grey
 
 abbrev μ-loop : tie.MeasureT-loop
-μ-loop i n d fwd couplings cuts sampler cols blue₀ grey₀ base col e₀ blue grey e = d - e
+μ-loop i d fwd couplings cuts sampler cols blue₀ grey₀ base col e₀ blue grey e = d - e
 
 abbrev of-turn : tie.In-loop Inv-loop μ-loop → tie.Start Inv-loop μ-loop
 of-turn c = c .before .before .before .before .before .before .before .before
 
-at : (c : tie.In-loop Inv-loop μ-loop) → (let a = of-turn c .args in Place (a .n) (a .d) (a .fwd .now) (a .i) (c .before .loop .e))
+at : (c : tie.In-loop Inv-loop μ-loop) → (let a = of-turn c .args in Place (length (a .cols .now)) (a .d) (a .fwd .now) (a .i) (c .before .loop .e))
 at c = let s = of-turn c in place (s .pre .0 .forward) (s .args .i) (c .before .loop .e) (s .pre .1) (c .loop-test .taken)
 
--- the coupling as it is read back, and the kind that is drawn
-module _ (c : tie.After-classify-arg Inv-loop μ-loop) where
-  abbrev turn : tie.In-loop Inv-loop μ-loop
-  turn = c .before .before .before .before
+abbrev turn : tie.After-classify-arg Inv-loop μ-loop → tie.In-loop Inv-loop μ-loop
+turn c = c .before .before .before .before
 
-  abbrev bond : ℕ
-  bond = of-turn turn .args .i * of-turn turn .args .d + turn .before .loop .e
+coupled : (c : tie.In-loop Inv-loop μ-loop) → (let a = of-turn c .args in Coupled (length (a .cols .now)) (a .d) (a .couplings .now) (a .cuts .now))
+coupled c = of-turn c .pre .0 .coupled
 
-  abbrev coupling : ℤ
-  coupling = getD (of-turn turn .args .couplings .now) bond (pos 0)
-
-  coupling-back : toZ w32 (ofZ w32 coupling) ≡ coupling
-  coupling-back = reads (bounded w32 coupling (c .classify-arg .given))
-
-  coupling-small : natAbs coupling ≤ 1000000
-  coupling-small = let h = of-turn turn .pre .0 .coupled in h .small bond (omega (arith, at turn, h .couplings-long))
-
-kind-is : (c : tie.After-classify Inv-loop μ-loop) → (let t = turn (c .before) in let a = of-turn t .args in c .classify .result ≡ kindAt (a .d) (a .fwd .now) (a .couplings .now) (a .cols .now) (a .i) (t .before .loop .e))
+kind-is : (c : tie.After-classify Inv-loop μ-loop) → (let t = turn (c .before) in
+    let a = of-turn t .args in
+    c .classify .result ≡ kindAt (a .d) (a .fwd .now) (a .couplings .now) (a .cols .now) (a .i) (t .before .loop .e))
 kind-is c =
-    let a = of-turn (turn (c .before)) .args in
+    let t = turn (c .before) in
+    let cols = of-turn t .args .cols .now in
     c .classify .ensures
-    ∙ (λ i. kindOf (coupling-back (c .before) i) (shown (getD (a .cols .now) (a .i) 0)) (shown (getD (a .cols .now) (c .before .before .before .wide .ensures i) 0)))
+    ∙ (λ i. kindOf (coupling-back (coupled t) (at t) i) (shown (getD cols (of-turn t .args .i) 0)) (shown (getD cols (c .before .before .before .wide .ensures i) 0)))
 
 mul-base : tie.Need-mul-base Inv-loop μ-loop
 mul-base c = let s = c .before .before .before .before .before in omega (arith, base-short (s .pre .0 .forward) (s .args .i) (s .pre .1))
@@ -85,16 +74,16 @@ mul-classify : tie.Need-mul-classify Inv-loop μ-loop
 mul-classify c = omega (arith, at (c .before .before .before))
 
 shared-slice-copy-out-classify : tie.Need-shared-slice-copy-out-classify Inv-loop μ-loop
-shared-slice-copy-out-classify c = let t = c .before .before .before in omega (arith, at t, of-turn t .pre .0 .coupled)
+shared-slice-copy-out-classify c = let t = c .before .before .before in omega (arith, at t, coupled t)
 
 classify-requires : tie.Need-classify-requires Inv-loop μ-loop
-classify-requires c κs = rw (coupling-back c) (coupling-small c)
+classify-requires c κs = read-small (coupled (turn c)) (at (turn c))
 
 mul-draw-blue : tie.Need-mul-draw-blue Inv-loop μ-loop
 mul-draw-blue c = omega (arith, at (turn (c .before)))
 
 shared-slice-read-draw-blue : tie.Need-shared-slice-read-draw-blue Inv-loop μ-loop
-shared-slice-read-draw-blue c = let t = turn (c .before .before) in omega (arith, at t, of-turn t .pre .0 .coupled)
+shared-slice-read-draw-blue c = let t = turn (c .before .before) in omega (arith, at t, coupled t)
 
 draw-blue-requires : tie.Need-draw-blue-requires Inv-loop μ-loop
 draw-blue-requires c κs = search needs
@@ -109,7 +98,7 @@ mul-draw-grey : tie.Need-mul-draw-grey Inv-loop μ-loop
 mul-draw-grey c = omega (arith, at (turn (c .before .before .before)))
 
 shared-slice-read-draw-grey : tie.Need-shared-slice-read-draw-grey Inv-loop μ-loop
-shared-slice-read-draw-grey c = let t = turn (c .before .before .before .before) in omega (arith, at t, of-turn t .pre .0 .coupled)
+shared-slice-read-draw-grey c = let t = turn (c .before .before .before .before) in omega (arith, at t, coupled t)
 
 draw-grey-requires : tie.Need-draw-grey-requires Inv-loop μ-loop
 draw-grey-requires c κs = search needs
@@ -132,7 +121,7 @@ loop-again c =
     let t = turn (k .before) in
     let s = of-turn t in
     let l = t .before .loop in
-    let cut = getD (s .args .cuts .now) (bond (k .before)) nan in (
+    let cut = getD (s .args .cuts .now) (s .args .i * s .args .d + l .e) nan in (
       omega (arith, t),
       record {
         blue = row-more _ (l .e) _ _ _ _ (l .inv .1 .blue) (omega (arith, at t, s .pre .0 .blue-long))
