@@ -4,8 +4,9 @@ use mathlib.Core.Path.{_≡_, refl, sym, _∙_, ap}
 use mathlib.Core.List.{List, [], _∷_, _++_}
 use native.Mathlib.Omega.{arith}
 use native.Mathlib.Numerals.{add-one}
-use lib.ListN.{length, getD, take, drop, set, length-set}
+use lib.ListN.{length, getD, take, drop, set, length-set, replicate}
 use lib.Seq.{take-all}
+use Rattle.paper.specs.Answer.Task.{table}
 
 -- the first k of the m entries of xs stand in ys, and behind them what was there before
 pub record Filling {A : Type 0} (xs before : List A) (m k : ℕ) (ys : List A) : Type 0 where
@@ -34,3 +35,11 @@ module _ {A : Type 0} (xs before : List A) (m : ℕ) (count : length xs ≡ m) w
   filled k ys f l =
       let e : k ≡ m = omega arith in
       f .is ∙ rw (e, take-all m xs (omega arith)) refl
+
+-- a list with noughts behind it, as a table
+pub padded : (bs : List ℕ) (m : ℕ) → length bs ≤ m → bs ++ drop (length bs) (replicate m 0) ≡ table m (λ k. getD bs k 0)
+unfolding table
+padded [] zero h = refl
+padded [] (suc m) h = ap (λ (q : List ℕ). 0 ∷ q) (padded [] m (omega arith))
+padded (b ∷ bs) zero h = absurd (omega arith)
+padded (b ∷ bs) (suc m) h = ap (λ (q : List ℕ). b ∷ q) (padded bs m (omega arith))

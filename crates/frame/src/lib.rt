@@ -1,13 +1,35 @@
 // The frame program's text, read into numbers and written from them.
+use paper::Group;
 ghost use mathlib.Core.Path.{_≡_};
 ghost use Prim.Native.Nat.{_+_, _*_, _≤_, _<_};
 ghost use lib.ListN.{length, drop};
 ghost use mathlib.Core.List.{_++_, map};
 ghost use Rattle.paper.specs.Component.Marks.{Tells};
-ghost use Rattle.paper.specs.Answer.Frame.{bytes, words, signed, Frame, FrameSizes};
+ghost use Rattle.paper.specs.Answer.Frame.{bytes, words, signed, Frame, FrameSizes, GroupSize};
 ghost use Rattle.frame.specs.Digits.{Digit, Valued};
 ghost use Rattle.frame.specs.Lines.{byteAt, wordAt, TwoDigits, FourDigits, DigitsEnd};
-ghost use Rattle.frame.specs.Found.{LineAt, Lent};
+ghost use Rattle.frame.specs.Found.{LineAt, Lent, sizesIn, latticeOf, groupIn, ScannedAs};
+
+// The sizes that the first line says.
+pub struct Sizes {
+    pub n: usize,
+    pub d: usize,
+    pub s: usize,
+}
+
+// Where the lines of a text that is spelt well begin; the second begins at 11.
+struct Places {
+    sizes: Sizes,
+    len: usize,
+    fwd: usize,
+    group: usize,
+    perms: usize,
+}
+
+enum Scanned {
+    Wrong(u8),
+    Whole(Places),
+}
 
 // A line at a place of the text: no frame of the tag asked for, or one of so many bytes behind the tag.
 enum Line {
@@ -150,4 +172,68 @@ fn fill_bytes(text: &[u8], at: usize, count: usize, perms: &mut [u8])
         perms[k] = byte_at(text, at + 2 * k + 2);
         k += 1;
     }
+}
+
+fn sizes_in(text: &[u8]) -> Sizes
+    requires { ⌜ Frame 0x10 4 (now text) ⌝ }
+    ensures { λ r. ⌜ r ≡ sizesIn (now (text .entry)) ⌝ }
+{
+    let n = word_at(text, 2);
+    let d = byte_at(text, 6);
+    let s = byte_at(text, 8);
+    Sizes {
+        n: n as usize,
+        d: d as usize,
+        s: s as usize,
+    }
+}
+
+fn in_range(z: Sizes) -> bool
+    ensures { λ r. ⌜ Tells r (FrameSizes (latticeOf z)) ⌝ }
+{
+    if z.n < 1 {
+        return false;
+    }
+    if 256 < z.n {
+        return false;
+    }
+    if z.d < 1 {
+        return false;
+    }
+    if 4 < z.d {
+        return false;
+    }
+    if z.s < 1 {
+        return false;
+    }
+    if 8 < z.s {
+        return false;
+    }
+    true
+}
+
+fn group_size(len: usize) -> bool
+    ensures { λ r. ⌜ Tells r (GroupSize len) ⌝ }
+{
+    if len < 2 {
+        return false;
+    }
+    if 8 < len {
+        return false;
+    }
+    true
+}
+
+fn read_group(text: &[u8], at: usize, len: usize) -> Group
+    requires { ⌜ Lent 0x13 len (drop at (now text)) len 8 ⌝ }
+    ensures { λ r. ⌜ r ≡ groupIn (bytes (drop at (now (text .entry)))) ⌝ }
+{
+    let mut systems = [0usize; 8];
+    let mut k = 0;
+    while k < len {
+        let b = byte_at(text, at + 2 * k + 2);
+        systems[k] = b as usize;
+        k += 1;
+    }
+    Group { len, systems }
 }
