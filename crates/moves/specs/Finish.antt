@@ -13,9 +13,8 @@ use Rattle.paper.specs.declared.Form.{Form}
 use Rattle.paper.specs.declared.Form.the-variants.{Observe}
 use Rattle.paper.specs.Panel.Input.{Call, Choices, Pattern, pattern, spin, size, system}
 use Rattle.paper.specs.Panel.Takes.{isPerm, isGperm, isCmr, moves, takesGreys}
-use Rattle.paper.specs.Site.Acting.{gauge, acts, SomeActs, NoneActs}
-use Rattle.paper.specs.Component.Sizes.{bit, labelOf}
-use Rattle.paper.specs.Component.Marks.{Flags}
+use Rattle.paper.specs.Site.Acting.{gauge, acts}
+use Rattle.paper.specs.Component.Sizes.{labelOf}
 use Rattle.paper.specs.Move.Moving.{flipSome, greyBit, greyAt, reached, reachedBy, after, afterGrey, final, Moves}
 use Rattle.paper.specs.Refusal.Rules.{Spin}
 use Rattle.paper.specs.Law.Patterns.{flip-spin}
@@ -23,21 +22,6 @@ use Rattle.paper.specs.Law.ByTest.{never}
 use Rattle.columns.specs.Column.{shown, columnOf, shown-column, column-ext, signBy, Columns}
 use Rattle.moves.specs.Ready.{ReadyFor}
 use Rattle.moves.specs.Moved.{Rows, after-spin, spins-back}
-
--- ---- flags of acting sites
-pub some-acts : (c : Call) (xs : List ℤ) (flags : List ℕ) → Flags (c .lattice .n) (acts c xs) flags → (i : ℕ) → i < c .lattice .n → getD flags i 0 ≡ 1 → SomeActs c xs
-some-acts c xs flags h i l e = record { site = i; below = l; does = on (acts c xs i) (sym (h .at i l) ∙ e) }
-  where
-    on : (t : Bool) → bit t ≡ 1 → t ≡ true
-    on true q = refl
-    on false q = absurd (omega arith)
-
-pub none-acts : (c : Call) (xs : List ℤ) (flags : List ℕ) → Flags (c .lattice .n) (acts c xs) flags → ((i : ℕ) → i < c .lattice .n → getD flags i 0 ≡ 1 → ⊥) → NoneActs c xs
-none-acts c xs flags h none i l = off (acts c xs i) (λ e. none i l (h .at i l ∙ ap bit e))
-  where
-    off : (t : Bool) → (t ≡ true → ⊥) → t ≡ false
-    off true q = absurd (q refl)
-    off false q = refl
 
 -- ---- to observe moves nothing
 unreached : (f : Form) (c : Call) (xs : List ℤ) (l : List ℕ) (i : ℕ) → f ≡ Observe → (acts c xs i && reachedBy f (c .mode) (c .seed) l i) ≡ false

@@ -4,3 +4,4 @@ pub mod Moved
 pub mod Finish
 pub mod Task
 pub mod Choosing
+pub mod Held

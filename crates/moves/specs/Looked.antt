@@ -13,13 +13,13 @@ use Rattle.paper.specs.declared.Mode.{Mode}
 use Rattle.paper.specs.declared.Mode.the-variants.{Houd, Pair, Perm, Gperm, Jorg, Cmr}
 use Rattle.paper.specs.Panel.Input.{Graph, Call, Pattern, patternOf, size}
 use Rattle.paper.specs.Panel.Takes.{isGperm}
-use Rattle.paper.specs.Site.Acting.{gauge, testBy, acts}
+use Rattle.paper.specs.Site.Acting.{gauge, testBy, acts, SomeActs, NoneActs}
 use Rattle.paper.specs.Component.Sizes.{bit}
 use Rattle.paper.specs.Component.Marks.{Flags, Marks, marked}
 use Rattle.paper.specs.Refusal.Rules.{Spin}
 use Rattle.paper.specs.Law.Patterns.{times-spin}
-use Rattle.paper.specs.Demand3.ActsKept.{test-ext}
-use Rattle.columns.specs.Column.{shown, columnOf, shown-column, column-lt, column-ext, signBy, Columns, Spinning}
+use Rattle.columns.specs.Column.{Spinning}
+use Rattle.rules.specs.Laws.{SomeSite, none-passes}
 
 -- the group's pattern at the site i as the mode sees it, with the reference site q
 abbrev pub seenBy : Mode → ℕ → Group → ℕ → List ℤ → ℕ → Pattern
@@ -32,14 +32,6 @@ pub one-times : (z : ℤ) → Spin z → pos 1 *ℤ z ≡ z
 one-times z (inl p) = rw p
 one-times z (inr p) = rw p
 
-pub sign-gauge : (m : Mode) (P f : Pattern) (k : ℕ) → Spin (f k) → signBy m P k *ℤ f k ≡ gauge m P f k
-sign-gauge Houd P f k s = one-times (f k) s
-sign-gauge Pair P f k s = one-times (f k) s
-sign-gauge Perm P f k s = one-times (f k) s
-sign-gauge Gperm P f k s = refl
-sign-gauge Jorg P f k s = one-times (f k) s
-sign-gauge Cmr P f k s = one-times (f k) s
-
 pub gauge-spin : (m : Mode) (P f : Pattern) (k : ℕ) → (isGperm m ≡ true → Spin (P k)) → Spin (f k) → Spin (gauge m P f k)
 gauge-spin Houd P f k sp s = s
 gauge-spin Pair P f k sp s = s
@@ -48,47 +40,22 @@ gauge-spin Gperm P f k sp s = times-spin (P k) (f k) (sp refl) s
 gauge-spin Jorg P f k sp s = s
 gauge-spin Cmr P f k sp s = s
 
-module _ (mode : Mode) (n : ℕ) (g : Group) (q : ℕ) (xs : List ℤ) (some : 0 < g .len) (spins : Spinning n g xs) (reference : isGperm mode ≡ true → q < n) where
+module _ (mode : Mode) (n : ℕ) (g : Group) (q : ℕ) (xs : List ℤ) (spins : Spinning n g xs) (reference : isGperm mode ≡ true → q < n) where
   pub seen-spin : (i k : ℕ) → i < n → k < g .len → Spin (seenBy mode n g q xs i k)
   seen-spin i k hi hk = gauge-spin mode (patternOf n g xs q) (patternOf n g xs i) k (λ e. spins q k (reference e) hk) (spins i k hi hk)
-
-  -- the columns that packing leaves
-  pub packed :
-      (sg : ℕ → ℤ) (cols : List ℕ)
-      → ((k : ℕ) → k < g .len → sg k ≡ signBy mode (patternOf n g xs q) k)
-      → Columns n (g .len) (λ i k. sg k *ℤ patternOf n g xs i k) cols
-      → Columns n (g .len) (seenBy mode n g q xs) cols
-  packed sg cols signed h = record {
-    long = h .long;
-    at = λ i l.
-        h .at i l
-        ∙ column-ext (g .len) (λ k. sg k *ℤ patternOf n g xs i k) (seenBy mode n g q xs i)
-        (λ k hk. rw (signed k hk) (sign-gauge mode (patternOf n g xs q) (patternOf n g xs i) k (spins i k l hk)));
-  }
-
-  test-seen : (i : ℕ) → i < n → testBy mode (g .len) (shown (columnOf (g .len) (seenBy mode n g q xs i))) ≡ testBy mode (g .len) (seenBy mode n g q xs i)
-  test-seen i h = test-ext mode (g .len) _ (seenBy mode n g q xs i) some (λ k l. shown-column (g .len) (seenBy mode n g q xs i) k l (seen-spin i k h l))
-
-  -- looking a site's column up in the table of the mode tells whether it acts
-  pub looked :
-      (table cols flags : List ℕ)
-      → ((x : ℕ) → x < 2 ^ g .len → getD table x 0 ≡ bit (testBy mode (g .len) (shown x)))
-      → Columns n (g .len) (seenBy mode n g q xs) cols
-      → length flags ≡ n
-      → ((i : ℕ) → i < n → getD flags i 0 ≡ getD table (getD cols i 0) 0)
-      → Flags n (λ i. testBy mode (g .len) (seenBy mode n g q xs i)) flags
-  looked table cols flags t h long f = record {
-    long = long;
-    at = λ i l.
-        f i l
-        ∙ (ap (λ (x : ℕ). getD table x 0) (h .at i l)
-        ∙ (t (columnOf (g .len) (seenBy mode n g q xs i)) (column-lt (g .len) (seenBy mode n g q xs i)) ∙ ap bit (test-seen i l)));
-  }
 
 -- the same flags are those of the call's acting sites
 pub acts-flags : (c : Call) (xs : List ℤ) (flags : List ℕ) → Flags (c .lattice .n) (λ i. testBy (c .mode) (size c) (seenAt c xs i)) flags → Flags (c .lattice .n) (acts c xs) flags
 unfolding acts
 acts-flags c xs flags h = record { long = h .long; at = h .at }
+
+pub some-acts : (c : Call) (xs : List ℤ) → SomeSite (c .lattice .n) (λ i. testBy (c .mode) (size c) (seenAt c xs i)) → SomeActs c xs
+unfolding acts
+some-acts c xs s = record { site = s .site; below = s .below; does = s .does }
+
+pub none-acts : (c : Call) (xs : List ℤ) → (SomeSite (c .lattice .n) (λ i. testBy (c .mode) (size c) (seenAt c xs i)) → ⊥) → NoneActs c xs
+unfolding acts
+none-acts c xs s i h = none-passes (c .lattice .n) (λ i. testBy (c .mode) (size c) (seenAt c xs i)) s i h
 
 -- a flag read back
 pub flag-is : (t : Bool) → eqb (bit t) 1 ≡ t

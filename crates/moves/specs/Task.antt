@@ -12,7 +12,7 @@ use Rattle.paper.specs.declared.Mode.the-variants.{Cmr}
 use Rattle.paper.specs.declared.Form.{Form}
 use Rattle.paper.specs.declared.Answer.{Answer}
 use Rattle.paper.specs.declared.Answer.the-variants.{Refused, Idle, Moved}
-use Rattle.paper.specs.Panel.Input.{Call, Choices, Buffers, graph, size}
+use Rattle.paper.specs.Panel.Input.{Call, Choices, Buffers, member, graph, size}
 use Rattle.paper.specs.Panel.Takes.{isPerm, isGperm, isCmr, isDrawn, isSw, isWolff, moves, entries, flipsBy, permsBy}
 use Rattle.paper.specs.Site.Acting.{testBy, acts, SomeActs, NoneActs}
 use Rattle.paper.specs.Site.Bonds.{holds, holdsGrey}
@@ -20,11 +20,12 @@ use Rattle.paper.specs.Component.Labels.{Labels}
 use Rattle.paper.specs.Component.Sizes.{labelOf, Sized, Counted, Largest}
 use Rattle.paper.specs.Component.Marks.{Flags, Tells}
 use Rattle.paper.specs.Move.Moving.{reachedBy, permAt, Moves}
-use Rattle.paper.specs.Refusal.Rules.{Permutes}
+use Rattle.paper.specs.Refusal.Rules.{Permutes, Distinct}
 use Rattle.columns.specs.Column.{Inside, Spinning, Columns}
 use Rattle.choose.specs.Chosen.{isOne, reachedAt}
-use Rattle.bonds.specs.Table.{Coupled}
-use Rattle.rules.specs.Tables.{SomeMarked}
+use Rattle.columns.specs.Rows.{Signed, Written}
+use Rattle.bonds.specs.Table.{Coupled, ActiveIn}
+use Rattle.rules.specs.Laws.{SomeSite}
 use Rattle.moves.specs.Ready.{Ready}
 use Rattle.moves.specs.Looked.{seenBy, seenAt}
 use Rattle.moves.specs.Moved.{choiceColumn}
@@ -61,7 +62,7 @@ pub record Seeable (mode : Mode) (n : ℕ) (g : Group) (q : ℕ) (xs : List ℤ)
 pub record Sights (mode : Mode) (n : ℕ) (g : Group) (q : ℕ) (xs : List ℤ) (cols flags : List ℕ) (r : Bool) : Type 0 where
   pub columns : Columns n (g .len) (seenBy mode n g q xs) cols
   pub flagged : Flags n (λ i. testBy mode (g .len) (seenBy mode n g q xs i)) flags
-  pub some : Tells r (SomeMarked n flags)
+  pub some : Tells r (SomeSite n (λ i. testBy mode (g .len) (seenBy mode n g q xs i)))
 
 -- ---- choose: the new columns
 pub record Choosable (mode : Mode) (form : Form) (m seed : ℕ) (flags labels tally flips perms reached cols : List ℕ) : Type 0 where
@@ -84,3 +85,27 @@ pub record Choosable (mode : Mode) (form : Form) (m seed : ℕ) (flags labels ta
 abbrev pub chosenAt : Mode → Form → ℕ → ℕ → List ℕ → List ℕ → List ℕ → List ℕ → List ℕ → ℕ → ℕ
 chosenAt mode form m seed flags labels flips perms cols i =
     cond (reachedAt form mode seed flags labels i) (choiceColumn mode form m flips perms (labelOf labels i) (getD cols i 0)) (getD cols i 0)
+
+-- ---- hold: the table of bonds
+pub record Holdable (mode : Mode) (n d : ℕ) (fwd : List ℕ) (couplings : List ℤ) (cuts : List Float) (m : ℕ) (flags cols holds : List ℕ) : Type 0 where
+  pub active : ActiveIn n d fwd flags holds
+  pub coupled : isDrawn mode ≡ true → Coupled n d couplings cuts
+  pub size-low : 2 ≤ m
+  pub size-high : m ≤ 8
+  pub cols-long : length cols ≡ n
+
+-- ---- write: the group's rows
+pub record RowsGiven (mode : Mode) (n : ℕ) (g : Group) (q : ℕ) (xs : List ℤ) (cols : List ℕ) : Type 0 where
+  pub n-high : n ≤ 4096
+  pub size-high : g .len ≤ 8
+  pub inside : Inside n g xs
+  pub spins : Spinning n g xs
+  pub distinct : Distinct (g .len) (member g)
+  pub reference : isGperm mode ≡ true → q < n
+  pub cols-long : length cols ≡ n
+
+-- some signs, those of the mode, stand in the rows that were written
+pub record WroteBack (mode : Mode) (n : ℕ) (g : Group) (q : ℕ) (cols : List ℕ) (xs ys : List ℤ) : Type 0 where
+  pub signs : List ℤ
+  pub signed : Signed mode n g xs q signs
+  pub written : Written n (g .len) g signs cols xs ys

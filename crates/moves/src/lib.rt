@@ -2,9 +2,13 @@
 use paper::Form;
 use paper::Group;
 use paper::Mode;
+use paper::Sampler;
 ghost use mathlib.Core.Path.{_≡_};
+ghost use Rattle.paper.specs.Site.Bonds.{samplerOf};
+ghost use Rattle.paper.specs.Component.Marks.{Marks};
 ghost use Rattle.choose.specs.Chosen.{Becomes};
-ghost use Rattle.moves.specs.Task.{Seeable, Sights, Choosable, chosenAt};
+ghost use Rattle.moves.specs.Held.{heldAt};
+ghost use Rattle.moves.specs.Task.{Seeable, Sights, Choosable, chosenAt, Holdable, RowsGiven, WroteBack};
 
 // Writes each site's new column from the choices of its component.
 fn choose_columns(
@@ -36,4 +40,69 @@ fn choose_columns(
             cols,
         );
     }
+}
+
+// The group's columns, and which sites act. True where some site does.
+pub fn look(
+    mode: Mode,
+    n: usize,
+    spins: &[i8],
+    group: Group,
+    reference: usize,
+    cols: &mut [u8],
+    acts: &mut [u8],
+) -> bool
+    requires { ⌜ Seeable mode n group reference (now spins) (now cols) (now acts) ⌝ }
+    ensures { λ r. ⌜ Sights mode n group reference (now (spins .entry)) (now (cols .exit)) (now (acts .exit)) r ⌝ }
+{
+    let signs = columns::signs(mode, spins, n, group, reference);
+    columns::pack(spins, n, group, signs, cols);
+    rules::mark_active(rules::acts_table(mode, group), cols, acts)
+}
+
+// The table of holding bonds, in every mode but CMR.
+fn hold(
+    mode: Mode,
+    n: usize,
+    d: usize,
+    fwd: &[u32],
+    couplings: &[i32],
+    group: Group,
+    temperature: f32,
+    cuts: &[f32],
+    acts: &[u8],
+    cols: &[u8],
+    holds: &mut [u8],
+)
+    requires { ⌜ Holdable mode n d (now fwd) (now couplings) (now cuts) (group .len) (now acts) (now cols) (now holds) ⌝ }
+    ensures { λ _. ⌜ Marks n d
+        (heldAt mode d (now (fwd .entry)) (now (couplings .entry)) (now (cuts .entry)) (group .len) (samplerOf temperature) (now (acts .entry)) (now (cols .entry)))
+        (now (holds .exit)) ⌝ }
+{
+    if mode.is_drawn() {
+        let sampler = Sampler::new(temperature);
+        bonds::jorg_bonds(
+            n,
+            d,
+            fwd,
+            couplings,
+            cuts,
+            group,
+            sampler,
+            acts,
+            cols,
+            holds,
+        );
+    } else {
+        bonds::active_bonds(n, d, fwd, acts, holds);
+    }
+}
+
+// The rows of the group from its columns. The signs are still those of before the move.
+fn write_task(mode: Mode, n: usize, spins: &mut [i8], group: Group, reference: usize, cols: &[u8])
+    requires { ⌜ RowsGiven mode n group reference (now spins) (now cols) ⌝ }
+    ensures { λ _. ⌜ WroteBack mode n group reference (now (cols .entry)) (now (spins .entry)) (now (spins .exit)) ⌝ }
+{
+    let signs = columns::signs(mode, spins, n, group, reference);
+    columns::write_rows(spins, n, group, signs, cols);
 }
