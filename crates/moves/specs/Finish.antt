@@ -21,6 +21,7 @@ use Rattle.paper.specs.Law.Patterns.{flip-spin}
 use Rattle.paper.specs.Law.ByTest.{never}
 use Rattle.columns.specs.Column.{shown, columnOf, shown-column, column-ext, signBy, Columns}
 use Rattle.moves.specs.Ready.{ReadyFor}
+use Rattle.moves.specs.Looked.{no-gauge}
 use Rattle.moves.specs.Moved.{Rows, after-spin, spins-back}
 
 -- ---- to observe moves nothing
@@ -52,15 +53,7 @@ final-once c p xs l g i k e = rw (e, and-no (moves (c .form))) refl
     and-no true = refl
     and-no false = refl
 
--- only gperm has a gauge
-no-gauge : (m : Mode) (P f : Pattern) (k : ℕ) → isGperm m ≡ false → f k ≡ gauge m P f k
-no-gauge Houd P f k e = refl
-no-gauge Pair P f k e = refl
-no-gauge Perm P f k e = refl
-no-gauge Gperm P f k e = never (sym e)
-no-gauge Jorg P f k e = refl
-no-gauge Cmr P f k e = refl
-
+-- columns of patterns are those of the gauged ones where there is no gauge
 pub ungauged : (c : Call) (xs : List ℤ) (f : ℕ → Pattern) (cols : List ℕ) → isGperm (c .mode) ≡ false → Columns (c .lattice .n) (size c) f cols → Columns (c .lattice .n) (size c) (λ i. gauge (c .mode) (pattern c xs (c .reference)) (f i)) cols
 ungauged c xs f cols e h = record {
   long = h .long;

@@ -18,6 +18,7 @@ use Rattle.paper.specs.Component.Sizes.{bit}
 use Rattle.paper.specs.Component.Marks.{Flags, Marks, marked}
 use Rattle.paper.specs.Refusal.Rules.{Spin}
 use Rattle.paper.specs.Law.Patterns.{times-spin}
+use Rattle.paper.specs.Law.ByTest.{never}
 use Rattle.columns.specs.Column.{Spinning}
 use Rattle.rules.specs.Laws.{SomeSite, none-passes}
 
@@ -31,6 +32,15 @@ seenAt c = seenBy (c .mode) (c .lattice .n) (c .group) (c .reference)
 pub one-times : (z : ℤ) → Spin z → pos 1 *ℤ z ≡ z
 one-times z (inl p) = rw p
 one-times z (inr p) = rw p
+
+-- only gperm has a gauge
+pub no-gauge : (m : Mode) (P f : Pattern) (k : ℕ) → isGperm m ≡ false → f k ≡ gauge m P f k
+no-gauge Houd P f k e = refl
+no-gauge Pair P f k e = refl
+no-gauge Perm P f k e = refl
+no-gauge Gperm P f k e = never (sym e)
+no-gauge Jorg P f k e = refl
+no-gauge Cmr P f k e = refl
 
 pub gauge-spin : (m : Mode) (P f : Pattern) (k : ℕ) → (isGperm m ≡ true → Spin (P k)) → Spin (f k) → Spin (gauge m P f k)
 gauge-spin Houd P f k sp s = s
