@@ -1,0 +1,56 @@
+-- What the steps of `label` come to. Assumes nothing.
+use Prim.Native.Nat.{ℕ, _≤_, _<_, zero-le}
+use mathlib.Core.Path.{_≡_, refl, sym, ap, _∙_}
+use mathlib.Core.Logic.{inl, inr, ⊎-elim}
+use mathlib.Core.Bool.{Bool}
+use mathlib.Core.List.{List}
+use native.Mathlib.Nat.{le-trans, le-of-eq}
+use lib.ListN.{length, getD}
+use Rattle.paper.specs.Component.Links.{Linked, Linked.stay, bind}
+use Rattle.paper.specs.Component.Labels.{Bond, Joined, Labels}
+use Rattle.label.specs.Closure.{Or, one, alike}
+use Rattle.label.specs.Contract.{graphOf, Given}
+use Rattle.label.specs.Forest.{Edge, Keeps}
+use Rattle.label.specs.Steps.{Own, Part, Bonding, Flattened}
+
+-- the first forest
+pub bonding-start : {n d m room : ℕ} {fwd holds p : List ℕ} → Given n d fwd holds m room → Own m p → Bonding d fwd holds p room
+bonding-start {n} {d} {m} {room} {fwd} {holds} {p} g o = record {
+  ahead = rw same (record { n-high = g .n-high; d-high = g .d-high; fwd-long = g .fwd-long; ahead-lt = g .ahead-lt });
+  holds-long = rw same (g .holds-long);
+  list-long = g .tally-long ∙ sym same;
+  down = λ x h. le-of-eq (o .own x (rw (o .long) at h));
+}
+  where
+    same : length p ≡ n
+    same = o .long ∙ g .labels-long
+
+module _ {n d : ℕ} {fwd : List ℕ} {f : ℕ → ℕ → Bool} where
+  to-bond : {x y : ℕ} → Part d fwd f 0 n d x y → Bond (graphOf n d fwd) f x y
+  to-bond b = record { site = b .below; dir = b .dir; dir-lt = b .dir-lt; on = b .on; leads = b .leads }
+
+  of-bond : {x y : ℕ} → Bond (graphOf n d fwd) f x y → Part d fwd f 0 n d x y
+  of-bond b = record { from = zero-le; below = b .site; dir = b .dir; dir-lt = b .dir-lt; on = b .on; leads = b .leads }
+
+  -- p is the first forest, q has every bond, and l is q made flat
+  pub labelled : {p q l tally : List ℕ} → Own n p → Keeps p (Or (Edge p) (Part d fwd f 0 (length p) d)) q → Flattened q l tally → Labels (graphOf n d fwd) f l
+  labelled {p} {q} {l} o kq h = record {
+    long = long;
+    joined = λ i il. bind (λ a b. ⊎-elim (self a b) (λ e. one (to-bond (rw (o .long) at e)))) (bind (kq .same .to) (kl .same .to i (getD l i 0) (record { site = rw long il; parent = refl })));
+    least = λ i j il jl w. le-trans (le-of-eq (alike (λ (x : ℕ). getD l x 0) root (bind up w))) (kl .down j (rw long jl));
+  }
+    where
+      kl : Keeps q (Edge q) l
+      kl = h .kept
+
+      long : length l ≡ n
+      long = kl .long ∙ (kq .long ∙ o .long)
+
+      self : (a b : ℕ) → Edge p a b → Joined (graphOf n d fwd) f a b
+      self a b e = rw (sym (o .own a (rw (o .long) at (e .site))) ∙ e .parent) stay
+
+      up : (a b : ℕ) → Bond (graphOf n d fwd) f a b → Linked (Edge l) a b
+      up a b e = bind (kl .same .from) (kq .same .from a b (inr (rw (o .long) (of-bond e))))
+
+      root : (a b : ℕ) → Edge l a b → getD l a 0 ≡ getD l b 0
+      root a b e = sym (h .flat a (e .site)) ∙ ap (λ (x : ℕ). getD l x 0) (e .parent)

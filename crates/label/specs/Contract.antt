@@ -1,0 +1,38 @@
+-- What `label` and `count` ask and promise. Assumes nothing.
+use Prim.Native.Nat.{ℕ, _+_, _*_, _≤_, _<_}
+use mathlib.Core.Path.{_≡_}
+use mathlib.Core.List.{List}
+use lib.ListN.{length, getD}
+use Rattle.paper.specs.Panel.Input.{Graph}
+use Rattle.paper.specs.Component.Labels.{Labels}
+use Rattle.paper.specs.Component.Marks.{marked}
+use Rattle.paper.specs.Component.Sizes.{Sized, Counted, Largest}
+
+abbrev pub graphOf : ℕ → ℕ → List ℕ → Graph
+graphOf n d fwd = record { n = n; d = d; fwd = fwd }
+
+-- tables of n sites with d bonds each, and as many places for labels and tally as there are sites
+pub record Given (n d : ℕ) (fwd holds : List ℕ) (labels tally : ℕ) : Type 0 where
+  pub n-high : n ≤ 4096
+  pub d-high : d ≤ 4
+  pub fwd-long : length fwd ≡ n * d
+  pub holds-long : length holds ≡ n * d
+  pub ahead-lt : (i e : ℕ) → i < n → e < d → getD fwd (i * d + e) 0 < n
+  pub labels-long : labels ≡ n
+  pub tally-long : tally ≡ n
+
+-- the labels of the bonds whose byte is 1, and at each label the number of its sites
+pub record Labelled (n d : ℕ) (fwd holds l tally : List ℕ) : Type 0 where
+  pub labels : Labels (graphOf n d fwd) (marked d holds) l
+  pub sized : Sized l tally
+
+-- labels with their tally, and places for the counts and the four sizes
+pub record Countable (labels tally : List ℕ) (counts sizes : ℕ) : Type 0 where
+  pub n-high : length labels ≤ 4096
+  pub sized : Sized labels tally
+  pub counts-long : counts ≡ length labels + 1
+  pub sizes-long : sizes ≡ 4
+
+pub record Reported (labels counts sizes : List ℕ) : Type 0 where
+  pub counted : Counted labels counts
+  pub largest : Largest labels sizes

@@ -1,0 +1,5 @@
+pub mod Closure
+pub mod Counting
+pub mod Forest
+pub mod Contract
+pub mod Steps
