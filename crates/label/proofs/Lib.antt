@@ -5,3 +5,6 @@ mod Bonds
 mod Tallies
 mod Flatten
 mod Labelling
+mod Ranks
+mod Picks
+mod Reports

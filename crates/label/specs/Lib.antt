@@ -3,3 +3,4 @@ pub mod Counting
 pub mod Forest
 pub mod Contract
 pub mod Steps
+pub mod Sizes

@@ -7,6 +7,7 @@ ghost use Rattle.paper.specs.Component.Marks.{marked};
 ghost use Rattle.label.specs.Closure.{Or, Only};
 ghost use Rattle.label.specs.Contract.{graphOf, Given, Labelled, Countable, Reported};
 ghost use Rattle.label.specs.Forest.{Edge, Down, Keeps};
+ghost use Rattle.label.specs.Sizes.{Cleared, Picking, Picked, Histogramming, Histogram, orMore, Top4, with, Falling};
 ghost use Rattle.label.specs.Steps.{Own, Climbing, Gathering, Gathered, Listing, Listed, Part, Block, Ends, Bonding, Flattening, Flattened};
 
 fn wide(x: u32) -> usize
@@ -153,4 +154,97 @@ pub fn label(n: usize, d: usize, fwd: &[u32], holds: &[u8], labels: &mut [u32], 
     start(labels);
     uf_bonds(d, fwd, holds, labels, tally);
     uf_flatten_counts(labels, tally);
+}
+
+fn clear(xs: &mut [u32])
+    ensures { λ _. ⌜ Cleared (length (now (xs .entry))) (now (xs .exit)) ⌝ }
+{
+    let mut i = 0;
+    while i < xs.len() {
+        xs[i] = 0;
+        i += 1;
+    }
+}
+
+// Lists the sizes of the components, as `gather` lists sites.
+fn gather_sizes(labels: &[u32], tally: &[u32], list: &mut [u32]) -> usize
+    requires { ⌜ Picking (now labels) (now tally) (length (now list)) ⌝ }
+    ensures { λ r. ⌜ Picked (now (labels .entry)) (now (tally .entry)) (now (list .exit)) r ⌝ }
+{
+    let mut len = 0;
+    let mut i = 0;
+    while i < labels.len() {
+        list[len] = tally[i];
+        len += one(wide(labels[i]) == i);
+        i += 1;
+    }
+    len
+}
+
+// Writes how often each size stands in the list.
+fn uf_histogram(sizes: &[u32], counts: &mut [u32])
+    requires { ⌜ Histogramming (now sizes) (length (now counts)) ⌝ }
+    ensures { λ _. ⌜ Histogram (now (sizes .entry)) (now (counts .exit)) (length (now (counts .entry))) ⌝ }
+{
+    clear(counts);
+    let mut i = 0;
+    while i < sizes.len() {
+        let s = wide(sizes[i]);
+        counts[s] = counts[s] + 1;
+        i += 1;
+    }
+}
+
+// Four sizes, falling.
+struct Top(u32, u32, u32, u32);
+
+// The four largest of five sizes.
+fn insert(t: Top, x: u32) -> Top
+    ensures { λ r. ⌜ ((g : ℕ → ℕ) → Falling g → Top4 g (t .0) (t .1) (t .2) (t .3) → Top4 (with g x) (r .0) (r .1) (r .2) (r .3)) ⌝ }
+{
+    let a = t.0;
+    let b = t.1;
+    let c = t.2;
+    let d = t.3;
+    if x <= d {
+        return Top(a, b, c, d);
+    }
+    if x <= c {
+        return Top(a, b, c, x);
+    }
+    if x <= b {
+        return Top(a, b, x, c);
+    }
+    if x <= a {
+        return Top(a, x, b, c);
+    }
+    Top(x, a, b, c)
+}
+
+// The four largest sizes of the list, zero filled.
+fn top4_sizes(sizes: &[u32]) -> Top
+    ensures { λ r. ⌜ Top4 (orMore (now (sizes .entry)) (length (now (sizes .entry)))) (r .0) (r .1) (r .2) (r .3) ⌝ }
+{
+    let mut t = Top(0, 0, 0, 0);
+    let mut i = 0;
+    while i < sizes.len() {
+        t = insert(t, sizes[i]);
+        i += 1;
+    }
+    t
+}
+
+// Writes the number of components of each size and the four largest sizes.
+pub fn count(labels: &[u32], tally: &[u32], counts: &mut [u32], sizes: &mut [u32])
+    requires { ⌜ Countable (now labels) (now tally) (length (now counts)) (length (now sizes)) ⌝ }
+    ensures { λ _. ⌜ Reported (now (labels .entry)) (now (counts .exit)) (now (sizes .exit)) ⌝ }
+{
+    let mut list = [0u32; 4096];
+    let len = gather_sizes(labels, tally, &mut list);
+    uf_histogram(&list[..len], counts);
+    let t = top4_sizes(&list[..len]);
+    sizes[0] = t.0;
+    sizes[1] = t.1;
+    sizes[2] = t.2;
+    sizes[3] = t.3;
 }

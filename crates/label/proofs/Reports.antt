@@ -1,0 +1,94 @@
+-- What the steps of `count` come to. Assumes nothing.
+use Prim.Native.Nat.{ℕ, _+_, _≤_, _<_}
+use mathlib.Core.Path.{_≡_, refl, sym, ap, _∙_}
+use mathlib.Core.Bool.{Bool, true, false, _&&_}
+use mathlib.Core.List.{List}
+use native.Mathlib.Nat.{lt-irrefl}
+use native.Mathlib.Omega.{arith}
+use borrow.Author.Count.{below-none, below-more}
+use borrow.Author.Tests.{ne-eqb}
+use lib.Dec.{eqb, leb}
+use lib.ListN.{length, getD, set, take, length-set}
+use lib.Seq.{length-take-le, getD-take, getD-set-same, getD-set-other}
+use Rattle.paper.specs.Component.Sizes.{bit, countWhere, labelOf, counted, sizeOf, ofSize, atLeast, Counted, Rank, Largest, Sized}
+use Rattle.label.specs.Counting.{count-zero, count-pos, count-ext}
+use Rattle.label.specs.Sizes.{Picked, Histogramming, Histogram, orMore, Place, Top4}
+use Rattle.label.proofs.Ranks.{top-ext}
+
+-- a component has a site
+no-empty : (l : List ℕ) → ofSize l 0 ≡ 0
+unfolding sizeOf
+no-empty l = count-zero (λ r. counted l r && eqb (sizeOf l r) 0) (length l) (λ r rl. go r rl (counted l r) refl)
+  where
+    go : (r : ℕ) → r < length l → (b : Bool) → counted l r ≡ b → b && eqb (sizeOf l r) 0 ≡ false
+    go r rl true e = ne-eqb (sizeOf l r) 0 (λ z. lt-irrefl 0 (rw z at (count-pos (λ i. eqb (labelOf l i) r) (length l) r rl e)))
+    go r rl false e = refl
+
+module _ {l tally list : List ℕ} {m : ℕ} (z : Sized l tally) (p : Picked l tally list m) (fits : m ≤ length list) where
+  pub part-long : length (take m list) ≡ m
+  part-long = length-take-le m list fits
+
+  -- as many of the list pass a test as components
+  passing : (f : ℕ → Bool) → countWhere (λ t. f (getD (take m list) t 0)) (length (take m list)) ≡ countWhere (λ r. counted l r && f (sizeOf l r)) (length l)
+  passing f =
+      rw part-long (count-ext (λ t. f (getD (take m list) t 0)) (λ t. f (getD list t 0)) m (λ t tl. ap f (getD-take m list t 0 tl)))
+      ∙ (p .same f ∙ count-ext (λ r. counted l r && f (getD tally r 0)) (λ r. counted l r && f (sizeOf l r)) (length l) (λ r rl. ap (λ (y : ℕ). counted l r && f y) (z .each r rl)))
+
+  pub histogramming : length l ≤ 4096 → Histogramming (take m list) (length l + 1)
+  histogramming h = record {
+    few = omega (arith, part-long, p .short);
+    low = λ t tl. low t (rw part-long at tl);
+  }
+    where
+      low : (t : ℕ) → t < m → getD (take m list) t 0 < length l + 1
+      low t tl = rw (getD-take m list t 0 tl) (omega (arith, p .low t tl))
+
+  pub counted-are : {counts : List ℕ} → Histogram (take m list) counts (length l + 1) → Counted l counts
+  counted-are {counts} h = record { long = h .long; zeroth = each 0 (omega arith) ∙ no-empty l; each = each }
+    where
+      each : (s : ℕ) → s ≤ length l → getD counts s 0 ≡ ofSize l s
+      each s sl = h .each s (omega arith) ∙ passing (λ x. eqb x s)
+
+  pub largest-are : {a b c d : ℕ} → Top4 (orMore (take m list) (length (take m list))) a b c d → Top4 (atLeast l) a b c d
+  largest-are = top-ext (λ v. passing (leb v))
+
+-- ---- the four sizes are written
+past : (xs : List ℕ) (i j v : ℕ) → j < i → getD (set xs i v) j 0 ≡ getD xs j 0
+past xs i j v l = getD-set-other xs i j v 0 (λ e. lt-irrefl i (rw e at l))
+
+at : (xs : List ℕ) (i v : ℕ) → length xs ≡ 4 → i < 4 → getD (set xs i v) i 0 ≡ v
+at xs i v long l = getD-set-same xs i v 0 (omega arith)
+
+abbrev pub written : List ℕ → ℕ → ℕ → ℕ → ℕ → List ℕ
+written xs a b c d = set (set (set (set xs 0 a) 1 b) 2 c) 3 d
+
+module _ (l xs : List ℕ) (long : length xs ≡ 4) {a b c d : ℕ} (h : Top4 (atLeast l) a b c d) where
+  rank : {t x : ℕ} → Place (atLeast l) t x → getD (written xs a b c d) t 0 ≡ x → Rank l t (getD (written xs a b c d) t 0)
+  rank p e = rw e (record { larger = p .larger; reached = p .reached })
+
+  pub largest-written : Largest l (written xs a b c d)
+  largest-written = record { long = simp length-set long; each = below-more P 3 (below-more P 2 (below-more P 1 (below-more P 0 (below-none P) p0) p1) p2) p3 }
+    where
+      P : ℕ → Type 0
+      P t = Rank l t (getD (written xs a b c d) t 0)
+
+      s1 : List ℕ
+      s1 = set xs 0 a
+
+      s2 : List ℕ
+      s2 = set s1 1 b
+
+      s3 : List ℕ
+      s3 = set s2 2 c
+
+      p0 : P 0
+      p0 = rank (h .first) (past s3 3 0 d (omega arith) ∙ (past s2 2 0 c (omega arith) ∙ (past s1 1 0 b (omega arith) ∙ at xs 0 a long (omega arith))))
+
+      p1 : P 1
+      p1 = rank (h .second) (past s3 3 1 d (omega arith) ∙ (past s2 2 1 c (omega arith) ∙ at s1 1 b (simp length-set long) (omega arith)))
+
+      p2 : P 2
+      p2 = rank (h .third) (past s3 3 2 d (omega arith) ∙ at s2 2 c (simp length-set long) (omega arith))
+
+      p3 : P 3
+      p3 = rank (h .fourth) (at s3 3 d (simp length-set long) (omega arith))

@@ -1,0 +1,98 @@
+-- `gather_sizes` meets its contract. Assumes nothing.
+use Prim.Native.Nat.{ℕ, _-_, _≤_, _<_}
+use mathlib.Core.Path.{_≡_, sym, ap}
+use mathlib.Core.Bool.{Bool}
+use native.Mathlib.Omega.{arith}
+use lib.Dec.{eqb}
+use lib.ListN.{length, getD}
+use Rattle.label.specs.Counting.{bit-le}
+use Rattle.label.proofs.Picks.{Pick, pick-none, pick-room, pick-more, pick-end}
+use borrow.Author.Needs.{needs}
+use Rattle.label.proofs.gather_sizes.Statement.{statement}
+use Rattle.label.proofs.gather_sizes.Tie as tie
+
+abbrev Inv-loop : tie.InvT-loop
+Inv-loop labels tally list₀ len₀ i₀ list len i = Pick labels tally (length list₀) list len i
+
+abbrev μ-loop : tie.MeasureT-loop
+μ-loop labels tally list₀ len₀ i₀ list len i = length labels - i
+
+abbrev S : tie.In-loop Inv-loop μ-loop → tie.Start Inv-loop μ-loop
+S c = c .before .before .before .before .before
+
+room : (c : tie.In-loop Inv-loop μ-loop) → c .before .loop .len < length (c .before .loop .list)
+room c = pick-room (c .before .loop .inv) (S c .pre) (c .loop-test .taken)
+
+-- the test of a site's label
+abbrev own : tie.After-wide Inv-loop μ-loop → Bool
+own c = eqb (c .wide .result) (c .before .before .before .before .loop .i)
+
+loop-holds : tie.Need-loop-holds Inv-loop μ-loop
+loop-holds c = pick-none _ _ _
+
+mul-list : tie.Need-mul-list Inv-loop μ-loop
+mul-list c = omega (arith, S c .pre .sized .long)
+
+shared-slice-read-list : tie.Need-shared-slice-read-list Inv-loop μ-loop
+shared-slice-read-list c = omega (arith, S (c .before) .pre .sized .long)
+
+mul-list-2 : tie.Need-mul-list-2 Inv-loop μ-loop
+mul-list-2 c = omega (arith, room (c .before))
+
+slice-write-list : tie.Need-slice-write-list Inv-loop μ-loop
+slice-write-list c = room (c .before)
+
+mul-wide : tie.Need-mul-wide Inv-loop μ-loop
+mul-wide c = search needs
+
+shared-slice-read-wide : tie.Need-shared-slice-read-wide Inv-loop μ-loop
+shared-slice-read-wide c = search needs
+
+wide-requires : tie.Need-wide-requires Inv-loop μ-loop
+wide-requires c κs = search needs
+
+one-requires : tie.Need-one-requires Inv-loop μ-loop
+one-requires c κs = search needs
+
+add-len : tie.Need-add-len Inv-loop μ-loop
+add-len c = omega (arith, bit-le (own (c .before)))
+
+add-i : tie.Need-add-i Inv-loop μ-loop
+add-i c = search needs
+
+loop-less : tie.Need-loop-less Inv-loop μ-loop
+loop-less c = search needs
+
+loop-again : tie.Need-loop-again Inv-loop μ-loop
+loop-again c =
+    let w = c .before in
+    let t = w .before .before .before in
+    pick-more (t .before .loop .inv) (S t .pre) (t .loop-test .taken) (own w) (ap (λ (z : ℕ). eqb z (t .before .loop .i)) (sym (w .wide .ensures))) _ (c .one .ensures)
+
+same-length : tie.Need-same-length Inv-loop μ-loop
+same-length c = search needs
+
+returns : tie.Need-returns Inv-loop μ-loop
+returns c = pick-end (c .before .loop .inv) (c .loop-test .left)
+
+pub gather-sizes-spec : {M : Type 1} → statement M
+gather-sizes-spec =
+    tie.close
+    (tie.spec
+    Inv-loop
+    μ-loop
+    loop-holds
+    mul-list
+    shared-slice-read-list
+    mul-list-2
+    slice-write-list
+    mul-wide
+    shared-slice-read-wide
+    wide-requires
+    one-requires
+    add-len
+    add-i
+    loop-less
+    loop-again
+    same-length
+    returns)

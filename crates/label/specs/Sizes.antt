@@ -1,0 +1,59 @@
+-- What the steps of `count` ask and promise. Assumes nothing.
+use Prim.Native.Nat.{ℕ, _+_, _≤_, _<_}
+use mathlib.Core.Path.{_≡_}
+use mathlib.Core.Logic.{_⊎_}
+use mathlib.Core.Bool.{Bool, _&&_}
+use mathlib.Core.List.{List}
+use lib.Dec.{eqb, leb}
+use lib.ListN.{length, getD}
+use Rattle.paper.specs.Component.Sizes.{bit, countWhere, counted, Sized}
+
+pub record Cleared (n : ℕ) (xs : List ℕ) : Type 0 where
+  pub long : length xs ≡ n
+  pub zeros : (x : ℕ) → x < n → getD xs x 0 ≡ 0
+
+pub record Picking (l tally : List ℕ) (room : ℕ) : Type 0 where
+  pub n-high : length l ≤ 4096
+  pub sized : Sized l tally
+  pub fits : length l ≤ room
+
+-- the first m of the list are the tallies of the components: as many pass each test
+pub record Picked (l tally list : List ℕ) (m : ℕ) : Type 0 where
+  pub short : m ≤ length l
+  pub low : (t : ℕ) → t < m → getD list t 0 ≤ length l
+  pub same : (f : ℕ → Bool) → countWhere (λ t. f (getD list t 0)) m ≡ countWhere (λ r. counted l r && f (getD tally r 0)) (length l)
+
+pub record Histogramming (sizes : List ℕ) (n : ℕ) : Type 0 where
+  pub few : length sizes ≤ 4096
+  pub low : (t : ℕ) → t < length sizes → getD sizes t 0 < n
+
+-- entry s is the number of sizes s
+pub record Histogram (sizes counts : List ℕ) (n : ℕ) : Type 0 where
+  pub long : length counts ≡ n
+  pub each : (s : ℕ) → s < n → getD counts s 0 ≡ countWhere (λ t. eqb (getD sizes t 0) s) (length sizes)
+
+-- how many of the first m sizes are v or more
+abbrev pub orMore : List ℕ → ℕ → ℕ → ℕ
+orMore sizes m v = countWhere (λ t. leb v (getD sizes t 0)) m
+
+-- G v counts the sizes of v or more. a is the size at place t, from 0, of all in falling order, or 0 where there are not so many
+pub record Place (G : ℕ → ℕ) (t a : ℕ) : Type 0 where
+  pub larger : G (a + 1) ≤ t
+  pub reached : (a ≡ 0) ⊎ (t < G a)
+
+-- the four largest, falling
+pub record Top4 (G : ℕ → ℕ) (a b c d : ℕ) : Type 0 where
+  pub first : Place G 0 a
+  pub second : Place G 1 b
+  pub third : Place G 2 c
+  pub fourth : Place G 3 d
+  pub ba : b ≤ a
+  pub cb : c ≤ b
+  pub dc : d ≤ c
+
+-- x joins the sizes that G counts
+abbrev pub with : (ℕ → ℕ) → ℕ → ℕ → ℕ
+with G x v = G v + bit (leb v x)
+
+abbrev pub Falling : (ℕ → ℕ) → Type 0
+Falling G = (v w : ℕ) → v ≤ w → G w ≤ G v
