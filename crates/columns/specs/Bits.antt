@@ -1,10 +1,10 @@
 -- The bits of columns: one place more, what a shift reads, and the number that holds all of them. Assumes nothing.
 use Prim.Native.Nat.{ℕ, zero, suc, _+_, _*_, _/_, _%_, _^_, _≤_, _<_}
-use mathlib.Core.Path.{_≡_, refl, sym, _∙_, ap}
+use mathlib.Core.Path.{_≡_, refl}
 use mathlib.Core.Bool.{Bool, true, false}
 use native.Mathlib.Omega.{arith}
 use native.Mathlib.Numerals.{add-one}
-use native.Mathlib.Nat.{mod-lt, lt-of-lt-of-le, pow-suc}
+use native.Mathlib.Nat.{mod-lt, lt-of-lt-of-le}
 use lib.Dec.{eqb}
 use lib.Pow.{pow-mono, shl-exact}
 use Rattle.paper.specs.Component.Sizes.{bit}

@@ -1,5 +1,5 @@
 -- How tight the promises are: any two results that a function's promise allows for one input are equal. Assumes nothing.
-use Prim.Native.Nat.{ℕ, _+_, _*_, _/_, _%_, _<_}
+use Prim.Native.Nat.{ℕ, _/_, _%_, _<_}
 use mathlib.Core.Path.{_≡_, sym, _∙_}
 use mathlib.Core.Logic.{_⊎_, inl, inr, _≢_}
 use mathlib.Core.List.{List}
@@ -11,7 +11,7 @@ use lib.Seq.{ext-getD}
 use lib.IntN.{ℤ, pos}
 use Rattle.paper.specs.declared.Group.{Group}
 use Rattle.paper.specs.declared.Mode.{Mode}
-use Rattle.paper.specs.Panel.Input.{Pattern, member, spin, patternOf}
+use Rattle.paper.specs.Panel.Input.{Pattern, member, spin}
 use Rattle.paper.specs.Law.Unique.{Placed, place}
 use Rattle.columns.specs.Column.{shown, columnOf, Columns}
 use Rattle.columns.specs.Rows.{Signed, signed, Written}

@@ -1,7 +1,7 @@
 // A site's whole group as one byte, its column.
 ghost use mathlib.Core.Path.{_≡_};
 ghost use mathlib.Core.Bool.{cond};
-ghost use Prim.Native.Nat.{ℕ, _*_, _<_};
+ghost use Prim.Native.Nat.{_*_, _<_};
 ghost use lib.ListN.{getD};
 ghost use lib.IntN.{pos, _*ℤ_};
 ghost use Rattle.paper.specs.Component.Sizes.{bit};

@@ -6,7 +6,6 @@ use native.Mathlib.Omega.{arith}
 use lib.ListN.{length, getD, length-take, length-drop}
 use lib.IntN.{pos}
 use mir.Syntax.{w8}
-use mir.Val.{toZ, ofZ}
 use mir.ValLaws.{toZ-ofZ}
 use Rattle.paper.specs.Panel.Input.{member}
 use Rattle.columns.specs.Column.{Columns}

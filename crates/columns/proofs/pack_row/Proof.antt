@@ -1,7 +1,7 @@
 -- `pack_row` meets its contract. The invariant: the first i columns have their bit. Assumes nothing.
 use mathlib.Core.Path.{_≡_, _∙_, ap}
 use denote.Ref.{now}
-use Prim.Native.Nat.{_-_, _*_, _≤_}
+use Prim.Native.Nat.{_+_, _-_, _*_, _≤_}
 use native.Mathlib.Omega.{arith}
 use lib.ListN.{length, getD}
 use lib.IntN.{ℤ, pos}
@@ -23,17 +23,27 @@ Inv-loop row plus weight cols₀ n i₀ cols i = (i ≤ n) × Filled 0 (added co
 abbrev μ-loop : tie.MeasureT-loop
 μ-loop row plus weight cols₀ n i₀ cols i = n - i
 
--- a turn adds the weight of its place
-adds : (c : tie.After-weigh Inv-loop μ-loop) →
-    let a = c .before .before .before .before .before .before .args in
-    c .weigh .result ≡ bit (eqZ (getD (now (a .row)) (c .before .before .before .before .loop .i) (pos 0)) (toZ w8 (ofZ w8 (a .plus)))) * a .weight
-adds c =
-    let a = c .before .before .before .before .before .before .args in
-    let z = getD (now (a .row)) (c .before .before .before .before .loop .i) (pos 0) in
-    c .weigh .ensures ∙ ap (λ (x : ℤ). bit (eqZ x (toZ w8 (ofZ w8 (a .plus)))) * a .weight) (toZ-ofZ w8 z (record { sfits = c .before .weigh-arg .given }))
+abbrev S : tie.In-loop Inv-loop μ-loop → tie.Start Inv-loop μ-loop
+S l = l .before .before .before
 
-was : (c : tie.In-loop Inv-loop μ-loop) → getD (c .before .loop .cols) (c .before .loop .i) 0 ≡ getD (now (c .before .before .before .args .cols)) (c .before .loop .i) 0
-was c = c .before .loop .inv .1 .rest (c .before .loop .i) (omega arith)
+abbrev L : tie.After-weigh Inv-loop μ-loop → tie.In-loop Inv-loop μ-loop
+L c = c .before .before .before
+
+-- what a turn reads: the row's spin, the sign as its bits have it, and the column, which is as it was
+abbrev spin : tie.In-loop Inv-loop μ-loop → ℤ
+spin l = getD (now (S l .args .row)) (l .before .loop .i) (pos 0)
+
+abbrev sign : tie.In-loop Inv-loop μ-loop → ℤ
+sign l = toZ w8 (ofZ w8 (S l .args .plus))
+
+was : (l : tie.In-loop Inv-loop μ-loop) → let i = l .before .loop .i in getD (l .before .loop .cols) i 0 ≡ getD (now (S l .args .cols)) i 0
+was l = l .before .loop .inv .1 .rest (l .before .loop .i) (omega arith)
+
+-- and what it adds
+adds : (c : tie.After-weigh Inv-loop μ-loop) → c .weigh .result ≡ bit (eqZ (spin (L c)) (sign (L c))) * S (L c) .args .weight
+adds c =
+    c .weigh .ensures
+    ∙ ap (λ (z : ℤ). bit (eqZ z (sign (L c))) * S (L c) .args .weight) (toZ-ofZ w8 (spin (L c)) (record { sfits = c .before .weigh-arg .given }))
 
 loop-holds : tie.Need-loop-holds Inv-loop μ-loop
 loop-holds c = (search needs, filled-none 0 _ _)
@@ -49,9 +59,9 @@ weigh-requires c κs = search needs
 
 add-cols : tie.Need-add-cols Inv-loop μ-loop
 add-cols c =
-    let l = c .before .before .before in
-    let s = l .before .before .before in
-    omega (arith, was l, adds c, bit-times (eqZ (getD (now (s .args .row)) (l .before .loop .i) (pos 0)) (toZ w8 (ofZ w8 (s .args .plus)))) (s .args .weight), s .pre .fits (l .before .loop .i) (l .loop-test .taken))
+    let l = L c in
+    let room = S l .pre .fits (l .before .loop .i) (l .loop-test .taken) in
+    omega (arith, was l, adds c, bit-times (eqZ (spin l) (sign l)) (S l .args .weight), room)
 
 slice-write-cols : tie.Need-slice-write-cols Inv-loop μ-loop
 slice-write-cols c = omega (arith, c .before .before .before .before .loop .inv .1 .long)
@@ -63,7 +73,9 @@ loop-less : tie.Need-loop-less Inv-loop μ-loop
 loop-less c = search needs
 
 loop-again : tie.Need-loop-again Inv-loop μ-loop
-loop-again c = let l = c .before .before .before in (omega (arith, l .loop-test .taken), filled-more (l .before .loop .inv .1) (l .loop-test .taken) (rw (was l, adds c)))
+loop-again c =
+    let h = L c .loop-test .taken in
+    (omega (arith, h), filled-more (L c .before .loop .inv .1) h (λ j. was (L c) j + adds c j))
 
 same-length : tie.Need-same-length Inv-loop μ-loop
 same-length c = search needs

@@ -3,10 +3,9 @@ use mathlib.Core.Path.{refl, _∙_}
 use denote.Ref.{now}
 use Prim.Native.Nat.{_+_, _-_, _*_, _≤_, _<_}
 use native.Mathlib.Omega.{arith}
-use lib.ListN.{length, getD, replicate, getD-replicate}
+use lib.ListN.{length, replicate, getD-replicate}
 use lib.IntN.{pos}
 use mir.Syntax.{w8}
-use mir.Val.{toZ, ofZ}
 use mir.ValLaws.{toZ-ofZ}
 use Rattle.paper.specs.Panel.Input.{member, patternOf}
 use Rattle.columns.specs.Filled.{Filled, filled-none, filled-more}

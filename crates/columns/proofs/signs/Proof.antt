@@ -1,6 +1,6 @@
 -- `signs` meets its contract, by the mode. Assumes nothing.
 use mathlib.Core.Path.{_≡_, refl, sym, _∙_}
-use lib.ListN.{getD, getD-replicate}
+use lib.ListN.{getD-replicate}
 use lib.IntN.{pos}
 use native.Mathlib.Omega.{arith}
 use Rattle.paper.specs.declared.Mode.the-variants.{Gperm}
@@ -23,10 +23,11 @@ returns c = rw (gperm (c .before)) (c .reference-signs .ensures)
 
 returns-2 : tie.Need-returns-2
 returns-2 c =
+    let s = c .before .before in
     let e = sym (c .before .is-gperm .ensures) ∙ c .if1 .left in
     record {
       long = refl;
-      at = λ k h. getD-replicate 8 k (pos 1) (pos 0) (omega (arith, c .before .before .pre .few)) ∙ sym (plain-sign (c .before .before .args .mode) _ k e);
+      at = λ k h. getD-replicate 8 k (pos 1) (pos 0) (omega (arith, s .pre .few)) ∙ sym (plain-sign (s .args .mode) _ k e);
       rest = λ k l h. getD-replicate 8 k (pos 1) (pos 0) h;
     }
 

@@ -76,10 +76,9 @@ loop-less c = search needs
 loop-again : tie.Need-loop-again Inv-loop μ-loop
 loop-again c =
     let l = c .before .before .before .before .before in
-    let h = l .loop-test .taken in (
-      omega (arith, h),
-      row-written h (l .before .loop .inv .1) (S l .pre .inside) (S l .pre .distinct) (sign (c .before .before .before .before)) (c .before .write-row .ensures),
-    )
+    let h = l .loop-test .taken in
+    let is = sign (c .before .before .before .before) in
+    (omega (arith, h), row-written h (l .before .loop .inv .1) (S l .pre .inside) (S l .pre .distinct) is (c .before .write-row .ensures))
 
 same-length : tie.Need-same-length Inv-loop μ-loop
 same-length c = omega (arith, c .before .loop .inv .1 .long)
