@@ -5,26 +5,12 @@ ghost use Prim.Native.Nat.{_*_, _<_};
 ghost use lib.ListN.{getD};
 ghost use lib.IntN.{pos, _*ℤ_};
 ghost use Rattle.paper.specs.Component.Sizes.{bit};
-ghost use Rattle.paper.specs.Panel.Takes.{isGperm};
 ghost use Rattle.paper.specs.Site.Acting.{eqZ};
 ghost use Rattle.columns.specs.Column.{bitOf, shown, columnOf, Columns};
 ghost use Rattle.columns.specs.Filled.{Whole};
 ghost use Rattle.columns.specs.Rows.{Signable, Signed, Places, Packable, Writable, Written, signed, Room, Fills, added};
 use paper::Group;
 use paper::Mode;
-
-fn is_gperm(mode: Mode) -> bool
-    ensures { λ r. ⌜ r ≡ isGperm mode ⌝ }
-{
-    match mode {
-        Mode::Houd => false,
-        Mode::Pair => false,
-        Mode::Perm => false,
-        Mode::Gperm => true,
-        Mode::Jorg => false,
-        Mode::Cmr => false,
-    }
-}
 
 // The spins of the group's members at the reference site, and +1 past them.
 fn reference_signs(spins: &[i8], n: usize, group: Group, reference: usize) -> [i8; 8]
@@ -48,7 +34,7 @@ pub fn signs(mode: Mode, spins: &[i8], n: usize, group: Group, reference: usize)
     requires { ⌜ Signable mode n group (now spins) reference ⌝ }
     ensures { λ r. ⌜ Signed mode n group (now (spins .entry)) reference r ⌝ }
 {
-    if is_gperm(mode) {
+    if mode.is_gperm() {
         reference_signs(spins, n, group, reference)
     } else {
         [1i8; 8]
