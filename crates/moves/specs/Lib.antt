@@ -5,3 +5,4 @@ pub mod Finish
 pub mod Task
 pub mod Choosing
 pub mod Held
+pub mod Work

@@ -15,7 +15,7 @@ use Rattle.paper.specs.Panel.Input.{Graph, Call, Pattern, patternOf, size}
 use Rattle.paper.specs.Panel.Takes.{isGperm}
 use Rattle.paper.specs.Site.Acting.{gauge, testBy, acts, SomeActs, NoneActs}
 use Rattle.paper.specs.Component.Sizes.{bit}
-use Rattle.paper.specs.Component.Marks.{Flags, Marks, marked}
+use Rattle.paper.specs.Component.Marks.{Flags, Marks, marked, Tells}
 use Rattle.paper.specs.Refusal.Rules.{Spin}
 use Rattle.paper.specs.Law.Patterns.{times-spin}
 use Rattle.paper.specs.Law.ByTest.{never}
@@ -59,9 +59,18 @@ pub acts-flags : (c : Call) (xs : List ℤ) (flags : List ℕ) → Flags (c .lat
 unfolding acts
 acts-flags c xs flags h = record { long = h .long; at = h .at }
 
+some-site : (c : Call) (xs : List ℤ) → SomeActs c xs → SomeSite (c .lattice .n) (λ i. testBy (c .mode) (size c) (seenAt c xs i))
+unfolding acts
+some-site c xs s = record { site = s .site; below = s .below; does = s .does }
+
 pub some-acts : (c : Call) (xs : List ℤ) → SomeSite (c .lattice .n) (λ i. testBy (c .mode) (size c) (seenAt c xs i)) → SomeActs c xs
 unfolding acts
 some-acts c xs s = record { site = s .site; below = s .below; does = s .does }
+
+-- what a test tells of the sites' patterns it tells of the call's acting sites
+pub acts-tells : (c : Call) (xs : List ℤ) (r : Bool) → Tells r (SomeSite (c .lattice .n) (λ i. testBy (c .mode) (size c) (seenAt c xs i))) → Tells r (SomeActs c xs)
+acts-tells c xs true h = some-acts c xs h
+acts-tells c xs false h = λ s. h (some-site c xs s)
 
 pub none-acts : (c : Call) (xs : List ℤ) → (SomeSite (c .lattice .n) (λ i. testBy (c .mode) (size c) (seenAt c xs i)) → ⊥) → NoneActs c xs
 unfolding acts

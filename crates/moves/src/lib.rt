@@ -4,11 +4,15 @@ use paper::Group;
 use paper::Mode;
 use paper::Sampler;
 ghost use mathlib.Core.Path.{_≡_};
+ghost use mathlib.Core.List.{List};
+ghost use Prim.Native.Nat.{ℕ};
+ghost use Rattle.paper.specs.declared.Form.{Form};
 ghost use Rattle.paper.specs.Site.Bonds.{samplerOf};
 ghost use Rattle.paper.specs.Component.Marks.{Marks};
 ghost use Rattle.choose.specs.Chosen.{Becomes};
 ghost use Rattle.moves.specs.Held.{heldAt};
-ghost use Rattle.moves.specs.Task.{Seeable, Sights, Choosable, chosenAt, Holdable, RowsGiven, WroteBack};
+ghost use Rattle.moves.specs.Task.{Seeable, Sights, Choosable, chosenAt, Holdable, RowsGiven, WroteBack, callOf};
+ghost use Rattle.moves.specs.Work.{LabelGiven, Room, LabelDone};
 
 // Writes each site's new column from the choices of its component.
 fn choose_columns(
@@ -105,4 +109,49 @@ fn write_task(mode: Mode, n: usize, spins: &mut [i8], group: Group, reference: u
 {
     let signs = columns::signs(mode, spins, n, group, reference);
     columns::write_rows(spins, n, group, signs, cols);
+}
+
+// Labels the components of the group's bonds. True where some site acts.
+fn label_task(
+    mode: Mode,
+    n: usize,
+    d: usize,
+    spins: &[i8],
+    fwd: &[u32],
+    couplings: &[i32],
+    group: Group,
+    temperature: f32,
+    cuts: &[f32],
+    reference: usize,
+    cols: &mut [u8],
+    acts: &mut [u8],
+    holds: &mut [u8],
+    tally: &mut [u32],
+    labels: &mut [u32],
+    counts: &mut [u32],
+    sizes: &mut [u32],
+) -> bool
+    requires { ⌜ LabelGiven mode n d (now fwd) (now couplings) (now cuts) group reference (now spins) ⌝ }
+    requires { ⌜ Room n d (now cols) (now acts) (now holds) (now tally) (now labels) (now counts) (now sizes) ⌝ }
+    ensures { λ r. ⌜ ((form : Form) (s seed : ℕ) (bwd : List ℕ) → LabelDone
+        (callOf mode form n d s (now (fwd .entry)) bwd (now (couplings .entry)) group temperature (now (cuts .entry)) reference seed)
+        (now (spins .entry)) (now (cols .exit)) (now (acts .exit)) (now (tally .exit)) (now (labels .exit)) (now (counts .exit)) (now (sizes .exit)) r) ⌝ }
+{
+    let some = look(mode, n, spins, group, reference, cols, acts);
+    hold(
+        mode,
+        n,
+        d,
+        fwd,
+        couplings,
+        group,
+        temperature,
+        cuts,
+        acts,
+        cols,
+        holds,
+    );
+    label::label(n, d, fwd, holds, labels, tally);
+    label::count(labels, tally, counts, sizes);
+    some
 }
