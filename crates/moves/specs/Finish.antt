@@ -10,7 +10,7 @@ use lib.IntN.{ℤ, pos, negℤ, _*ℤ_}
 use Rattle.paper.specs.declared.Mode.{Mode}
 use Rattle.paper.specs.declared.Mode.the-variants.{Houd, Pair, Perm, Gperm, Jorg, Cmr}
 use Rattle.paper.specs.declared.Form.{Form}
-use Rattle.paper.specs.declared.Form.the-variants.{Observe}
+use Rattle.paper.specs.declared.Form.the-variants.{Sw, Wolff, Observe}
 use Rattle.paper.specs.Panel.Input.{Call, Choices, Pattern, pattern, spin, size, system}
 use Rattle.paper.specs.Panel.Takes.{isPerm, isGperm, isCmr, moves, takesGreys}
 use Rattle.paper.specs.Site.Acting.{gauge, acts}
@@ -31,6 +31,11 @@ unreached f c xs l i e = rw e (and-false (acts c xs i))
     and-false : (t : Bool) → (t && false) ≡ false
     and-false true = refl
     and-false false = refl
+
+pub no-move : (f : Form) → moves f ≡ false → f ≡ Observe
+no-move Sw e = never (sym e)
+no-move Wolff e = never (sym e)
+no-move Observe e = refl
 
 pub observed : (c : Call) (p : Choices) (xs : List ℤ) (l g : List ℕ) → c .form ≡ Observe → Moves c p xs l g xs
 unfolding final reached

@@ -6,3 +6,4 @@ pub mod Task
 pub mod Choosing
 pub mod Held
 pub mod Work
+pub mod Choices

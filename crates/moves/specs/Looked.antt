@@ -72,9 +72,9 @@ pub acts-tells : (c : Call) (xs : List ℤ) (r : Bool) → Tells r (SomeSite (c 
 acts-tells c xs true h = some-acts c xs h
 acts-tells c xs false h = λ s. h (some-site c xs s)
 
-pub none-acts : (c : Call) (xs : List ℤ) → (SomeSite (c .lattice .n) (λ i. testBy (c .mode) (size c) (seenAt c xs i)) → ⊥) → NoneActs c xs
+pub none-acts : (c : Call) (xs : List ℤ) → (SomeActs c xs → ⊥) → NoneActs c xs
 unfolding acts
-none-acts c xs s i h = none-passes (c .lattice .n) (λ i. testBy (c .mode) (size c) (seenAt c xs i)) s i h
+none-acts c xs s = none-passes (c .lattice .n) (λ i. testBy (c .mode) (size c) (seenAt c xs i)) (λ h. s (some-acts c xs h))
 
 -- a flag read back
 pub flag-is : (t : Bool) → eqb (bit t) 1 ≡ t

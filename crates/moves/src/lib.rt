@@ -1,4 +1,5 @@
 // The work of one task, once its input is tested: label, choose, write.
+use paper::Answer;
 use paper::Form;
 use paper::Group;
 use paper::Mode;
@@ -11,8 +12,8 @@ ghost use Rattle.paper.specs.Site.Bonds.{samplerOf};
 ghost use Rattle.paper.specs.Component.Marks.{Marks};
 ghost use Rattle.choose.specs.Chosen.{Becomes};
 ghost use Rattle.moves.specs.Held.{heldAt};
-ghost use Rattle.moves.specs.Task.{Seeable, Sights, Choosable, chosenAt, Holdable, RowsGiven, WroteBack, callOf};
-ghost use Rattle.moves.specs.Work.{LabelGiven, Room, LabelDone};
+ghost use Rattle.moves.specs.Task.{Seeable, Sights, Choosable, chosenAt, Holdable, RowsGiven, WroteBack, callOf, choicesOf};
+ghost use Rattle.moves.specs.Work.{LabelGiven, Room, LabelDone, ChoiceGiven, WorkDone};
 
 // Writes each site's new column from the choices of its component.
 fn choose_columns(
@@ -154,4 +155,79 @@ fn label_task(
     label::label(n, d, fwd, holds, labels, tally);
     label::count(labels, tally, counts, sizes);
     some
+}
+
+// One task on lent work arrays, in every mode but CMR.
+fn work(
+    mode: Mode,
+    form: Form,
+    n: usize,
+    d: usize,
+    spins: &mut [i8],
+    fwd: &[u32],
+    couplings: &[i32],
+    group: Group,
+    temperature: f32,
+    cuts: &[f32],
+    reference: usize,
+    seed: usize,
+    flips: &[u8],
+    perms: &[u8],
+    cols: &mut [u8],
+    acts: &mut [u8],
+    reached: &mut [u8],
+    holds: &mut [u8],
+    tally: &mut [u32],
+    labels: &mut [u32],
+    counts: &mut [u32],
+    sizes: &mut [u32],
+) -> Answer
+    requires { ⌜ LabelGiven mode n d (now fwd) (now couplings) (now cuts) group reference (now spins) ⌝ }
+    requires { ⌜ Room n d (now cols) (now acts) (now holds) (now tally) (now labels) (now counts) (now sizes) ⌝ }
+    requires { ⌜ ChoiceGiven mode form n (group .len) seed (now flips) (now perms) (now reached) ⌝ }
+    ensures { λ r. ⌜ ((s : ℕ) (bwd greys : List ℕ) → WorkDone
+        (callOf mode form n d s (now (fwd .entry)) bwd (now (couplings .entry)) group temperature (now (cuts .entry)) reference seed)
+        (choicesOf (now (flips .entry)) (now (perms .entry)) greys)
+        (now (spins .entry)) (now (labels .exit)) (now (counts .exit)) (now (sizes .exit)) (now (spins .exit)) r) ⌝ }
+{
+    let some = label_task(
+        mode,
+        n,
+        d,
+        spins,
+        fwd,
+        couplings,
+        group,
+        temperature,
+        cuts,
+        reference,
+        cols,
+        acts,
+        holds,
+        tally,
+        labels,
+        counts,
+        sizes,
+    );
+    if !some {
+        return Answer::Idle;
+    }
+    if form.moves() {
+        choose_columns(
+            mode,
+            form,
+            group,
+            seed,
+            acts,
+            labels,
+            tally,
+            flips,
+            perms,
+            reached,
+            cols,
+        );
+        write_task(mode, n, spins, group, reference, cols);
+        return Answer::Moved;
+    }
+    Answer::Moved
 }
