@@ -3,7 +3,9 @@ use Prim.Native.Nat.{ℕ, _+_, _*_, _≤_, _<_}
 use mathlib.Core.Path.{_≡_}
 use mathlib.Core.Bool.{Bool, true, false}
 use mathlib.Core.List.{List}
-use lib.ListN.{length, getD}
+use native.Mathlib.Omega.{arith}
+use lib.ListN.{length, getD, take}
+use lib.Seq.{length-take-le}
 use lib.IntN.{ℤ}
 use lib.Ieee.{Float}
 use Rattle.paper.specs.declared.Group.{Group}
@@ -32,6 +34,12 @@ pub record LabelGiven (mode : Mode) (n d : ℕ) (fwd : List ℕ) (couplings : Li
   pub reference : isGperm mode ≡ true → q < n
   pub coupled : isDrawn mode ≡ true → Coupled n d couplings cuts
 
+-- the outputs
+pub record Outputs (n : ℕ) (labels counts sizes : List ℕ) : Type 0 where
+  pub labels-long : length labels ≡ n
+  pub counts-long : length counts ≡ n + 1
+  pub sizes-long : length sizes ≡ 4
+
 -- the work arrays, and the outputs
 pub record Room (n d : ℕ) (cols flags table tally labels counts sizes : List ℕ) : Type 0 where
   pub cols-long : length cols ≡ n
@@ -52,12 +60,19 @@ pub record LabelDone (c : Call) (xs : List ℤ) (cols flags tally labels counts 
   pub largest : Largest labels sizes
 
 -- ---- the choices that the move reads
-pub record ChoiceGiven (mode : Mode) (form : Form) (n m seed : ℕ) (flips perms reached : List ℕ) : Type 0 where
+pub record ChoiceGiven (mode : Mode) (form : Form) (n m seed : ℕ) (flips perms : List ℕ) : Type 0 where
   pub seeded : isWolff form ≡ true → seed < n
   pub flips-long : flipsBy mode form ≡ true → length flips ≡ n
   pub perms-long : permsBy mode form ≡ true → length perms ≡ entries form n * m
   pub rows : permsBy mode form ≡ true → (r : ℕ) → r < entries form n → Permutes m (λ k. getD perms (r * m + k) 0)
-  pub reached-long : length reached ≡ n
+
+-- ---- work arrays for 4,096 sites and 16,384 bonds
+pub record Arrays (cols flags reached table tally : List ℕ) : Type 0 where
+  pub cols-long : length cols ≡ 4096
+  pub flags-long : length flags ≡ 4096
+  pub reached-long : length reached ≡ 4096
+  pub table-long : length table ≡ 16384
+  pub tally-long : length tally ≡ 4096
 
 -- ---- what the task leaves
 pub record Reports (c : Call) (xs : List ℤ) (labels counts sizes : List ℕ) : Type 0 where
@@ -79,3 +94,7 @@ abbrev pub WorkDone : Call → Choices → List ℤ → List ℕ → List ℕ �
 WorkDone c p xs labels counts sizes ys (Refused r) = ⊥
 WorkDone c p xs labels counts sizes ys Idle = Rested c xs labels counts sizes ys
 WorkDone c p xs labels counts sizes ys Moved = Went c p xs labels counts sizes ys
+
+-- the front of a work array is as long as the panel asks
+pub front : (n m : ℕ) (xs : List ℕ) → length xs ≡ m → n ≤ m → length (take n xs) ≡ n
+front n m xs long h = length-take-le n xs (omega (arith, long))

@@ -7,13 +7,14 @@ use paper::Sampler;
 ghost use mathlib.Core.Path.{_≡_};
 ghost use mathlib.Core.List.{List};
 ghost use Prim.Native.Nat.{ℕ};
+ghost use lib.ListN.{length};
 ghost use Rattle.paper.specs.declared.Form.{Form};
 ghost use Rattle.paper.specs.Site.Bonds.{samplerOf};
 ghost use Rattle.paper.specs.Component.Marks.{Marks};
 ghost use Rattle.choose.specs.Chosen.{Becomes};
 ghost use Rattle.moves.specs.Held.{heldAt};
 ghost use Rattle.moves.specs.Task.{Seeable, Sights, Choosable, chosenAt, Holdable, RowsGiven, WroteBack, callOf, choicesOf};
-ghost use Rattle.moves.specs.Work.{LabelGiven, Room, LabelDone, ChoiceGiven, WorkDone};
+ghost use Rattle.moves.specs.Work.{LabelGiven, Room, LabelDone, ChoiceGiven, Outputs, Arrays, WorkDone};
 
 // Writes each site's new column from the choices of its component.
 fn choose_columns(
@@ -184,7 +185,8 @@ fn work(
 ) -> Answer
     requires { ⌜ LabelGiven mode n d (now fwd) (now couplings) (now cuts) group reference (now spins) ⌝ }
     requires { ⌜ Room n d (now cols) (now acts) (now holds) (now tally) (now labels) (now counts) (now sizes) ⌝ }
-    requires { ⌜ ChoiceGiven mode form n (group .len) seed (now flips) (now perms) (now reached) ⌝ }
+    requires { ⌜ ChoiceGiven mode form n (group .len) seed (now flips) (now perms) ⌝ }
+    requires { ⌜ length (now reached) ≡ n ⌝ }
     ensures { λ r. ⌜ ((s : ℕ) (bwd greys : List ℕ) → WorkDone
         (callOf mode form n d s (now (fwd .entry)) bwd (now (couplings .entry)) group temperature (now (cuts .entry)) reference seed)
         (choicesOf (now (flips .entry)) (now (perms .entry)) greys)
@@ -230,4 +232,124 @@ fn work(
         return Answer::Moved;
     }
     Answer::Moved
+}
+
+// The same on work arrays that are long enough for every panel.
+fn work_in(
+    mode: Mode,
+    form: Form,
+    n: usize,
+    d: usize,
+    spins: &mut [i8],
+    fwd: &[u32],
+    couplings: &[i32],
+    group: Group,
+    temperature: f32,
+    cuts: &[f32],
+    reference: usize,
+    seed: usize,
+    flips: &[u8],
+    perms: &[u8],
+    cols: &mut [u8],
+    acts: &mut [u8],
+    reached: &mut [u8],
+    holds: &mut [u8],
+    tally: &mut [u32],
+    labels: &mut [u32],
+    counts: &mut [u32],
+    sizes: &mut [u32],
+) -> Answer
+    requires { ⌜ LabelGiven mode n d (now fwd) (now couplings) (now cuts) group reference (now spins) ⌝ }
+    requires { ⌜ ChoiceGiven mode form n (group .len) seed (now flips) (now perms) ⌝ }
+    requires { ⌜ Outputs n (now labels) (now counts) (now sizes) ⌝ }
+    requires { ⌜ Arrays (now cols) (now acts) (now reached) (now holds) (now tally) ⌝ }
+    ensures { λ r. ⌜ ((s : ℕ) (bwd greys : List ℕ) → WorkDone
+        (callOf mode form n d s (now (fwd .entry)) bwd (now (couplings .entry)) group temperature (now (cuts .entry)) reference seed)
+        (choicesOf (now (flips .entry)) (now (perms .entry)) greys)
+        (now (spins .entry)) (now (labels .exit)) (now (counts .exit)) (now (sizes .exit)) (now (spins .exit)) r) ⌝ }
+{
+    let bonds = n * d;
+    work(
+        mode,
+        form,
+        n,
+        d,
+        spins,
+        fwd,
+        couplings,
+        group,
+        temperature,
+        cuts,
+        reference,
+        seed,
+        flips,
+        perms,
+        &mut cols[..n],
+        &mut acts[..n],
+        &mut reached[..n],
+        &mut holds[..bonds],
+        &mut tally[..n],
+        labels,
+        counts,
+        sizes,
+    )
+}
+
+// One task in every mode but CMR: the work arrays are this call's own.
+fn run_plain(
+    mode: Mode,
+    form: Form,
+    n: usize,
+    d: usize,
+    spins: &mut [i8],
+    fwd: &[u32],
+    couplings: &[i32],
+    group: Group,
+    temperature: f32,
+    cuts: &[f32],
+    reference: usize,
+    seed: usize,
+    flips: &[u8],
+    perms: &[u8],
+    labels: &mut [u32],
+    counts: &mut [u32],
+    sizes: &mut [u32],
+) -> Answer
+    requires { ⌜ LabelGiven mode n d (now fwd) (now couplings) (now cuts) group reference (now spins) ⌝ }
+    requires { ⌜ ChoiceGiven mode form n (group .len) seed (now flips) (now perms) ⌝ }
+    requires { ⌜ Outputs n (now labels) (now counts) (now sizes) ⌝ }
+    ensures { λ r. ⌜ ((s : ℕ) (bwd greys : List ℕ) → WorkDone
+        (callOf mode form n d s (now (fwd .entry)) bwd (now (couplings .entry)) group temperature (now (cuts .entry)) reference seed)
+        (choicesOf (now (flips .entry)) (now (perms .entry)) greys)
+        (now (spins .entry)) (now (labels .exit)) (now (counts .exit)) (now (sizes .exit)) (now (spins .exit)) r) ⌝ }
+{
+    let mut cols = [0u8; 4096];
+    let mut acts = [0u8; 4096];
+    let mut reached = [0u8; 4096];
+    let mut holds = [0u8; 16384];
+    let mut tally = [0u32; 4096];
+    work_in(
+        mode,
+        form,
+        n,
+        d,
+        spins,
+        fwd,
+        couplings,
+        group,
+        temperature,
+        cuts,
+        reference,
+        seed,
+        flips,
+        perms,
+        &mut cols,
+        &mut acts,
+        &mut reached,
+        &mut holds,
+        &mut tally,
+        labels,
+        counts,
+        sizes,
+    )
 }

@@ -89,16 +89,16 @@ choose-columns-requires c κs =
       few = omega (arith, long, p .0 .ready .n-high);
       flags-long = d .acting .long ∙ sym long;
       labels-long = d .labelled .long ∙ sym long;
-      reached-long = p .1 .1 .reached-long ∙ sym long;
+      reached-long = p .1 .1 .1 ∙ sym long;
       below = λ i l. rw long (label-lt (graph (callAt b 0 [])) (holds (callAt b 0 []) (now (b .args .spins))) _ (d .labelled) i (rw long at l));
       tallied = d .tallied;
-      seeded = λ e. rw long (p .1 .1 .seeded e);
+      seeded = λ e. rw long (p .1 .1 .0 .seeded e);
       moving = moving;
       size-low = omega (arith, p .0 .ready .size-low);
       size-high = p .0 .ready .size-high;
-      flips-long = λ e. p .1 .1 .flips-long e ∙ sym long;
-      perms-long = λ e. rw long (p .1 .1 .perms-long (rw (moving, e) refl));
-      places = λ e. places-of _ (b .args .group .len) (now (b .args .perms)) (omega (arith, p .0 .ready .size-low)) (p .1 .1 .perms-long (rw (moving, e) refl)) (p .1 .1 .rows (rw (moving, e) refl));
+      flips-long = λ e. p .1 .1 .0 .flips-long e ∙ sym long;
+      perms-long = λ e. rw long (p .1 .1 .0 .perms-long (rw (moving, e) refl));
+      places = λ e. places-of _ (b .args .group .len) (now (b .args .perms)) (omega (arith, p .0 .ready .size-low)) (p .1 .1 .0 .perms-long (rw (moving, e) refl)) (p .1 .1 .0 .rows (rw (moving, e) refl));
       narrow = λ i l. columns-narrow (d .columns) i (rw long at l);
     }
 
@@ -159,7 +159,7 @@ returns-2 c = λ s bwd greys.
     let d = o .label-task .ensures (b .args .form) s (b .args .seed) bwd in
     let g = b .pre .0 in
     let moving = sym (m .before .moves .ensures) ∙ m .if2 .taken in
-    let rows = rows-of call p xs _ moving (d .labelled) (b .pre .1 .1 .rows) in
+    let rows = rows-of call p xs _ moving (d .labelled) (b .pre .1 .1 .0 .rows) in
     let new = chosen-by call p xs _ (g .ready) (g .reference) rows (d .acting) (d .columns) (k .choose-columns .ensures) in
     let back = w .write-task .ensures in
     record {
