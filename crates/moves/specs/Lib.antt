@@ -7,3 +7,4 @@ pub mod Choosing
 pub mod Held
 pub mod Work
 pub mod Choices
+pub mod Cmr

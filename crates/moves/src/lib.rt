@@ -5,15 +5,17 @@ use paper::Group;
 use paper::Mode;
 use paper::Sampler;
 ghost use mathlib.Core.Path.{_≡_};
-ghost use mathlib.Core.List.{List};
+ghost use mathlib.Core.List.{List, []};
 ghost use Prim.Native.Nat.{ℕ};
 ghost use lib.ListN.{length};
 ghost use Rattle.paper.specs.declared.Form.{Form};
+ghost use Rattle.paper.specs.declared.Mode.the-variants.{Cmr};
 ghost use Rattle.paper.specs.Site.Bonds.{samplerOf};
 ghost use Rattle.paper.specs.Component.Marks.{Marks};
 ghost use Rattle.choose.specs.Chosen.{Becomes};
 ghost use Rattle.moves.specs.Held.{heldAt};
 ghost use Rattle.moves.specs.Task.{Seeable, Sights, Choosable, chosenAt, Holdable, RowsGiven, WroteBack, callOf, choicesOf};
+ghost use Rattle.moves.specs.Cmr.{CmrGiven, CmrRoom, CmrLabelled, GreyGiven, GreyDone};
 ghost use Rattle.moves.specs.Work.{LabelGiven, Room, LabelDone, ChoiceGiven, Outputs, Arrays, WorkDone};
 
 // Writes each site's new column from the choices of its component.
@@ -352,4 +354,78 @@ fn run_plain(
         counts,
         sizes,
     )
+}
+
+// CMR: columns, the tables of blue and of grey bonds, blue labels, counts and sizes.
+fn label_cmr(
+    n: usize,
+    d: usize,
+    spins: &[i8],
+    fwd: &[u32],
+    couplings: &[i32],
+    group: Group,
+    temperature: f32,
+    cuts: &[f32],
+    cols: &mut [u8],
+    acts: &mut [u8],
+    blue: &mut [u8],
+    grey: &mut [u8],
+    tally: &mut [u32],
+    labels: &mut [u32],
+    counts: &mut [u32],
+    sizes: &mut [u32],
+)
+    requires { ⌜ CmrGiven n d (now fwd) (now couplings) (now cuts) group (now spins) ⌝ }
+    requires { ⌜ CmrRoom n d (now cols) (now acts) (now blue) (now grey) (now tally) (now labels) (now counts) (now sizes) ⌝ }
+    ensures { λ _. ⌜ ((form : Form) (s reference seed : ℕ) (bwd : List ℕ) → CmrLabelled
+        (callOf Cmr form n d s (now (fwd .entry)) bwd (now (couplings .entry)) group temperature (now (cuts .entry)) reference seed)
+        (now (spins .entry)) (now (cols .exit)) (now (acts .exit)) (now (grey .exit)) (now (tally .exit)) (now (labels .exit)) (now (counts .exit)) (now (sizes .exit))) ⌝ }
+{
+    look(Mode::Cmr, n, spins, group, 0, cols, acts);
+    let sampler = Sampler::new(temperature);
+    bonds::cmr_bonds(n, d, fwd, couplings, cuts, sampler, cols, blue, grey);
+    label::label(n, d, fwd, blue, labels, tally);
+    label::count(labels, tally, counts, sizes);
+}
+
+// CMR: the blue flips, then grey labels and the grey numbers of their components.
+fn choose_cmr(
+    form: Form,
+    n: usize,
+    d: usize,
+    fwd: &[u32],
+    group: Group,
+    seed: usize,
+    flips: &[u8],
+    greys: &[u8],
+    acts: &[u8],
+    grey: &[u8],
+    labels: &[u32],
+    tally: &mut [u32],
+    reached: &mut [u8],
+    cols: &mut [u8],
+    grey_labels: &mut [u32],
+)
+    requires { ⌜ Choosable Cmr form (group .len) seed (now acts) (now labels) (now tally) (now flips) [] (now reached) (now cols) ⌝ }
+    requires { ⌜ length (now cols) ≡ n ⌝ }
+    requires { ⌜ GreyGiven form n d (now fwd) (now grey) (now greys) (now «grey_labels») (group .len) ⌝ }
+    ensures { λ _. ⌜ GreyDone form n d (group .len) seed (now (fwd .entry)) (now (grey .entry)) (now (acts .entry)) (now (labels .entry))
+        (now (flips .entry)) (now (greys .entry)) (now («grey_labels» .exit)) (now (cols .entry)) (now (cols .exit)) ⌝ }
+{
+    choose_columns(
+        Mode::Cmr,
+        form,
+        group,
+        seed,
+        acts,
+        labels,
+        tally,
+        flips,
+        &flips[..0],
+        reached,
+        cols,
+    );
+    label::label(n, d, fwd, grey, grey_labels, tally);
+    choose::reach(Mode::Cmr, form, seed, acts, grey_labels, tally, reached);
+    choose::grey_columns(form, reached, grey_labels, greys, cols);
 }
