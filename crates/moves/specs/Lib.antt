@@ -8,3 +8,4 @@ pub mod Held
 pub mod Work
 pub mod Choices
 pub mod Cmr
+pub mod CmrLaws

@@ -15,7 +15,7 @@ ghost use Rattle.paper.specs.Component.Marks.{Marks};
 ghost use Rattle.choose.specs.Chosen.{Becomes};
 ghost use Rattle.moves.specs.Held.{heldAt};
 ghost use Rattle.moves.specs.Task.{Seeable, Sights, Choosable, chosenAt, Holdable, RowsGiven, WroteBack, callOf, choicesOf};
-ghost use Rattle.moves.specs.Cmr.{CmrGiven, CmrRoom, CmrLabelled, GreyGiven, GreyDone};
+ghost use Rattle.moves.specs.Cmr.{CmrGiven, CmrRoom, CmrLabelled, GreyGiven, GreyDone, GreyChoices, CmrDone};
 ghost use Rattle.moves.specs.Work.{LabelGiven, Room, LabelDone, ChoiceGiven, Outputs, Arrays, WorkDone};
 
 // Writes each site's new column from the choices of its component.
@@ -428,4 +428,77 @@ fn choose_cmr(
     label::label(n, d, fwd, grey, grey_labels, tally);
     choose::reach(Mode::Cmr, form, seed, acts, grey_labels, tally, reached);
     choose::grey_columns(form, reached, grey_labels, greys, cols);
+}
+
+// One CMR task on lent work arrays.
+fn work_cmr(
+    form: Form,
+    n: usize,
+    d: usize,
+    spins: &mut [i8],
+    fwd: &[u32],
+    couplings: &[i32],
+    group: Group,
+    temperature: f32,
+    cuts: &[f32],
+    seed: usize,
+    flips: &[u8],
+    greys: &[u8],
+    cols: &mut [u8],
+    acts: &mut [u8],
+    reached: &mut [u8],
+    blue: &mut [u8],
+    grey: &mut [u8],
+    tally: &mut [u32],
+    labels: &mut [u32],
+    grey_labels: &mut [u32],
+    counts: &mut [u32],
+    sizes: &mut [u32],
+)
+    requires { ⌜ CmrGiven n d (now fwd) (now couplings) (now cuts) group (now spins) ⌝ }
+    requires { ⌜ CmrRoom n d (now cols) (now acts) (now blue) (now grey) (now tally) (now labels) (now counts) (now sizes) ⌝ }
+    requires { ⌜ GreyChoices form n seed (now flips) (now greys) (now «grey_labels») (now reached) ⌝ }
+    ensures { λ _. ⌜ ((s reference : ℕ) (bwd perms : List ℕ) → CmrDone
+        (callOf Cmr form n d s (now (fwd .entry)) bwd (now (couplings .entry)) group temperature (now (cuts .entry)) reference seed)
+        (choicesOf (now (flips .entry)) perms (now (greys .entry)))
+        (now (spins .entry)) (now («grey_labels» .entry)) (now (labels .exit)) (now («grey_labels» .exit)) (now (counts .exit)) (now (sizes .exit)) (now (spins .exit))) ⌝ }
+{
+    label_cmr(
+        n,
+        d,
+        spins,
+        fwd,
+        couplings,
+        group,
+        temperature,
+        cuts,
+        cols,
+        acts,
+        blue,
+        grey,
+        tally,
+        labels,
+        counts,
+        sizes,
+    );
+    if form.moves() {
+        choose_cmr(
+            form,
+            n,
+            d,
+            fwd,
+            group,
+            seed,
+            flips,
+            greys,
+            acts,
+            grey,
+            labels,
+            tally,
+            reached,
+            cols,
+            grey_labels,
+        );
+        write_task(Mode::Cmr, n, spins, group, 0, cols);
+    }
 }
