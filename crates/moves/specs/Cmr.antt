@@ -74,14 +74,22 @@ pub record GreyDone (form : Form) (n d m seed : ℕ) (fwd table flags labels fli
   pub reaching : Flags n (reachedAt form Cmr seed flags greyLabels) marks
   pub greyed : Becomes (greyedAt form marks greyLabels greys mid) mid new
 
+-- ---- work arrays for 4,096 sites and 16,384 bonds
+pub record CmrArrays (cols flags reached blue grey tally : List ℕ) : Type 0 where
+  pub cols-long : length cols ≡ 4096
+  pub flags-long : length flags ≡ 4096
+  pub reached-long : length reached ≡ 4096
+  pub blue-long : length blue ≡ 16384
+  pub grey-long : length grey ≡ 16384
+  pub tally-long : length tally ≡ 4096
+
 -- ---- the choices that a CMR move reads
-pub record GreyChoices (form : Form) (n seed : ℕ) (flips greys greyLabels reached : List ℕ) : Type 0 where
+pub record GreyChoices (form : Form) (n seed : ℕ) (flips greys greyLabels : List ℕ) : Type 0 where
   pub seeded : isWolff form ≡ true → seed < n
   pub flips-long : isSw form ≡ true → length flips ≡ n
   pub greys-long : moves form ≡ true → length greys ≡ entries form n
   pub small : moves form ≡ true → (x : ℕ) → x < length greys → getD greys x 0 ≤ 3
   pub labels-long : moves form ≡ true → length greyLabels ≡ n
-  pub reached-long : length reached ≡ n
 
 -- ---- what the task leaves
 pub record CmrDone (c : Call) (p : Choices) (xs : List ℤ) (lent labels greyLabels counts sizes : List ℕ) (ys : List ℤ) : Type 0 where

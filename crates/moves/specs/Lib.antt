@@ -9,3 +9,5 @@ pub mod Work
 pub mod Choices
 pub mod Cmr
 pub mod CmrLaws
+pub mod Answered
+pub mod Determined

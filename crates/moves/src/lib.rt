@@ -11,11 +11,13 @@ ghost use lib.ListN.{length};
 ghost use Rattle.paper.specs.declared.Form.{Form};
 ghost use Rattle.paper.specs.declared.Mode.the-variants.{Cmr};
 ghost use Rattle.paper.specs.Site.Bonds.{samplerOf};
+ghost use Rattle.paper.specs.Refusal.Kept.{Valid};
+ghost use Rattle.paper.specs.Answer.Move.{Answers};
 ghost use Rattle.paper.specs.Component.Marks.{Marks};
 ghost use Rattle.choose.specs.Chosen.{Becomes};
 ghost use Rattle.moves.specs.Held.{heldAt};
-ghost use Rattle.moves.specs.Task.{Seeable, Sights, Choosable, chosenAt, Holdable, RowsGiven, WroteBack, callOf, choicesOf};
-ghost use Rattle.moves.specs.Cmr.{CmrGiven, CmrRoom, CmrLabelled, GreyGiven, GreyDone, GreyChoices, CmrDone};
+ghost use Rattle.moves.specs.Task.{Seeable, Sights, Choosable, chosenAt, Holdable, RowsGiven, WroteBack, callOf, choicesOf, buffersOf};
+ghost use Rattle.moves.specs.Cmr.{CmrGiven, CmrRoom, CmrLabelled, GreyGiven, GreyDone, GreyChoices, CmrArrays, CmrDone};
 ghost use Rattle.moves.specs.Work.{LabelGiven, Room, LabelDone, ChoiceGiven, Outputs, Arrays, WorkDone};
 
 // Writes each site's new column from the choices of its component.
@@ -457,7 +459,8 @@ fn work_cmr(
 )
     requires { ⌜ CmrGiven n d (now fwd) (now couplings) (now cuts) group (now spins) ⌝ }
     requires { ⌜ CmrRoom n d (now cols) (now acts) (now blue) (now grey) (now tally) (now labels) (now counts) (now sizes) ⌝ }
-    requires { ⌜ GreyChoices form n seed (now flips) (now greys) (now «grey_labels») (now reached) ⌝ }
+    requires { ⌜ GreyChoices form n seed (now flips) (now greys) (now «grey_labels») ⌝ }
+    requires { ⌜ length (now reached) ≡ n ⌝ }
     ensures { λ _. ⌜ ((s reference : ℕ) (bwd perms : List ℕ) → CmrDone
         (callOf Cmr form n d s (now (fwd .entry)) bwd (now (couplings .entry)) group temperature (now (cuts .entry)) reference seed)
         (choicesOf (now (flips .entry)) perms (now (greys .entry)))
@@ -501,4 +504,201 @@ fn work_cmr(
         );
         write_task(Mode::Cmr, n, spins, group, 0, cols);
     }
+}
+
+// The same on work arrays that are long enough for every panel.
+fn work_cmr_in(
+    form: Form,
+    n: usize,
+    d: usize,
+    spins: &mut [i8],
+    fwd: &[u32],
+    couplings: &[i32],
+    group: Group,
+    temperature: f32,
+    cuts: &[f32],
+    seed: usize,
+    flips: &[u8],
+    greys: &[u8],
+    cols: &mut [u8],
+    acts: &mut [u8],
+    reached: &mut [u8],
+    blue: &mut [u8],
+    grey: &mut [u8],
+    tally: &mut [u32],
+    labels: &mut [u32],
+    grey_labels: &mut [u32],
+    counts: &mut [u32],
+    sizes: &mut [u32],
+)
+    requires { ⌜ CmrGiven n d (now fwd) (now couplings) (now cuts) group (now spins) ⌝ }
+    requires { ⌜ GreyChoices form n seed (now flips) (now greys) (now «grey_labels») ⌝ }
+    requires { ⌜ Outputs n (now labels) (now counts) (now sizes) ⌝ }
+    requires { ⌜ CmrArrays (now cols) (now acts) (now reached) (now blue) (now grey) (now tally) ⌝ }
+    ensures { λ _. ⌜ ((s reference : ℕ) (bwd perms : List ℕ) → CmrDone
+        (callOf Cmr form n d s (now (fwd .entry)) bwd (now (couplings .entry)) group temperature (now (cuts .entry)) reference seed)
+        (choicesOf (now (flips .entry)) perms (now (greys .entry)))
+        (now (spins .entry)) (now («grey_labels» .entry)) (now (labels .exit)) (now («grey_labels» .exit)) (now (counts .exit)) (now (sizes .exit)) (now (spins .exit))) ⌝ }
+{
+    let bonds = n * d;
+    work_cmr(
+        form,
+        n,
+        d,
+        spins,
+        fwd,
+        couplings,
+        group,
+        temperature,
+        cuts,
+        seed,
+        flips,
+        greys,
+        &mut cols[..n],
+        &mut acts[..n],
+        &mut reached[..n],
+        &mut blue[..bonds],
+        &mut grey[..bonds],
+        &mut tally[..n],
+        labels,
+        grey_labels,
+        counts,
+        sizes,
+    );
+}
+
+// One CMR task: the work arrays are this call's own.
+fn run_cmr(
+    form: Form,
+    n: usize,
+    d: usize,
+    spins: &mut [i8],
+    fwd: &[u32],
+    couplings: &[i32],
+    group: Group,
+    temperature: f32,
+    cuts: &[f32],
+    seed: usize,
+    flips: &[u8],
+    greys: &[u8],
+    labels: &mut [u32],
+    grey_labels: &mut [u32],
+    counts: &mut [u32],
+    sizes: &mut [u32],
+)
+    requires { ⌜ CmrGiven n d (now fwd) (now couplings) (now cuts) group (now spins) ⌝ }
+    requires { ⌜ GreyChoices form n seed (now flips) (now greys) (now «grey_labels») ⌝ }
+    requires { ⌜ Outputs n (now labels) (now counts) (now sizes) ⌝ }
+    ensures { λ _. ⌜ ((s reference : ℕ) (bwd perms : List ℕ) → CmrDone
+        (callOf Cmr form n d s (now (fwd .entry)) bwd (now (couplings .entry)) group temperature (now (cuts .entry)) reference seed)
+        (choicesOf (now (flips .entry)) perms (now (greys .entry)))
+        (now (spins .entry)) (now («grey_labels» .entry)) (now (labels .exit)) (now («grey_labels» .exit)) (now (counts .exit)) (now (sizes .exit)) (now (spins .exit))) ⌝ }
+{
+    let mut cols = [0u8; 4096];
+    let mut acts = [0u8; 4096];
+    let mut reached = [0u8; 4096];
+    let mut blue = [0u8; 16384];
+    let mut grey = [0u8; 16384];
+    let mut tally = [0u32; 4096];
+    work_cmr_in(
+        form,
+        n,
+        d,
+        spins,
+        fwd,
+        couplings,
+        group,
+        temperature,
+        cuts,
+        seed,
+        flips,
+        greys,
+        &mut cols,
+        &mut acts,
+        &mut reached,
+        &mut blue,
+        &mut grey,
+        &mut tally,
+        labels,
+        grey_labels,
+        counts,
+        sizes,
+    );
+}
+
+// One task whose input is tested: labels, counts, sizes and spins as the paper has them.
+pub fn run_task(
+    mode: Mode,
+    form: Form,
+    n: usize,
+    d: usize,
+    s: usize,
+    spins: &mut [i8],
+    fwd: &[u32],
+    bwd: &[u32],
+    couplings: &[i32],
+    group: Group,
+    temperature: f32,
+    cuts: &[f32],
+    reference: usize,
+    seed: usize,
+    flips: &[u8],
+    perms: &[u8],
+    greys: &[u8],
+    labels: &mut [u32],
+    grey_labels: &mut [u32],
+    counts: &mut [u32],
+    sizes: &mut [u32],
+) -> Answer
+    requires { ⌜ Valid
+        (callOf mode form n d s (now fwd) (now bwd) (now couplings) group temperature (now cuts) reference seed)
+        (choicesOf (now flips) (now perms) (now greys))
+        (buffersOf (now spins) (now labels) (now «grey_labels») (now counts) (now sizes)) ⌝ }
+    ensures { λ r. ⌜ Answers
+        (callOf mode form n d s (now (fwd .entry)) (now (bwd .entry)) (now (couplings .entry)) group temperature (now (cuts .entry)) reference seed)
+        (choicesOf (now (flips .entry)) (now (perms .entry)) (now (greys .entry)))
+        (buffersOf (now (spins .entry)) (now (labels .entry)) (now («grey_labels» .entry)) (now (counts .entry)) (now (sizes .entry)))
+        r
+        (buffersOf (now (spins .exit)) (now (labels .exit)) (now («grey_labels» .exit)) (now (counts .exit)) (now (sizes .exit))) ⌝ }
+{
+    if mode.is_cmr() {
+        run_cmr(
+            form,
+            n,
+            d,
+            spins,
+            fwd,
+            couplings,
+            group,
+            temperature,
+            cuts,
+            seed,
+            flips,
+            greys,
+            labels,
+            grey_labels,
+            counts,
+            sizes,
+        );
+        return Answer::Moved;
+    }
+    run_plain(
+        mode,
+        form,
+        n,
+        d,
+        spins,
+        fwd,
+        couplings,
+        group,
+        temperature,
+        cuts,
+        reference,
+        seed,
+        flips,
+        perms,
+        labels,
+        counts,
+        sizes,
+    )
 }
