@@ -1,15 +1,16 @@
--- Each test's promise allows one answer. Assumes nothing.
-use Prim.Native.Nat.{ℕ, _≤_, _<_}
+-- Each test's promise allows one answer; `backward-determined` is in Backward.antt. Assumes nothing.
+use Prim.Native.Nat.{ℕ, _+_, _*_, _≤_, _<_}
 use mathlib.Core.Path.{_≡_}
 use mathlib.Core.Bool.{Bool}
 use mathlib.Core.List.{List}
 use lib.IntN.{ℤ}
 use lib.ListN.{length, getD}
 use lib.Ieee.{Float, nan}
+use Rattle.paper.specs.declared.Group.{Group}
 use Rattle.paper.specs.declared.Mode.{Mode}
 use Rattle.paper.specs.Component.Marks.{Tells}
-use Rattle.paper.specs.Refusal.Rules.{Sizes, Ranged, Spins, SmallCouplings, Warm, Cuts}
-use Rattle.lattice.specs.Telling.{Each, tells-determined}
+use Rattle.paper.specs.Refusal.Rules.{Sizes, Ranged, Spins, Inverse, Grouped, SmallCouplings, Warm, Cuts, Permutes, NotIdentity}
+use Rattle.lattice.specs.Telling.{tells-determined}
 
 -- any two answers r and r′ that tell of P are equal
 abbrev pub OneAnswer : Type 0 → Type 0
@@ -38,3 +39,18 @@ cuts-ok-determined cuts = tells-determined _
 
 pub bytes-at-most-determined : (xs : List ℕ) (top : ℕ) → OneAnswer ((k : ℕ) → k < length xs → getD xs k 0 ≤ top)
 bytes-at-most-determined xs top = tells-determined _
+
+pub tables-ok-determined : (n d : ℕ) (fwd bwd : List ℕ) → OneAnswer (Inverse n d fwd bwd)
+tables-ok-determined n d fwd bwd = tells-determined _
+
+pub group-ok-determined : (s : ℕ) (g : Group) → OneAnswer (Grouped s g)
+group-ok-determined s g = tells-determined _
+
+pub order-ok-determined : (s : ℕ) (order : List ℕ) → OneAnswer (Permutes s (λ k. getD order k 0))
+order-ok-determined s order = tells-determined _
+
+pub permutations-ok-determined : (rows m : ℕ) (perms : List ℕ) → OneAnswer ((r : ℕ) → r < rows → Permutes m (λ k. getD perms (r * m + k) 0))
+permutations-ok-determined rows m perms = tells-determined _
+
+pub not-identity-determined : (row : List ℕ) → OneAnswer (NotIdentity (length row) (λ k. getD row k 0))
+not-identity-determined row = tells-determined _

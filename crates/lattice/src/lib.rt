@@ -10,6 +10,7 @@ ghost use Rattle.paper.specs.Panel.Input.{member};
 ghost use Rattle.paper.specs.Panel.Takes.{isCmr};
 ghost use Rattle.paper.specs.Refusal.Rules.{Sizes, Ranged, Spin, Spins, SmallCouplings, Warm, isCut, Cuts, Back, Inverse, Grouped, Permutes, NotIdentity};
 ghost use Rattle.lattice.specs.Telling.{Each};
+ghost use Rattle.lattice.specs.Backward.{Turnable, Turned, Zeros, Led, Filling, FillingSite, FillingBond};
 ghost use Rattle.lattice.specs.Groups.{Fresh, Alone};
 ghost use Rattle.lattice.specs.Marking.{Marked, MarkedBelow, RowIn, Rows, RowsBelow, rowAt, OrderOf};
 ghost use Rattle.lattice.specs.Tables.{Tabled, TabledSite, TabledBond};
@@ -312,4 +313,59 @@ pub fn not_identity(row: &[u8]) -> bool
         k += 1;
     }
     moved
+}
+
+fn lead_back(n: usize, d: usize, fwd: &[u32], bwd: &mut [u32], i: usize, e: usize)
+    requires { ⌜ FillingBond n d (now fwd) (now bwd) i e ⌝ }
+    ensures { λ _. ⌜ Led n d (now (fwd .entry)) (i * d + e + 1) (now (bwd .exit)) ⌝ }
+{
+    let f = wide(fwd[i * d + e]);
+    if f < n {
+        bwd[f * d + e] = i as u32;
+    }
+}
+
+fn lead_site_back(n: usize, d: usize, fwd: &[u32], bwd: &mut [u32], i: usize)
+    requires { ⌜ FillingSite n d (now fwd) (now bwd) i ⌝ }
+    ensures { λ _. ⌜ Led n d (now (fwd .entry)) (i * d + d) (now (bwd .exit)) ⌝ }
+{
+    let mut e = 0;
+    while e < d {
+        lead_back(n, d, fwd, bwd, i, e);
+        e += 1;
+    }
+}
+
+fn lead_all_back(n: usize, d: usize, fwd: &[u32], bwd: &mut [u32])
+    requires { ⌜ Filling n d (now fwd) 0 (now bwd) ⌝ }
+    ensures { λ _. ⌜ Led n d (now (fwd .entry)) (n * d) (now (bwd .exit)) ⌝ }
+{
+    let mut i = 0;
+    while i < n {
+        lead_site_back(n, d, fwd, bwd, i);
+        i += 1;
+    }
+}
+
+fn clear(xs: &mut [u32])
+    ensures { λ _. ⌜ Zeros (now (xs .exit)) ⌝ }
+{
+    let mut k = 0;
+    while k < xs.len() {
+        xs[k] = 0;
+        k += 1;
+    }
+}
+
+// Every entry is written where there is an inverse, so what stood in the table does not matter.
+pub fn backward(n: usize, d: usize, fwd: &[u32], bwd: &mut [u32]) -> bool
+    requires { ⌜ Turnable n d (now fwd) (now bwd) ⌝ }
+    ensures { λ r. ⌜ Turned n d (now (fwd .entry)) r (now (bwd .exit)) ⌝ }
+{
+    lead_all_back(n, d, fwd, bwd);
+    if tables_ok(n, d, fwd, bwd) {
+        return true;
+    }
+    clear(bwd);
+    false
 }
