@@ -4,3 +4,8 @@ pub mod Groups
 pub mod Marking
 pub mod Backward
 pub mod Determined
+pub mod Ints
+pub mod Held
+pub mod Signs
+pub mod Sums
+pub mod Adding

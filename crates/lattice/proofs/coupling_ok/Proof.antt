@@ -1,6 +1,6 @@
 -- `coupling_ok` meets its contract: no more than the bound above 0, nor below. Assumes nothing.
 use mir.Facts.{toZ-ofZ}
-use Rattle.lattice.proofs.Ints.{within}
+use Rattle.lattice.specs.Ints.{within}
 use Rattle.lattice.proofs.coupling_ok.Statement.{statement}
 use Rattle.lattice.proofs.coupling_ok.Tie as tie
 

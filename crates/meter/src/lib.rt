@@ -1,0 +1,109 @@
+// The energy meter.
+ghost use mathlib.Core.Path.{_≡_};
+ghost use Prim.Native.Nat.{_≤_};
+ghost use lib.IntN.{_*ℤ_};
+ghost use Rattle.paper.specs.Component.Marks.{Tells};
+ghost use Rattle.paper.specs.Refusal.Rules.{Sizes};
+ghost use Rattle.paper.specs.Answer.Meter.{MeterAnswers};
+ghost use Rattle.meter.specs.Part.{latticeOf};
+ghost use Rattle.meter.specs.Row.{Lengths, Row, RowSite, RowBond, RowSum, Bond, bondTerm, siteTerm};
+use paper::MeterAnswer;
+
+fn exact(
+    n: usize,
+    d: usize,
+    s: usize,
+    spins: usize,
+    fwd: usize,
+    bwd: usize,
+    couplings: usize,
+) -> bool
+    requires { ⌜ Sizes n d s ⌝ }
+    ensures { λ r. ⌜ Tells r (Lengths n d s spins fwd bwd couplings) ⌝ }
+{
+    let table = n * d;
+    (spins == s * n) & (fwd == table) & (bwd == table) & (couplings == table)
+}
+
+fn bond(j: i32, s: i8, t: i8) -> i64
+    requires { ⌜ Bond j s t ⌝ }
+    ensures { λ r. ⌜ r ≡ j *ℤ s *ℤ t ⌝ }
+{
+    (j as i64) * (s as i64) * (t as i64)
+}
+
+fn wide(x: u32) -> usize
+    ensures { λ r. ⌜ r ≡ x ⌝ }
+{
+    x as usize
+}
+
+fn bond_at(n: usize, d: usize, fwd: &[u32], js: &[i32], row: &[i8], i: usize, e: usize) -> i64
+    requires { ⌜ RowBond n d (now fwd) (now js) (now row) i e ⌝ }
+    ensures { λ r. ⌜ r ≡ bondTerm d (now (fwd .entry)) (now (js .entry)) (now (row .entry)) i e ⌝ }
+{
+    let at = i * d + e;
+    let f = wide(fwd[at]);
+    bond(js[at], row[i], row[f])
+}
+
+fn site_sum(n: usize, d: usize, fwd: &[u32], js: &[i32], row: &[i8], i: usize) -> i64
+    requires { ⌜ RowSite n d (now fwd) (now js) (now row) i ⌝ }
+    ensures { λ r. ⌜ r ≡ siteTerm d (now (fwd .entry)) (now (js .entry)) (now (row .entry)) i ⌝ }
+{
+    let mut total: i64 = 0;
+    let mut e = 0;
+    while e < d {
+        total = total + bond_at(n, d, fwd, js, row, i, e);
+        e += 1;
+    }
+    total
+}
+
+fn row_sum(n: usize, d: usize, fwd: &[u32], js: &[i32], row: &[i8]) -> i64
+    requires { ⌜ Row n d (now fwd) (now js) (now row) ⌝ }
+    ensures { λ r. ⌜ RowSum n d (now (fwd .entry)) (now (js .entry)) (now (row .entry)) r ⌝ }
+{
+    let mut total: i64 = 0;
+    let mut i = 0;
+    while i < n {
+        total = total + site_sum(n, d, fwd, js, row, i);
+        i += 1;
+    }
+    total
+}
+
+pub fn energy(
+    n: usize,
+    d: usize,
+    s: usize,
+    spins: &[i8],
+    fwd: &[u32],
+    bwd: &[u32],
+    couplings: &[i32],
+    system: usize,
+) -> MeterAnswer
+    ensures { λ r. ⌜ MeterAnswers (latticeOf n d s (now (fwd .entry)) (now (bwd .entry)) (now (couplings .entry))) (now (spins .entry)) system r ⌝ }
+{
+    if !lattice::sizes_ok(n, d, s) {
+        return MeterAnswer::Unmetered(1);
+    }
+    if !exact(n, d, s, spins.len(), fwd.len(), bwd.len(), couplings.len()) {
+        return MeterAnswer::Unmetered(2);
+    }
+    if !lattice::spins_ok(spins) {
+        return MeterAnswer::Unmetered(3);
+    }
+    if !lattice::tables_ok(n, d, fwd, bwd) {
+        return MeterAnswer::Unmetered(4);
+    }
+    if s <= system {
+        return MeterAnswer::Unmetered(5);
+    }
+    if !lattice::couplings_ok(couplings) {
+        return MeterAnswer::Unmetered(6);
+    }
+    let a = system * n;
+    let e = a + n;
+    MeterAnswer::Energy(0 - row_sum(n, d, fwd, couplings, &spins[a..e]))
+}
