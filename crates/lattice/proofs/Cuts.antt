@@ -1,12 +1,11 @@
 -- What the two tests of `cut_ok` say: a cut passes both exactly where it is finite and not negative. Assumes nothing.
-use mathlib.Core.Path.{_≡_, refl, sym, ap, _∙_}
-use mathlib.Core.Bool.{Bool, true, false, not, _&&_, _||_}
+use mathlib.Core.Path.{_≡_, refl, ap, _∙_}
+use mathlib.Core.Bool.{Bool, true, false, _&&_, _||_}
 use Prim.Native.Nat.{ℕ, zero, suc, _+_, _*_, _<_}
-use native.Mathlib.Nat.{zero-mul, mul-one, suc-mul}
+use native.Mathlib.Nat.{zero-mul, suc-mul}
 use native.Mathlib.Omega.{arith}
-use borrow.Author.Tests.{lt-ltb, le-ltb, eq-eqb, ne-eqb}
+use borrow.Author.Tests.{lt-ltb, ne-eqb}
 use lib.Dec.{eqb, ltb}
-use lib.IntN.{ℤ, pos}
 use lib.Ieee.{Float, nan, inf, fin, le, lt, eq, ofInt, up, down}
 use lib.Ieee.Fits.{up-pos}
 use Rattle.paper.specs.Refusal.Rules.{isCut}
@@ -25,7 +24,10 @@ above-zero (suc k) = rw (lt-ltb 0 (suc k) (omega arith))
 
 minus-zero : (m u : ℕ) → 0 < u → minus 0 (m * u * 1) ≡ eqb m 0
 minus-zero zero u h = rw zero-mul
-minus-zero (suc k) u h = rw (ne-eqb 0 (suc k * u * 1) (λ e. let p : 0 ≡ (k * u + u) * 1 = e ∙ ap (λ (n : ℕ). n * 1) (suc-mul k u) in absurd (omega arith)), ne-eqb (suc k) 0 (λ e. absurd (omega arith)))
+minus-zero (suc k) u h = rw (ne-eqb 0 (suc k * u * 1) some, ne-eqb (suc k) 0 (λ e. absurd (omega arith)))
+  where
+    some : 0 ≡ suc k * u * 1 → ⊥
+    some e = omega (arith, e, suc-mul k u)
 
 abbrev pub tested : Float → Bool
 tested x = le (whole 0) x && lt x (inf false)

@@ -1,7 +1,7 @@
 -- A flag that tells whether one of the numbers passed is moved. Assumes nothing.
 use Prim.Native.Nat.{ℕ, _+_, _≤_, _<_}
 use mathlib.Core.Path.{_≡_, subst}
-use mathlib.Core.Logic.{_⊎_, inl, inr, ⊎-elim}
+use mathlib.Core.Logic.{_⊎_, inl, inr}
 use mathlib.Core.Bool.{Bool, false, _||_}
 use native.Mathlib.Decide.{ℕ-discrete}
 use native.Mathlib.Nat.{le-antisymm}
@@ -18,7 +18,10 @@ pub moving-none : (n : ℕ) (p : ℕ → ℕ) → Moving n p 0 false
 moving-none n p = record { reached = omega arith; tells = λ w. omega (arith, w .below) }
 
 pub moving-more : {n : ℕ} {p : ℕ → ℕ} {i : ℕ} {a b : Bool} → Moving n p i a → i < n → Test b (p i ≡ i → ⊥) → Moving n p (i + 1) (a || b)
-moving-more {n} {p} {i} {a} h l t = record { reached = omega arith; tells = same (NotIdentity (i + 1) p) to from (either (said a (NotIdentity i p) (h .tells)) t) .says }
+moving-more {n} {p} {i} {a} h l t = record {
+  reached = omega arith;
+  tells = same (NotIdentity (i + 1) p) to from (either (said a (NotIdentity i p) (h .tells)) t) .says;
+}
   where
     to : NotIdentity i p ⊎ (p i ≡ i → ⊥) → NotIdentity (i + 1) p
     to (inl w) = record { place = w .place; below = omega arith; moved = w .moved }

@@ -1,6 +1,6 @@
 -- A loop that adds n signed numbers of bounded size: its total fits, and is their sum. Assumes nothing.
 use Prim.Native.Nat.{ℕ, _+_, _*_, _^_, _≤_, _<_}
-use mathlib.Core.Path.{_≡_, refl, sym, _∙_, ap, subst}
+use mathlib.Core.Path.{_≡_, refl, sym, _∙_, ap}
 use native.Mathlib.Nat.{le-antisymm, lt-of-le-of-lt, le-trans, mul-le-mul-right}
 use native.Mathlib.Omega.{arith}
 use lib.IntN.{ℤ, natAbs, _+ℤ_}
@@ -8,7 +8,7 @@ use mir.Syntax.{Width}
 use mir.Val.{SFits, toZ, ofZ, hbits}
 use Rattle.paper.specs.Site.Acting.{sum}
 use Rattle.lattice.specs.Ints.{sfits-abs}
-use Rattle.lattice.specs.Held.{Holds, Value, given, reads, asks, stored, held-add-to}
+use Rattle.lattice.specs.Held.{Holds, Value, reads, stored, held-add-to}
 use Rattle.lattice.specs.Sums.{sum-more, sum-bound}
 
 -- each of n summands is at most b in size, and n * b is within the width

@@ -1,5 +1,5 @@
 -- The backward table, worked out from the forward one. Assumes nothing.
-use Prim.Native.Nat.{ℕ, suc, _+_, _*_, _/_, _%_, _≤_, _<_}
+use Prim.Native.Nat.{ℕ, _+_, _*_, _/_, _%_, _≤_, _<_}
 use mathlib.Core.Path.{_≡_, refl, sym, _∙_, ap, subst}
 use mathlib.Core.Bool.{Bool, true, false}
 use mathlib.Core.List.{List}
@@ -8,8 +8,8 @@ use native.Mathlib.Nat.{div-add-mod', div-lt-iff-lt-mul, mod-lt, mul-le-mul-righ
 use native.Mathlib.Omega.{arith}
 use lib.ListN.{length, getD, set, length-set}
 use lib.Seq.{ext-getD, getD-set-same, getD-set-other}
-use Rattle.paper.specs.Refusal.Rules.{Back, Inverse}
-use Rattle.lattice.specs.Tables.{LeadsBack, cell-lt, inverse-of}
+use Rattle.paper.specs.Refusal.Rules.{Inverse}
+use Rattle.lattice.specs.Tables.{cell-lt, inverse-of}
 use Rattle.lattice.specs.Telling.{Each}
 
 -- what is lent: a table to read and one to fill
@@ -116,10 +116,13 @@ module _ {n d : ℕ} {fwd bwd : List ℕ} {i e : ℕ} (h : Led n d fwd (i * d + 
       inside : x * d + e < length bwd
       inside = rw (h .long) (cell-lt n d x e lx le)
 
-      step : (w : List ℕ) → Inverse n d fwd w → (j f : ℕ) → j < n → f < d → j * d + f < i * d + e + 1 → getD (set bwd (x * d + e) i) (getD fwd (j * d + f) 0 * d + f) 0 ≡ j
+      after : List ℕ
+      after = set bwd (x * d + e) i
+
+      step : (w : List ℕ) → Inverse n d fwd w → (j f : ℕ) → j < n → f < d → j * d + f < i * d + e + 1 → getD after (getD fwd (j * d + f) 0 * d + f) 0 ≡ j
       step w v j f lj lf lt = go (ℕ-discrete (getD fwd (j * d + f) 0 * d + f) (x * d + e))
         where
-          go : Dec (getD fwd (j * d + f) 0 * d + f ≡ x * d + e) → getD (set bwd (x * d + e) i) (getD fwd (j * d + f) 0 * d + f) 0 ≡ j
+          go : Dec (getD fwd (j * d + f) 0 * d + f ≡ x * d + e) → getD after (getD fwd (j * d + f) 0 * d + f) 0 ≡ j
           go (yes s) = rw s (getD-set-same bwd (x * d + e) i 0 inside ∙ one)
             where
               one : i ≡ j

@@ -1,5 +1,5 @@
 -- A group's systems one at a time. Assumes nothing.
-use Prim.Native.Nat.{ℕ, _≤_, _<_}
+use Prim.Native.Nat.{ℕ, _<_}
 use mathlib.Core.Path.{_≡_, sym}
 use native.Mathlib.Decide.{decLt}
 use native.Mathlib.Omega.{arith}

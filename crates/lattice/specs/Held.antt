@@ -3,10 +3,10 @@
 -- A need that asks `SFits w y` is `asks v`, and a return of y's bits is `reads (stored v)`, for v a `Value` built as the code is built. Assumes nothing.
 use mathlib.Core.Path.{_≡_, refl, sym, _∙_, ap, subst}
 use mathlib.Core.Bool.{Bool, true, false}
-use Prim.Native.Nat.{ℕ, _+_, _*_, _^_, _<_, _≤_}
+use Prim.Native.Nat.{ℕ, _*_, _^_, _<_, _≤_}
 use native.Mathlib.Nat.{le-trans, lt-of-le-of-lt, mul-le-mul-left, mul-le-mul-right}
 use lib.Dec.{T, ltb, leb, ltb→lt}
-use lib.IntN.{ℤ, pos, natAbs, _+ℤ_, _-ℤ_, _*ℤ_}
+use lib.IntN.{ℤ, natAbs, _+ℤ_, _-ℤ_, _*ℤ_}
 use lib.Signed.{ltZ, mag}
 use mir.Syntax.{Width}
 use mir.Val.{SFits, toZ, ofZ, hbits}
@@ -46,13 +46,7 @@ module _ {w : Width} {m n : ℕ} {a b : ℤ} (x : Holds w m a) (y : Holds w n b)
   pub held-mul : SFits w (a *ℤ b) → Value w (toZ w m *ℤ toZ w n) (a *ℤ b)
   held-mul f = record { is = λ i. reads x i *ℤ reads y i; fits = f }
 
-  pub held-add : SFits w (a +ℤ b) → Value w (toZ w m +ℤ toZ w n) (a +ℤ b)
-  held-add f = record { is = λ i. reads x i +ℤ reads y i; fits = f }
-
-  pub held-sub : SFits w (a -ℤ b) → Value w (toZ w m -ℤ toZ w n) (a -ℤ b)
-  held-sub f = record { is = λ i. reads x i -ℤ reads y i; fits = f }
-
-  -- the same, at a number that the sum or the difference is
+  -- the number that the sum or the difference is
   pub held-add-to : {z : ℤ} → a +ℤ b ≡ z → SFits w z → Value w (toZ w m +ℤ toZ w n) z
   held-add-to e f = record { is = (λ i. reads x i +ℤ reads y i) ∙ e; fits = f }
 

@@ -1,17 +1,16 @@
 -- Bounds on sums and products in ℤ, and what the machine reads back from a signed number's bits. Assumes nothing.
-use mathlib.Core.Path.{_≡_, refl, sym, _∙_, ap, subst}
+use mathlib.Core.Path.{_≡_, refl, sym, ap, subst}
 use mathlib.Core.Bool.{Bool, true, false, cond, _&&_}
 use Prim.Native.Nat.{ℕ, zero, suc, _+_, _*_, _-_, _^_, _<_, _≤_}
-use native.Mathlib.Nat.{le-refl, le-of-lt, le-trans, lt-of-le-of-lt, mul-le-mul-left, mul-le-mul-right}
+use native.Mathlib.Nat.{le-refl, le-of-lt}
 use borrow.Author.Tests.{eq-eqb, ne-eqb}
 use native.Mathlib.Omega.{arith}
-use lib.Dec.{T, leb, ltb, le→leb, ltb→lt, nltb→le}
+use lib.Dec.{T, ltb, le→leb, ltb→lt}
 use lib.IntN.{ℤ, pos, negsuc, natAbs, negℤ, subℕ, _+ℤ_, _-ℤ_, _*ℤ_, +ℤ-idl}
 use lib.Signed.{ltZ, leZ}
 use lib.Ieee.{binary32, inFloat}
-use mir.Syntax.{Width, w8, w32, w64}
-use mir.Val.{SFits, toZ, ofZ, hbits}
-use mir.ValLaws.{toZ-ofZ}
+use mir.Syntax.{Width}
+use mir.Val.{SFits, hbits}
 use Rattle.paper.specs.Site.Acting.{eqZ}
 use Rattle.lattice.specs.Telling.{Test, same, both, said, test-le}
 
@@ -43,14 +42,6 @@ pub sfits-abs : (w : Width) (z : ℤ) → natAbs z < 2 ^ hbits w → SFits w z
 sfits-abs w (pos n) h = record { sfits = h }
 sfits-abs w (negsuc n) h = record { sfits = le-of-lt h }
 
--- ---- the machine's operations, on what it reads back
-module _ (w : Width) {a b : ℤ} (fa : SFits w a) (fb : SFits w b) where
-  pub mul-back : toZ w (ofZ w a) *ℤ toZ w (ofZ w b) ≡ a *ℤ b
-  mul-back = λ i. toZ-ofZ w a fa i *ℤ toZ-ofZ w b fb i
-
-  pub add-back : toZ w (ofZ w a) +ℤ toZ w (ofZ w b) ≡ a +ℤ b
-  add-back = λ i. toZ-ofZ w a fa i +ℤ toZ-ofZ w b fb i
-
 -- ---- the size by a test of the sign
 pub minus-abs : (j : ℤ) → ltZ j (pos 0) ≡ true → pos 0 -ℤ j ≡ pos (natAbs j)
 minus-abs (pos n) t = let h : n < 0 = ltb→lt n 0 (subst T (sym t) tt) in absurd (omega arith)
@@ -65,16 +56,7 @@ pub exact32 : (n : ℕ) → n ≤ 16777216 → T (inFloat binary32 (pos n))
 unfolding inFloat
 exact32 n h = le→leb n 16777216 h
 
--- ---- a product of two sizes
-pub mul-bound : (w : Width) (a b : ℤ) {m n : ℕ} → natAbs a ≤ m → natAbs b ≤ n → m * n < 2 ^ hbits w → SFits w (a *ℤ b)
-mul-bound w a b {m} {n} ha hb h =
-    sfits-abs w (a *ℤ b)
-    (subst (λ (k : ℕ). k < 2 ^ hbits w) (sym (abs-mul a b)) (lt-of-le-of-lt (le-trans (mul-le-mul-left (natAbs a) hb) (mul-le-mul-right n ha)) h))
-
 -- ---- a test of equality of two signed numbers compares their bits
-pub same-bits : (w : Width) {a b : ℤ} → SFits w a → SFits w b → ofZ w a ≡ ofZ w b → a ≡ b
-same-bits w {a} {b} fa fb e = sym (toZ-ofZ w a fa) ∙ ap (toZ w) e ∙ toZ-ofZ w b fb
-
 pub eqZ-yes : (a b : ℤ) → a ≡ b → eqZ a b ≡ true
 eqZ-yes a b e = subst (λ (x : ℤ). eqZ a x ≡ true) e (same a) where
   same : (z : ℤ) → eqZ z z ≡ true

@@ -7,7 +7,7 @@ use native.Mathlib.Decide.{decLt, ℕ-discrete}
 use native.Mathlib.Nat.{div-add-mod', div-eq-of-lt, div-lt-iff-lt-mul, div-one, le-antisymm, mod-lt, mul-le-mul-right, one-mul, pow-suc, suc-mul, zero-div}
 use native.Mathlib.Omega.{arith}
 use borrow.Author.Count.{below-more}
-use lib.Bits.{bitOr, or-shr, or-mod, or-comm, or-zero-l, or-zero-r, or-lt, shifted-even}
+use lib.Bits.{bitOr, or-shr, or-mod, or-comm, or-zero-l, or-lt, shifted-even}
 use lib.Dec.{eqb}
 use lib.ListN.{length, getD}
 use lib.Pow.{pow-add, pow-lt, pow-pos, ones-lt, ones-split, high, shl-shr, shl-exact, shr-shr}
@@ -126,9 +126,15 @@ module _ {m : ℕ} {p : ℕ → ℕ} where
   mark-more {i} {x} li l h = record {
     reached = omega arith;
     small = or-lt m x (2 ^ p i) (h .small) (pow-lt l);
-    met = λ v b. ⊎-elim (λ o. met-more (h .met v o)) (λ n. record { place = i; below = omega arith; is = sym (only-bit (p i) v n) }) (or-either x (2 ^ p i) v b);
-    marks = below-more (λ k. p k < m → Bit (bitOr x (2 ^ p i)) (p k)) i (λ k lk q. or-left x (2 ^ p i) (p k) (h .marks k lk q)) (λ q. or-right x (2 ^ p i) (p i) (own-bit (p i)));
+    met = λ v b. ⊎-elim (λ o. met-more (h .met v o)) (new v) (or-either x (2 ^ p i) v b);
+    marks = below-more (λ k. p k < m → Bit (bitOr x (2 ^ p i)) (p k)) i old (λ q. or-right x (2 ^ p i) (p i) (own-bit (p i)));
   }
+    where
+      new : (v : ℕ) → Bit (2 ^ p i) v → Met p (i + 1) v
+      new v b = record { place = i; below = omega arith; is = sym (only-bit (p i) v b) }
+
+      old : (k : ℕ) → k < i → p k < m → Bit (bitOr x (2 ^ p i)) (p k)
+      old k l q = or-left x (2 ^ p i) (p k) (h .marks k l q)
 
   pub mark-below : {i x y : ℕ} → i < m → MarkedBelow m (p i) x y → Marked m p i x → Marked m p (i + 1) y
   mark-below {i} {x} {y} li w h = go (decLt (p i) m)
@@ -224,7 +230,8 @@ row-in {rows} {m} b r l = record {
 }
 
 -- each byte stands in a row
-pub rows-below : {rows m : ℕ} {perms : List ℕ} → 0 < m → Rows rows m perms → Each rows (λ r. Permutes m (rowAt m perms r)) → (k : ℕ) → k < length perms → getD perms k 0 < m
+pub rows-below : {rows m : ℕ} {perms : List ℕ} → 0 < m → Rows rows m perms → Each rows (λ r. Permutes m (rowAt m perms r))
+    → Each (length perms) (λ k. getD perms k 0 < m)
 rows-below {rows} {m} {perms} p w h k l =
     let r : k / m < rows = div-lt-iff-lt-mul p .1 (rw (w .long) at l) in
     rw (div-add-mod' k m) at (h (k / m) r .within (k % m) (mod-lt k p))

@@ -1,5 +1,5 @@
 -- Spins: their products, their ranges, and what the machine reads back from their bits. Assumes nothing.
-use Prim.Native.Nat.{ℕ, _*_, _^_, _≤_}
+use Prim.Native.Nat.{ℕ, _^_, _≤_}
 use mathlib.Core.Path.{_≡_, refl, sym, _∙_, subst}
 use mathlib.Core.Logic.{inl, inr}
 use native.Mathlib.Nat.{mul-one}
@@ -7,7 +7,7 @@ use lib.Dec.{T, ltb, lit≤}
 use lib.IntN.{ℤ, pos, negsuc, natAbs, _*ℤ_}
 use mir.Syntax.{Width, w8}
 use mir.Val.{SFits, toZ, ofZ, hbits}
-use mir.Facts.{sfits-lit, sfits-widen}
+use mir.Facts.{sfits-lit}
 use Rattle.paper.specs.Refusal.Rules.{Spin}
 use Rattle.lattice.specs.Ints.{abs-mul}
 use Rattle.lattice.specs.Held.{Holds, Value, given, stored, reads, held-mul, small-fits, mul-small}
@@ -53,7 +53,8 @@ sign-read up = up
 sign-read down = down
 
 -- a coupling times two spins, at a width that holds a coupling
-module _ (w : Width) (room : T (ltb 1000000 (2 ^ hbits w))) {l m n : ℕ} {j s t : ℤ} (x : Holds w l j) (y : Holds w m s) (z : Holds w n t) (h : natAbs j ≤ 1000000) (p : Sign s) (q : Sign t) where
+module _ (w : Width) (room : T (ltb 1000000 (2 ^ hbits w))) {l m n : ℕ} {j s t : ℤ} (x : Holds w l j) (y : Holds w m s) (z : Holds w n t)
+    (h : natAbs j ≤ 1000000) (p : Sign s) (q : Sign t) where
   once-small : natAbs (j *ℤ s) ≤ 1000000
   once-small = mul-small j s 1000000 1 h (one p)
 

@@ -101,8 +101,11 @@ flag-start n P = record { reached = zero-le; tells = below-none P }
 pub flag-more : {n : ℕ} {P : ℕ → Type 0} {i : ℕ} {a b : Bool} → Flagged n P i a → i < n → Test b (P i) → Flagged n P (i + 1) (a && b)
 flag-more {n} {P} {i} {a} f l t = record {
   reached = omega arith;
-  tells = same (Each (i + 1) P) (λ h. below-more P i (h .0) (h .1)) (λ h. ((λ k l. h k (omega arith)), h i (omega arith))) (both (said a (Each i P) (f .tells)) t) .says;
+  tells = same (Each (i + 1) P) (λ h. below-more P i (h .0) (h .1)) split (both (said a (Each i P) (f .tells)) t) .says;
 }
+  where
+    split : Each (i + 1) P → Each i P × P i
+    split h = ((λ k l. h k (omega arith)), h i (omega arith))
 
 pub flag-end : {n : ℕ} {P : ℕ → Type 0} {i : ℕ} {a : Bool} → Flagged n P i a → n ≤ i → Tells a (Each n P)
 flag-end {n} {P} {i} {a} f g = subst (λ (m : ℕ). Tells a (Each m P)) (le-antisymm (f .reached) g) (f .tells)

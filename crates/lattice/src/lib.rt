@@ -17,6 +17,20 @@ ghost use Rattle.lattice.specs.Tables.{Tabled, TabledSite, TabledBond};
 use paper::Group;
 use paper::Mode;
 
+fn wide(x: u32) -> usize
+    ensures { λ r. ⌜ r ≡ x ⌝ }
+{
+    x as usize
+}
+
+fn size(x: u8) -> usize
+    ensures { λ r. ⌜ r ≡ x ⌝ }
+{
+    x as usize
+}
+
+// ---- test 1
+
 pub fn sizes_ok(n: usize, d: usize, s: usize) -> bool
     ensures { λ r. ⌜ Tells r (Sizes n d s) ⌝ }
 {
@@ -42,6 +56,8 @@ pub fn ranged(n: usize, d: usize, s: usize, mode: Mode, len: usize) -> bool
     sizes_ok(n, d, s) & (2 <= len) & (len <= 8) & (!is_cmr(mode) | (len == 2))
 }
 
+// ---- test 3
+
 fn spin_ok(x: i8) -> bool
     ensures { λ r. ⌜ Tells r (Spin x) ⌝ }
 {
@@ -61,11 +77,7 @@ pub fn spins_ok(spins: &[i8]) -> bool
     ok
 }
 
-fn wide(x: u32) -> usize
-    ensures { λ r. ⌜ r ≡ x ⌝ }
-{
-    x as usize
-}
+// ---- test 4
 
 fn back_ok(n: usize, d: usize, a: &[u32], b: &[u32], i: usize, e: usize) -> bool
     requires { ⌜ TabledBond n d (now a) (now b) i e ⌝ }
@@ -106,6 +118,65 @@ pub fn tables_ok(n: usize, d: usize, fwd: &[u32], bwd: &[u32]) -> bool
     ok
 }
 
+// ---- the backward table from the forward one
+
+fn lead_back(n: usize, d: usize, fwd: &[u32], bwd: &mut [u32], i: usize, e: usize)
+    requires { ⌜ FillingBond n d (now fwd) (now bwd) i e ⌝ }
+    ensures { λ _. ⌜ Led n d (now (fwd .entry)) (i * d + e + 1) (now (bwd .exit)) ⌝ }
+{
+    let f = wide(fwd[i * d + e]);
+    if f < n {
+        bwd[f * d + e] = i as u32;
+    }
+}
+
+fn lead_site_back(n: usize, d: usize, fwd: &[u32], bwd: &mut [u32], i: usize)
+    requires { ⌜ FillingSite n d (now fwd) (now bwd) i ⌝ }
+    ensures { λ _. ⌜ Led n d (now (fwd .entry)) (i * d + d) (now (bwd .exit)) ⌝ }
+{
+    let mut e = 0;
+    while e < d {
+        lead_back(n, d, fwd, bwd, i, e);
+        e += 1;
+    }
+}
+
+fn lead_all_back(n: usize, d: usize, fwd: &[u32], bwd: &mut [u32])
+    requires { ⌜ Filling n d (now fwd) 0 (now bwd) ⌝ }
+    ensures { λ _. ⌜ Led n d (now (fwd .entry)) (n * d) (now (bwd .exit)) ⌝ }
+{
+    let mut i = 0;
+    while i < n {
+        lead_site_back(n, d, fwd, bwd, i);
+        i += 1;
+    }
+}
+
+fn clear(xs: &mut [u32])
+    ensures { λ _. ⌜ Zeros (now (xs .exit)) ⌝ }
+{
+    let mut k = 0;
+    while k < xs.len() {
+        xs[k] = 0;
+        k += 1;
+    }
+}
+
+// Every entry is written where there is an inverse, so what stood in the table does not matter.
+pub fn backward(n: usize, d: usize, fwd: &[u32], bwd: &mut [u32]) -> bool
+    requires { ⌜ Turnable n d (now fwd) (now bwd) ⌝ }
+    ensures { λ r. ⌜ Turned n d (now (fwd .entry)) r (now (bwd .exit)) ⌝ }
+{
+    lead_all_back(n, d, fwd, bwd);
+    if tables_ok(n, d, fwd, bwd) {
+        return true;
+    }
+    clear(bwd);
+    false
+}
+
+// ---- test 5
+
 fn fresh(group: Group, k: usize) -> bool
     requires { ⌜ k < 8 ⌝ }
     ensures { λ r. ⌜ Tells r (Fresh (member group) k) ⌝ }
@@ -143,6 +214,46 @@ pub fn group_ok(s: usize, group: Group) -> bool
     ok
 }
 
+fn marked_below(s: usize, x: usize, marks: u64) -> u64
+    requires { ⌜ s ≤ 64 ⌝ }
+    ensures { λ r. ⌜ MarkedBelow s x marks r ⌝ }
+{
+    if x < s { marks | (1u64 << x) } else { marks }
+}
+
+fn order_marks(s: usize, order: &[u32]) -> u64
+    requires { ⌜ OrderOf s (now order) ⌝ }
+    ensures { λ r. ⌜ Marked s (λ k. getD (now (order .entry)) k 0) s r ⌝ }
+{
+    let mut marks = 0u64;
+    let mut k = 0;
+    while k < s {
+        marks = marked_below(s, wide(order[k]), marks);
+        k += 1;
+    }
+    marks
+}
+
+fn full(s: usize) -> u64
+    requires { ⌜ s ≤ 64 ⌝ }
+    ensures { λ r. ⌜ r ≡ 2 ^ s - 1 ⌝ }
+{
+    if s < 64 {
+        (1u64 << s) - 1
+    } else {
+        0xffff_ffff_ffff_ffff
+    }
+}
+
+pub fn order_ok(s: usize, order: &[u32]) -> bool
+    requires { ⌜ OrderOf s (now order) ⌝ }
+    ensures { λ r. ⌜ Tells r (Permutes s (λ k. getD (now (order .entry)) k 0)) ⌝ }
+{
+    order_marks(s, order) == full(s)
+}
+
+// ---- test 6
+
 fn coupling_ok(j: i32) -> bool
     ensures { λ r. ⌜ Tells r (natAbs j ≤ 1000000) ⌝ }
 {
@@ -160,6 +271,8 @@ pub fn couplings_ok(js: &[i32]) -> bool
     }
     ok
 }
+
+// ---- test 7
 
 pub fn temperature_ok(t: f32) -> bool
     ensures { λ r. ⌜ Tells r (Warm t) ⌝ }
@@ -179,6 +292,8 @@ pub fn temperatures_ok(ts: &[f32]) -> bool
     ok
 }
 
+// ---- test 8
+
 // Below infinity: no number is, nor is infinity itself.
 fn cut_ok(x: f32) -> bool
     ensures { λ r. ⌜ r ≡ isCut x ⌝ }
@@ -197,6 +312,8 @@ pub fn cuts_ok(cuts: &[f32]) -> bool
     }
     ok
 }
+
+// ---- test 9
 
 pub fn bytes_at_most(xs: &[u8], top: u8) -> bool
     ensures { λ r. ⌜ Tells r ((k : ℕ) → k < length (now (xs .entry)) → getD (now (xs .entry)) k 0 ≤ top) ⌝ }
@@ -259,50 +376,6 @@ pub fn permutations_ok(rows: usize, m: usize, perms: &[u8]) -> bool
     rows_full(rows, m, perms)
 }
 
-fn marked_below(s: usize, x: usize, marks: u64) -> u64
-    requires { ⌜ s ≤ 64 ⌝ }
-    ensures { λ r. ⌜ MarkedBelow s x marks r ⌝ }
-{
-    if x < s { marks | (1u64 << x) } else { marks }
-}
-
-fn order_marks(s: usize, order: &[u32]) -> u64
-    requires { ⌜ OrderOf s (now order) ⌝ }
-    ensures { λ r. ⌜ Marked s (λ k. getD (now (order .entry)) k 0) s r ⌝ }
-{
-    let mut marks = 0u64;
-    let mut k = 0;
-    while k < s {
-        marks = marked_below(s, wide(order[k]), marks);
-        k += 1;
-    }
-    marks
-}
-
-fn full(s: usize) -> u64
-    requires { ⌜ s ≤ 64 ⌝ }
-    ensures { λ r. ⌜ r ≡ 2 ^ s - 1 ⌝ }
-{
-    if s < 64 {
-        (1u64 << s) - 1
-    } else {
-        0xffff_ffff_ffff_ffff
-    }
-}
-
-pub fn order_ok(s: usize, order: &[u32]) -> bool
-    requires { ⌜ OrderOf s (now order) ⌝ }
-    ensures { λ r. ⌜ Tells r (Permutes s (λ k. getD (now (order .entry)) k 0)) ⌝ }
-{
-    order_marks(s, order) == full(s)
-}
-
-fn size(x: u8) -> usize
-    ensures { λ r. ⌜ r ≡ x ⌝ }
-{
-    x as usize
-}
-
 pub fn not_identity(row: &[u8]) -> bool
     ensures { λ r. ⌜ Tells r (NotIdentity (length (now (row .entry))) (λ k. getD (now (row .entry)) k 0)) ⌝ }
 {
@@ -313,59 +386,4 @@ pub fn not_identity(row: &[u8]) -> bool
         k += 1;
     }
     moved
-}
-
-fn lead_back(n: usize, d: usize, fwd: &[u32], bwd: &mut [u32], i: usize, e: usize)
-    requires { ⌜ FillingBond n d (now fwd) (now bwd) i e ⌝ }
-    ensures { λ _. ⌜ Led n d (now (fwd .entry)) (i * d + e + 1) (now (bwd .exit)) ⌝ }
-{
-    let f = wide(fwd[i * d + e]);
-    if f < n {
-        bwd[f * d + e] = i as u32;
-    }
-}
-
-fn lead_site_back(n: usize, d: usize, fwd: &[u32], bwd: &mut [u32], i: usize)
-    requires { ⌜ FillingSite n d (now fwd) (now bwd) i ⌝ }
-    ensures { λ _. ⌜ Led n d (now (fwd .entry)) (i * d + d) (now (bwd .exit)) ⌝ }
-{
-    let mut e = 0;
-    while e < d {
-        lead_back(n, d, fwd, bwd, i, e);
-        e += 1;
-    }
-}
-
-fn lead_all_back(n: usize, d: usize, fwd: &[u32], bwd: &mut [u32])
-    requires { ⌜ Filling n d (now fwd) 0 (now bwd) ⌝ }
-    ensures { λ _. ⌜ Led n d (now (fwd .entry)) (n * d) (now (bwd .exit)) ⌝ }
-{
-    let mut i = 0;
-    while i < n {
-        lead_site_back(n, d, fwd, bwd, i);
-        i += 1;
-    }
-}
-
-fn clear(xs: &mut [u32])
-    ensures { λ _. ⌜ Zeros (now (xs .exit)) ⌝ }
-{
-    let mut k = 0;
-    while k < xs.len() {
-        xs[k] = 0;
-        k += 1;
-    }
-}
-
-// Every entry is written where there is an inverse, so what stood in the table does not matter.
-pub fn backward(n: usize, d: usize, fwd: &[u32], bwd: &mut [u32]) -> bool
-    requires { ⌜ Turnable n d (now fwd) (now bwd) ⌝ }
-    ensures { λ r. ⌜ Turned n d (now (fwd .entry)) r (now (bwd .exit)) ⌝ }
-{
-    lead_all_back(n, d, fwd, bwd);
-    if tables_ok(n, d, fwd, bwd) {
-        return true;
-    }
-    clear(bwd);
-    false
 }

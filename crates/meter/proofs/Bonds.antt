@@ -3,8 +3,8 @@ use Prim.Native.Nat.{ℕ, _+_, _*_, _≤_, _<_}
 use mathlib.Core.List.{List}
 use native.Mathlib.Nat.{le-refl}
 use native.Mathlib.Omega.{arith}
-use lib.ListN.{length, getD}
-use lib.IntN.{ℤ, pos, natAbs, _*ℤ_}
+use lib.ListN.{getD}
+use lib.IntN.{ℤ, pos, natAbs}
 use mir.Syntax.{w64}
 use Rattle.lattice.specs.Adding.{Bounded, sum-size}
 use Rattle.lattice.specs.Signs.{Sign, sign, sign-abs}

@@ -7,5 +7,10 @@ use Rattle.paper.specs.declared.MeterAnswer.{MeterAnswer}
 use Rattle.paper.specs.Answer.Meter.{MeterAnswers, meter-determined}
 use Rattle.meter.specs.Part.{latticeOf}
 
-pub energy-determined : (n d s : ℕ) (spins : List ℤ) (fwd bwd : List ℕ) (couplings : List ℤ) (system : ℕ) (r r′ : MeterAnswer) → MeterAnswers (latticeOf n d s fwd bwd couplings) spins system r → MeterAnswers (latticeOf n d s fwd bwd couplings) spins system r′ → r ≡ r′
-energy-determined n d s spins fwd bwd couplings system = meter-determined (latticeOf n d s fwd bwd couplings) spins system
+module _ (n d s : ℕ) (spins : List ℤ) (fwd bwd : List ℕ) (couplings : List ℤ) (system : ℕ) where
+  -- what `energy` promises of its answer
+  abbrev Promised : MeterAnswer → Type 0
+  Promised r = MeterAnswers (latticeOf n d s fwd bwd couplings) spins system r
+
+  pub energy-determined : (r r′ : MeterAnswer) → Promised r → Promised r′ → r ≡ r′
+  energy-determined = meter-determined (latticeOf n d s fwd bwd couplings) spins system

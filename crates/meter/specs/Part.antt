@@ -7,7 +7,7 @@ use native.Mathlib.Omega.{arith}
 use lib.ListN.{length, getD, take, drop, length-take, length-drop}
 use lib.Seq.{getD-drop, getD-take}
 use lib.IntN.{ℤ, pos, negℤ, _*ℤ_}
-use Rattle.paper.specs.Panel.Input.{Lattice, spin}
+use Rattle.paper.specs.Panel.Input.{Lattice, spin, aheadOf}
 use Rattle.paper.specs.Refusal.Rule.{Kept}
 use Rattle.paper.specs.Refusal.Rules.{Sizes, Spins, Inverse, SmallCouplings}
 use Rattle.paper.specs.Site.Energy.{energy}
@@ -19,10 +19,14 @@ use Rattle.meter.specs.Row.{Lengths, Row, bondTerm, rowSum}
 abbrev pub latticeOf : ℕ → ℕ → ℕ → List ℕ → List ℕ → List ℤ → Lattice
 latticeOf n d s fwd bwd couplings = record { n = n; d = d; s = s; fwd = fwd; bwd = bwd; couplings = couplings }
 
-pub exact-of : (t : Lattice) (xs : List ℤ) → Lengths (t .n) (t .d) (t .s) (length xs) (length (t .fwd)) (length (t .bwd)) (length (t .couplings)) → MeterExact t xs
+-- the lengths as numbers, and of the lists
+abbrev pub LengthsOf : Lattice → List ℤ → Type 0
+LengthsOf t xs = Lengths (t .n) (t .d) (t .s) (length xs) (length (t .fwd)) (length (t .bwd)) (length (t .couplings))
+
+pub exact-of : (t : Lattice) (xs : List ℤ) → LengthsOf t xs → MeterExact t xs
 exact-of t xs h = record { spins = h .spins-is; fwd = h .fwd-is; bwd = h .bwd-is; couplings = h .couplings-is }
 
-pub exact-lengths : (t : Lattice) (xs : List ℤ) → MeterExact t xs → Lengths (t .n) (t .d) (t .s) (length xs) (length (t .fwd)) (length (t .bwd)) (length (t .couplings))
+pub exact-lengths : (t : Lattice) (xs : List ℤ) → MeterExact t xs → LengthsOf t xs
 exact-lengths t xs h = record { spins-is = h .spins; fwd-is = h .fwd; bwd-is = h .bwd; couplings-is = h .couplings }
 
 -- an accepted input
@@ -63,8 +67,12 @@ module _ (t : Lattice) (xs : List ℤ) (k : ℕ) (h : Accepted t xs k) where
     spins = λ i l. rw (row-at i l) (h .spins (k * t .n + i) (omega (arith, row-end)));
   }
 
+  -- the bond (i, e) as the paper has it
+  abbrev paperBond : ℕ → ℕ → ℤ
+  paperBond i e = getD (t .couplings) (i * t .d + e) (pos 0) *ℤ spin (t .n) xs k i *ℤ spin (t .n) xs k (aheadOf t i e)
+
   pub energy-of : negℤ (rowSum (t .n) (t .d) (t .fwd) (t .couplings) row) ≡ energy t xs k
   energy-of = ap negℤ (sum-ext (t .n) _ _ (λ i li. sum-ext (t .d) _ _ (λ e le. term i e li le)))
     where
-      term : (i e : ℕ) → i < t .n → e < t .d → bondTerm (t .d) (t .fwd) (t .couplings) row i e ≡ getD (t .couplings) (i * t .d + e) (pos 0) *ℤ spin (t .n) xs k i *ℤ spin (t .n) xs k (getD (t .fwd) (i * t .d + e) 0)
-      term i e li le = rw (row-at i li, row-at (getD (t .fwd) (i * t .d + e) 0) (h .inverse .there i e li le .inside))
+      term : (i e : ℕ) → i < t .n → e < t .d → bondTerm (t .d) (t .fwd) (t .couplings) row i e ≡ paperBond i e
+      term i e li le = rw (row-at i li, row-at (aheadOf t i e) (h .inverse .there i e li le .inside))

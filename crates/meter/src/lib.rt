@@ -1,6 +1,5 @@
 // The energy meter.
 ghost use mathlib.Core.Path.{_≡_};
-ghost use Prim.Native.Nat.{_≤_};
 ghost use lib.IntN.{_*ℤ_};
 ghost use Rattle.paper.specs.Component.Marks.{Tells};
 ghost use Rattle.paper.specs.Refusal.Rules.{Sizes};

@@ -1,5 +1,5 @@
 -- `back_ok` meets its contract: it reads the neighbour, and the way back where there is one. Assumes nothing.
-use Prim.Native.Nat.{ℕ, _+_, _*_, _<_}
+use Prim.Native.Nat.{_+_, _*_, _<_}
 use native.Mathlib.Omega.{arith}
 use borrow.Author.Needs.{needs}
 use Rattle.lattice.specs.Tables.{cell-lt, back-test, back-none}
@@ -50,7 +50,8 @@ returns : tie.Need-returns
 returns c =
     let s = c .before .before .before .before .before .before .before in
     let w = c .before .before .before in
-    back-test (s .args .n) (s .args .d) (s .args .a .now) (s .args .b .now) (s .args .i) (s .args .e) (w .wide .ensures) (c .before .before .if1 .taken) (c .wide2 .ensures) .says
+    back-test (s .args .n) (s .args .d) (s .args .a .now) (s .args .b .now) (s .args .i) (s .args .e)
+    (w .wide .ensures) (c .before .before .if1 .taken) (c .wide2 .ensures) .says
 
 returns-2 : tie.Need-returns-2
 returns-2 c =

@@ -1,5 +1,5 @@
 -- `bytes_at_most` meets its contract: after i turns the flag tells of the bytes below i. Assumes nothing.
-use Prim.Native.Nat.{ℕ, _≤_, _-_}
+use Prim.Native.Nat.{_≤_, _-_}
 use borrow.Author.Needs.{needs}
 use lib.ListN.{length, getD}
 use Rattle.lattice.specs.Telling.{Flagged, flag-start, flag-more, flag-end, test-le}

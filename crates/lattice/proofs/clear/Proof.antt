@@ -1,11 +1,11 @@
 -- `clear` meets its contract: after k turns the first k are 0. Assumes nothing.
-use Prim.Native.Nat.{ℕ, _+_, _-_, _≤_}
+use Prim.Native.Nat.{ℕ, _-_, _≤_}
 use mathlib.Core.Path.{_≡_}
 use mathlib.Core.List.{List}
 use native.Mathlib.Omega.{arith}
 use borrow.Author.Needs.{needs}
 use borrow.Author.Count.{below-none}
-use lib.ListN.{length, getD, set, length-set}
+use lib.ListN.{length, getD, length-set}
 use Rattle.lattice.specs.Backward.{zeros-more}
 use Rattle.lattice.specs.Telling.{Each}
 use Rattle.lattice.proofs.clear.Statement.{statement}

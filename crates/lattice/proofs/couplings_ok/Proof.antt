@@ -1,7 +1,7 @@
 -- `couplings_ok` meets its contract: after i turns the flag tells of the couplings below i. Assumes nothing.
-use Prim.Native.Nat.{ℕ, _≤_, _-_}
+use Prim.Native.Nat.{_≤_, _-_}
 use borrow.Author.Needs.{needs}
-use lib.IntN.{pos, natAbs}
+use lib.IntN.{ℤ, pos, natAbs}
 use lib.ListN.{length, getD}
 use mir.Syntax.{w32}
 use mir.Facts.{toZ-ofZ}
@@ -34,8 +34,12 @@ loop-less : tie.Need-loop-less Inv-loop μ-loop
 loop-less c = search needs
 
 -- what the call says of the element itself, and not of the number that its bits make
-elem : (c : tie.After-coupling-ok Inv-loop μ-loop) → Test (c .coupling-ok .result) (natAbs (getD (c .before .before .before .before .args .js .now) (c .before .before .before .loop .i) (pos 0)) ≤ 1000000)
-elem c = rw (toZ-ofZ {w = w32} (record { sfits = c .before .coupling-ok-arg .given })) at (said (c .coupling-ok .result) _ (c .coupling-ok .ensures))
+module _ (c : tie.After-coupling-ok Inv-loop μ-loop) where
+  abbrev read : ℤ
+  read = getD (c .before .before .before .before .args .js .now) (c .before .before .before .loop .i) (pos 0)
+
+  elem : Test (c .coupling-ok .result) (natAbs read ≤ 1000000)
+  elem = rw (toZ-ofZ {w = w32} (record { sfits = c .before .coupling-ok-arg .given })) at (said (c .coupling-ok .result) _ (c .coupling-ok .ensures))
 
 loop-again : tie.Need-loop-again Inv-loop μ-loop
 loop-again c = flag-more (c .before .before .before .loop .inv) (search needs) (elem c)

@@ -1,5 +1,5 @@
 -- `cuts_ok` meets its contract: after i turns the flag tells of the cuts below i. Assumes nothing.
-use Prim.Native.Nat.{ℕ, _≤_, _-_}
+use Prim.Native.Nat.{_-_}
 use borrow.Author.Needs.{needs}
 use mathlib.Core.Path.{_≡_}
 use mathlib.Core.Bool.{true}

@@ -1,5 +1,5 @@
 -- `fresh` meets its contract: after j turns the flag tells of the systems before j. Assumes nothing.
-use Prim.Native.Nat.{ℕ, _-_}
+use Prim.Native.Nat.{_-_}
 use mathlib.Core.Path.{_≡_}
 use borrow.Author.Needs.{needs}
 use lib.ListN.{getD}

@@ -1,5 +1,5 @@
 -- `full` meets its contract: below 64 by a shift, at 64 the largest number. Assumes nothing.
-use mathlib.Core.Path.{_≡_, ap}
+use mathlib.Core.Path.{ap}
 use Prim.Native.Nat.{ℕ, _-_, _^_}
 use native.Mathlib.Nat.{le-antisymm}
 use borrow.Author.Needs.{needs}

@@ -1,5 +1,5 @@
 -- `group_ok` meets its contract: after k turns the flag tells of the systems before k. Assumes nothing.
-use Prim.Native.Nat.{ℕ, _-_}
+use Prim.Native.Nat.{_-_}
 use borrow.Author.Needs.{needs}
 use Rattle.paper.specs.Refusal.Rules.{Grouped}
 use Rattle.lattice.specs.Groups.{Alone, grouped-of, grouped-each}

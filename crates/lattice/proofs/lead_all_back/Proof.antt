@@ -1,6 +1,6 @@
 -- `lead_all_back` meets its contract: after i turns the bonds of the sites before i are done. Assumes nothing.
-use Prim.Native.Nat.{ℕ, _+_, _-_, _*_, _≤_}
-use mathlib.Core.Path.{_≡_, sym, _∙_, ap}
+use Prim.Native.Nat.{ℕ, _-_, _*_, _≤_}
+use mathlib.Core.Path.{ap}
 use mathlib.Core.List.{List}
 use native.Mathlib.Nat.{le-antisymm, suc-mul}
 use native.Mathlib.Numerals.{add-one}
@@ -44,7 +44,9 @@ same-length : tie.Need-same-length Inv-loop μ-loop
 same-length c = omega (arith, c .before .loop .inv .so-far .long, c .before .before .before .before .pre .so-far .long)
 
 returns : tie.Need-returns Inv-loop μ-loop
-returns c = led-to (c .before .loop .inv .so-far) (ap (λ (k : ℕ). k * c .before .before .before .before .args .d) (le-antisymm (c .before .loop .inv .reached) (c .loop-test .left)))
+returns c =
+    let h = c .before .loop .inv in
+    led-to (h .so-far) (ap (λ (k : ℕ). k * c .before .before .before .before .args .d) (le-antisymm (h .reached) (c .loop-test .left)))
 
 pub lead-all-back-spec : {M : Type 1} → statement M
 lead-all-back-spec =

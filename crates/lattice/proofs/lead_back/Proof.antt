@@ -1,5 +1,5 @@
 -- `lead_back` meets its contract: it writes the way back, where the neighbour is a site. Assumes nothing.
-use Prim.Native.Nat.{ℕ, _+_, _*_, _<_}
+use Prim.Native.Nat.{_+_, _*_, _<_}
 use native.Mathlib.Omega.{arith}
 use borrow.Author.Needs.{needs}
 use Rattle.lattice.specs.Backward.{led-past, led-more}
@@ -54,7 +54,9 @@ returns : tie.Need-returns
 returns c = let p = start c .pre in led-more (p .filling .so-far) (p .site) (p .way) (c .before .wide .ensures) (c .if1 .taken)
 
 returns-2 : tie.Need-returns-2
-returns-2 c = let p = c .before .before .before .before .before .pre in led-past (p .filling .so-far) (p .site) (p .way) (omega (arith, c .before .wide .ensures))
+returns-2 c =
+    let p = c .before .before .before .before .before .pre in
+    led-past (p .filling .so-far) (p .site) (p .way) (omega (arith, c .before .wide .ensures))
 
 pub lead-back-spec : {M : Type 1} → statement M
 lead-back-spec =

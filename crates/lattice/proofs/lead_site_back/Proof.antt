@@ -1,10 +1,8 @@
 -- `lead_site_back` meets its contract: after e turns the site's first e bonds are done. Assumes nothing.
 use Prim.Native.Nat.{ℕ, _+_, _-_, _*_, _≤_}
-use mathlib.Core.Path.{_≡_}
 use mathlib.Core.List.{List}
 use native.Mathlib.Omega.{arith}
 use borrow.Author.Needs.{needs}
-use lib.ListN.{length}
 use Rattle.lattice.specs.Backward.{Led, led-to}
 use Rattle.lattice.proofs.lead_site_back.Statement.{statement}
 use Rattle.lattice.proofs.lead_site_back.Tie as tie

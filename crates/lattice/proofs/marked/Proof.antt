@@ -1,6 +1,5 @@
 -- `marked` meets its contract: the shift loses nothing. Assumes nothing.
 use mathlib.Core.Path.{ap}
-use Prim.Native.Nat.{ℕ}
 use borrow.Author.Needs.{needs}
 use lib.Bits.{bitOr}
 use Rattle.lattice.specs.Marking.{one-shifted}

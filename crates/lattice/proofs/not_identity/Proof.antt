@@ -1,5 +1,5 @@
 -- `not_identity` meets its contract: after k turns the flag tells of the numbers before k. Assumes nothing.
-use Prim.Native.Nat.{ℕ, _-_}
+use Prim.Native.Nat.{_-_}
 use borrow.Author.Needs.{needs}
 use lib.ListN.{length, getD}
 use Rattle.lattice.specs.Telling.{fails, test-eq}

@@ -1,8 +1,8 @@
 -- `order_marks` meets its contract: after k turns the first k are marked. Assumes nothing.
-use Prim.Native.Nat.{ℕ, _-_}
+use Prim.Native.Nat.{_-_}
 use borrow.Author.Needs.{needs}
 use lib.ListN.{getD}
-use Rattle.lattice.specs.Marking.{Marked, MarkedBelow, mark-none, mark-below, mark-end}
+use Rattle.lattice.specs.Marking.{Marked, mark-none, mark-below, mark-end}
 use Rattle.lattice.proofs.order_marks.Statement.{statement}
 use Rattle.lattice.proofs.order_marks.Tie as tie
 

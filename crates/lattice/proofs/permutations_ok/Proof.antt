@@ -1,5 +1,5 @@
 -- `permutations_ok` meets its contract: a byte that is too large is in a row that is no permutation. Assumes nothing.
-use Prim.Native.Nat.{ℕ, _<_}
+use Prim.Native.Nat.{_<_}
 use native.Mathlib.Omega.{arith}
 use borrow.Author.Needs.{needs}
 use Rattle.paper.specs.Component.Marks.{passed, refused}

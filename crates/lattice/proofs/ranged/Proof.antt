@@ -1,6 +1,6 @@
 -- `ranged` meets its contract: it tests the sizes, the bounds on the group's, and CMR's own. Assumes nothing.
 use mathlib.Core.Path.{_≡_}
-use mathlib.Core.Bool.{Bool, true}
+use mathlib.Core.Bool.{true}
 use borrow.Author.Needs.{needs}
 use Rattle.paper.specs.Panel.Takes.{isCmr}
 use Rattle.paper.specs.Refusal.Rules.{Sizes, Ranged}

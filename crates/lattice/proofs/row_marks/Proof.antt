@@ -1,8 +1,8 @@
 -- `row_marks` meets its contract: after k turns the first k are marked. Assumes nothing.
-use Prim.Native.Nat.{ℕ, _+_, _-_, _<_}
+use Prim.Native.Nat.{_+_, _-_, _<_}
 use native.Mathlib.Omega.{arith}
 use borrow.Author.Needs.{needs}
-use lib.ListN.{length, getD}
+use lib.ListN.{getD}
 use Rattle.lattice.specs.Marking.{Marked, mark-none, mark-more, mark-end}
 use Rattle.lattice.proofs.row_marks.Statement.{statement}
 use Rattle.lattice.proofs.row_marks.Tie as tie

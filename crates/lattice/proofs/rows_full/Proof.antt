@@ -1,7 +1,5 @@
 -- `rows_full` meets its contract: after r turns the flag tells of the rows before r. Assumes nothing.
-use Prim.Native.Nat.{ℕ, _+_, _-_, _*_, _%_, _^_, _<_}
-use mathlib.Core.Path.{_≡_}
-use native.Mathlib.Nat.{mul-le-mul}
+use Prim.Native.Nat.{_-_}
 use native.Mathlib.Omega.{arith}
 use borrow.Author.Needs.{needs}
 use lib.Pow.{pow-pos}
@@ -44,7 +42,8 @@ loop-less c = search needs
 loop-again : tie.Need-loop-again Inv-loop μ-loop
 loop-again c =
     let s = c .before .before .before .before in
-    flag-more (c .before .before .loop .inv) (search needs) (rw (full-marks 32 (s .args .m) (omega (arith, s .pre .rows-of .size))) (marks-tell (c .row-marks .ensures)))
+    flag-more (c .before .before .loop .inv) (search needs)
+    (rw (full-marks 32 (s .args .m) (omega (arith, s .pre .rows-of .size))) (marks-tell (c .row-marks .ensures)))
 
 returns : tie.Need-returns Inv-loop μ-loop
 returns c = flag-end (c .before .loop .inv) (c .loop-test .left)

@@ -1,5 +1,5 @@
 -- `site_ok` meets its contract: after e turns the flag tells of the directions below e. Assumes nothing.
-use Prim.Native.Nat.{ℕ, _-_}
+use Prim.Native.Nat.{_-_}
 use borrow.Author.Needs.{needs}
 use Rattle.paper.specs.Refusal.Rules.{Back}
 use Rattle.lattice.specs.Telling.{Flagged, said, flag-start, flag-more, flag-end}

@@ -10,7 +10,8 @@ returns c =
     same (Sizes (a .n) (a .d) (a .s))
     (λ h. record { n-low = h .0 .0 .0 .0 .0; n-high = h .0 .0 .0 .0 .1; d-low = h .0 .0 .0 .1; d-high = h .0 .0 .1; s-low = h .0 .1; s-high = h .1 })
     (λ z. (((((z .n-low, z .n-high), z .d-low), z .d-high), z .s-low), z .s-high))
-    (both (both (both (both (both (test-le 1 (a .n)) (test-le (a .n) 4096)) (test-le 1 (a .d))) (test-le (a .d) 4)) (test-le 1 (a .s))) (test-le (a .s) 64)) .says
+    (both (both (both (both (both (test-le 1 (a .n)) (test-le (a .n) 4096)) (test-le 1 (a .d))) (test-le (a .d) 4)) (test-le 1 (a .s)))
+    (test-le (a .s) 64)) .says
 
 pub sizes-ok-spec : {M : Type 1} → statement M
 sizes-ok-spec = tie.close (tie.spec returns)

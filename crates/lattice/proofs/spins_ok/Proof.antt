@@ -1,7 +1,7 @@
 -- `spins_ok` meets its contract: after i turns the flag tells of the spins below i. Assumes nothing.
-use Prim.Native.Nat.{ℕ, _≤_, _-_}
+use Prim.Native.Nat.{_-_}
 use borrow.Author.Needs.{needs}
-use lib.IntN.{pos}
+use lib.IntN.{ℤ, pos}
 use lib.ListN.{length, getD}
 use mir.Syntax.{w8}
 use mir.Facts.{toZ-ofZ}
@@ -32,8 +32,12 @@ loop-less : tie.Need-loop-less Inv-loop μ-loop
 loop-less c = search needs
 
 -- what the call says of the element itself, and not of the number that its bits make
-elem : (c : tie.After-spin-ok Inv-loop μ-loop) → Test (c .spin-ok .result) (Spin (getD (c .before .before .before .before .args .spins .now) (c .before .before .before .loop .i) (pos 0)))
-elem c = rw (toZ-ofZ {w = w8} (record { sfits = c .before .spin-ok-arg .given })) at (said (c .spin-ok .result) _ (c .spin-ok .ensures))
+module _ (c : tie.After-spin-ok Inv-loop μ-loop) where
+  abbrev read : ℤ
+  read = getD (c .before .before .before .before .args .spins .now) (c .before .before .before .loop .i) (pos 0)
+
+  elem : Test (c .spin-ok .result) (Spin read)
+  elem = rw (toZ-ofZ {w = w8} (record { sfits = c .before .spin-ok-arg .given })) at (said (c .spin-ok .result) _ (c .spin-ok .ensures))
 
 loop-again : tie.Need-loop-again Inv-loop μ-loop
 loop-again c = flag-more (c .before .before .before .loop .inv) (search needs) (elem c)

@@ -1,5 +1,5 @@
 -- `tables_ok` meets its contract: after i turns the flag tells of the sites below i, in the sense forward and back. Assumes nothing.
-use Prim.Native.Nat.{ℕ, _-_}
+use Prim.Native.Nat.{_-_}
 use borrow.Author.Needs.{needs}
 use Rattle.paper.specs.Refusal.Rules.{Back, Inverse}
 use Rattle.lattice.specs.Tables.{inverse-of}

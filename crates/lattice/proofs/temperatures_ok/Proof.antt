@@ -1,5 +1,5 @@
 -- `temperatures_ok` meets its contract: after i turns the flag tells of the temperatures below i. Assumes nothing.
-use Prim.Native.Nat.{ℕ, _≤_, _-_}
+use Prim.Native.Nat.{_-_}
 use borrow.Author.Needs.{needs}
 use lib.Ieee.{nan}
 use lib.ListN.{length, getD}

@@ -3,8 +3,8 @@ use Prim.Native.Nat.{ℕ, _+_, _*_, _≤_, _<_}
 use mathlib.Core.Path.{_≡_, _∙_, ap, subst⁻¹}
 use native.Mathlib.Omega.{arith}
 use borrow.Author.Needs.{needs}
-use lib.ListN.{length, getD}
-use lib.IntN.{ℤ, pos, natAbs, _*ℤ_}
+use lib.ListN.{getD}
+use lib.IntN.{pos, natAbs, _*ℤ_}
 use mir.Syntax.{w32, w64}
 use mir.Val.{toZ, ofZ}
 use Rattle.lattice.specs.Held.{reads, given, bounded, small-fits}
@@ -67,7 +67,9 @@ module _ (w : tie.After-wide) where
   near-sign = near (a .pre .of) (a .args .i) (a .args .e) (a .pre .site) (a .pre .way)
 
   far-sign : Sign (getD (a .args .row .now) (w .wide .result) (pos 0))
-  far-sign = subst⁻¹ (λ (x : ℕ). Sign (getD (a .args .row .now) x (pos 0))) (w .wide .ensures) (far (a .pre .of) (a .args .i) (a .args .e) (a .pre .site) (a .pre .way))
+  far-sign =
+      subst⁻¹ (λ (x : ℕ). Sign (getD (a .args .row .now) x (pos 0))) (w .wide .ensures)
+      (far (a .pre .of) (a .args .i) (a .args .e) (a .pre .site) (a .pre .way))
 
 bond-requires : tie.Need-bond-requires
 bond-requires c κs =
@@ -78,10 +80,12 @@ returns : tie.Need-returns
 returns c =
     let w = c .before .before .before .before in
     let s = start w in
+    let j = getD (s .args .js .now) (there w) (pos 0) in
+    let near-spin = getD (s .args .row .now) (s .args .i) (pos 0) in
     reads (bounded w64 (c .bond .result) (c .bond .ok))
     ∙ (c .bond .ensures
     ∙ ((λ k. read-j w k *ℤ read8 (near-sign w) k *ℤ read8 (far-sign w) k)
-    ∙ ap (λ (x : ℕ). getD (s .args .js .now) (there w) (pos 0) *ℤ getD (s .args .row .now) (s .args .i) (pos 0) *ℤ getD (s .args .row .now) x (pos 0)) (w .wide .ensures)))
+    ∙ ap (λ (x : ℕ). j *ℤ near-spin *ℤ getD (s .args .row .now) x (pos 0)) (w .wide .ensures)))
 
 pub bond-at-spec : {M : Type 1} → statement M
 bond-at-spec =

@@ -1,21 +1,20 @@
 -- `energy` meets its contract: each place past a test knows that test's rule, and each refusal that the next one is broken. Assumes nothing.
-use Prim.Native.Nat.{ℕ, _+_, _-_, _*_, _≤_, _<_}
-use mathlib.Core.Path.{_≡_, refl, sym, _∙_, ap}
+use Prim.Native.Nat.{_+_, _*_, _≤_}
+use mathlib.Core.Path.{refl, _∙_, ap}
 use mathlib.Core.Logic.{inl, inr}
-use mathlib.Core.List.{List}
 use native.Mathlib.Omega.{arith}
 use borrow.Author.Needs.{needs}
-use lib.IntN.{ℤ, pos, natAbs, negℤ, _-ℤ_, _+ℤ_, +ℤ-idl}
+use lib.ListN.{length}
+use lib.IntN.{ℤ, pos, negℤ, _-ℤ_, +ℤ-idl}
 use mir.Syntax.{w64}
 use mir.Val.{toZ, ofZ}
 use Rattle.paper.specs.Component.Marks.{passed, refused}
 use Rattle.paper.specs.Panel.Input.{Lattice}
-use Rattle.paper.specs.Refusal.Rules.{Sizes, Spins, Inverse, SmallCouplings}
+use Rattle.paper.specs.Refusal.Rules.{Sizes, Spins, Inverse}
 use Rattle.paper.specs.Answer.Meter.{MeterExact}
-use Rattle.lattice.specs.Held.{Value, reads, stored, asks, bounded, given, held-sub-to, small-fits}
+use Rattle.lattice.specs.Held.{Value, reads, stored, asks, bounded, small-fits}
 use Rattle.lattice.specs.Ints.{abs-neg}
 use Rattle.meter.specs.Part.{latticeOf, exact-of, exact-lengths, Accepted, accepted-kept, row-end, row-of, energy-of}
-use Rattle.meter.specs.Row.{rowSum}
 use Rattle.meter.proofs.energy.Statement.{statement}
 use Rattle.meter.proofs.energy.Tie as tie
 
@@ -79,8 +78,8 @@ exact-requires c κs = sized c
 returns-2 : tie.Need-returns-2
 returns-2 c =
     let s = s1 (c .before .before) in
-    let not-exact : MeterExact (lent s) (s .args .spins .now) → ⊥ = λ h. refused (c .before .exact .result) (c .if2 .taken) (c .before .exact .ensures) (exact-lengths (lent s) (s .args .spins .now) h) in
-    inr (sized (c .before .before), inl (not-exact, refl))
+    let wrong = refused (c .before .exact .result) (c .if2 .taken) (c .before .exact .ensures) in
+    inr (sized (c .before .before), inl ((λ h. wrong (exact-lengths (lent s) (s .args .spins .now) h)), refl))
 
 spins-ok-requires : tie.Need-spins-ok-requires
 spins-ok-requires c κs = search needs
@@ -88,7 +87,8 @@ spins-ok-requires c κs = search needs
 returns-3 : tie.Need-returns-3
 returns-3 c =
     let e2 = c .before .before in
-    inr (sized (e2 .before .before), inr (exactly e2, inl (refused (c .before .spins-ok .result) (c .if3 .taken) (c .before .spins-ok .ensures), refl)))
+    let wrong = refused (c .before .spins-ok .result) (c .if3 .taken) (c .before .spins-ok .ensures) in
+    inr (sized (e2 .before .before), inr (exactly e2, inl (wrong, refl)))
 
 tables-ok-requires : tie.Need-tables-ok-requires
 tables-ok-requires c κs = let x = exactly (c .before .before) in record { fwd-long = x .fwd; bwd-long = x .bwd }
@@ -97,7 +97,8 @@ returns-4 : tie.Need-returns-4
 returns-4 c =
     let e3 = c .before .before in
     let e2 = e3 .before .before in
-    inr (sized (e2 .before .before), inr (exactly e2, inr (spinning e3, inl (refused (c .before .tables-ok .result) (c .if4 .taken) (c .before .tables-ok .ensures), refl))))
+    let wrong = refused (c .before .tables-ok .result) (c .if4 .taken) (c .before .tables-ok .ensures) in
+    inr (sized (e2 .before .before), inr (exactly e2, inr (spinning e3, inl (wrong, refl))))
 
 returns-5 : tie.Need-returns-5
 returns-5 c =
@@ -115,11 +116,11 @@ returns-6 c =
     let e4 = e5 .before in
     let e3 = e4 .before .before in
     let e2 = e3 .before .before in
-    let large = refused (c .before .couplings-ok .result) (c .if6 .taken) (c .before .couplings-ok .ensures) in
-    inr (sized (e2 .before .before), inr (exactly e2, inr (spinning e3, inr (inverse e4, inr (e5 .if5 .left, inl (large, refl))))))
+    let wrong = refused (c .before .couplings-ok .result) (c .if6 .taken) (c .before .couplings-ok .ensures) in
+    inr (sized (e2 .before .before), inr (exactly e2, inr (spinning e3, inr (inverse e4, inr (e5 .if5 .left, inl (wrong, refl))))))
 
 -- the row ends inside the spins
-ends : (c : tie.Else6) → s6 c .args .system * s6 c .args .n + s6 c .args .n ≤ lib.ListN.length (s6 c .args .spins .now)
+ends : (c : tie.Else6) → s6 c .args .system * s6 c .args .n + s6 c .args .n ≤ length (s6 c .args .spins .now)
 ends c = row-end (lent (s6 c)) (s6 c .args .spins .now) (s6 c .args .system) (accepted c)
 
 mul-a : tie.Need-mul-a

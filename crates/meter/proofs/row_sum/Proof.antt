@@ -1,5 +1,5 @@
 -- `row_sum` meets its contract: after i turns the total is the sum over the sites before i. Assumes nothing.
-use Prim.Native.Nat.{ℕ, _+_, _-_}
+use Prim.Native.Nat.{_+_, _-_}
 use borrow.Author.Needs.{needs}
 use lib.IntN.{_+ℤ_}
 use mir.Syntax.{w64}

@@ -1,5 +1,5 @@
 -- `site_sum` meets its contract: after e turns the total is the sum of the site's first e bonds. Assumes nothing.
-use Prim.Native.Nat.{ℕ, _+_, _-_}
+use Prim.Native.Nat.{_+_, _-_}
 use borrow.Author.Needs.{needs}
 use lib.IntN.{_+ℤ_}
 use mir.Syntax.{w64}
