@@ -120,12 +120,13 @@ pub fn draw_blue(kind: BondKind, sampler: Sampler, cut: f32) -> bool
     }
 }
 
+// Blue and red together.
 pub fn draw_grey(kind: BondKind, sampler: Sampler, cut: f32) -> bool
     ensures { λ r. ⌜ r ≡ greyHolds kind sampler cut ⌝ }
 {
     match kind {
         BondKind::None => false,
-        BondKind::Blue(w) => is_drawn(sampler.four, w, cut),
+        BondKind::Blue(_) => draw_blue(kind, sampler, cut),
         BondKind::Red(w) => is_drawn(sampler.two, w, cut),
     }
 }

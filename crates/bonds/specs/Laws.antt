@@ -1,0 +1,87 @@
+-- Laws of the bonds' rules: which places of the patterns they read, and that blue flips keep what is red. Assumes nothing.
+use Prim.Native.Nat.{ℕ, zero, suc, _+_, _*_, _/_, _<_}
+use mathlib.Core.Path.{_≡_, refl, sym, _∙_, ap}
+use mathlib.Core.Logic.{_↔_}
+use mathlib.Core.Bool.{Bool, true, false, cond, _&&_}
+use mathlib.Core.List.{List}
+use native.Mathlib.Omega.{arith}
+use lib.IntN.{ℤ, pos, negsuc, natAbs, negℤ, _*ℤ_, zero-*ℤ, *ℤ-zero}
+use lib.Signed.{ltZ}
+use lib.Ieee.{Float}
+use Rattle.paper.specs.declared.Sampler.{Sampler}
+use Rattle.paper.specs.declared.BondKind.{BondKind}
+use Rattle.paper.specs.declared.BondKind.the-variants.{None, Blue, Red}
+use Rattle.paper.specs.Panel.Input.{Pattern}
+use Rattle.paper.specs.Site.Acting.{eqZ}
+use Rattle.paper.specs.Site.Bonds.{whole, drawn, pairTerm, strength, jorgHolds, pick, kindOf}
+use Rattle.paper.specs.Component.Sizes.{bit}
+use Rattle.paper.specs.Component.Marks.{Marks}
+use Rattle.paper.specs.Law.Local.{Agree}
+use Rattle.paper.specs.Law.Partners.{pairs-fit}
+use Rattle.paper.specs.Law.Sums.{sum-ext}
+
+-- ---- the rules read the first m places alone, CMR's the first two
+module _ (m : ℕ) (f g f′ g′ : Pattern) (p : Agree m f f′) (q : Agree m g g′) where
+  term-ext : (x : ℕ) → x < m / 2 → pairTerm f g x ≡ pairTerm f′ g′ x
+  term-ext x h =
+      let l : 2 * x < m = omega (arith, pairs-fit m) in
+      let r : 2 * x + 1 < m = omega (arith, pairs-fit m) in
+      cc (p (2 * x) l, p (2 * x + 1) r, q (2 * x) l, q (2 * x + 1) r)
+
+  pub strength-ext : (j : ℤ) → strength j m f g ≡ strength j m f′ g′
+  strength-ext j = ap (λ (z : ℤ). j *ℤ z) (sum-ext (m / 2) (pairTerm f g) (pairTerm f′ g′) term-ext)
+
+  pub jorg-ext : (j : ℤ) (s : Sampler) (cut : Float) → jorgHolds j m f g s cut ≡ jorgHolds j m f′ g′ s cut
+  jorg-ext j s cut = ap (λ (z : ℤ). ltZ (pos 0) z && drawn (s .four) (whole (natAbs z)) cut) (strength-ext j)
+
+pub kind-ext : (j : ℤ) (f g f′ g′ : Pattern) → Agree 2 f f′ → Agree 2 g g′ → kindOf j f g ≡ kindOf j f′ g′
+kind-ext j f g f′ g′ p q = cc (p 0 (omega arith), p 1 (omega arith), q 0 (omega arith), q 1 (omega arith))
+
+-- ---- a table of one rule is a table of another that says the same
+pub marks-ext : {n d : ℕ} {f g : ℕ → ℕ → Bool} {xs : List ℕ} → ((i e : ℕ) → i < n → e < d → f i e ≡ g i e) → Marks n d f xs → Marks n d g xs
+marks-ext same h = record { long = h .long; at = λ i e hi he. h .at i e hi he ∙ ap bit (same i e hi he) }
+
+-- ---- blue flips: both replicas negated at each site of a set
+abbrev pub turned : (ℕ → Bool) → (ℕ → Pattern) → ℕ → Pattern
+turned set f i k = cond (set i) (negℤ (f i k)) (f i k)
+
+neg-neg : (a b : ℤ) → negℤ a *ℤ negℤ b ≡ a *ℤ b
+neg-neg (pos zero) b = zero-*ℤ (negℤ b) ∙ sym (zero-*ℤ b)
+neg-neg (pos (suc a)) (pos zero) = *ℤ-zero (negsuc a) ∙ sym (*ℤ-zero (pos (suc a)))
+neg-neg (pos (suc a)) (pos (suc b)) = refl
+neg-neg (pos (suc a)) (negsuc b) = refl
+neg-neg (negsuc a) (pos zero) = *ℤ-zero (pos (suc a)) ∙ sym (*ℤ-zero (negsuc a))
+neg-neg (negsuc a) (pos (suc b)) = refl
+neg-neg (negsuc a) (negsuc b) = refl
+
+-- q stays
+pub overlap-kept : (set : ℕ → Bool) (f : ℕ → Pattern) (i : ℕ) → turned set f i 0 *ℤ turned set f i 1 ≡ f i 0 *ℤ f i 1
+overlap-kept set f i = go (set i)
+  where
+    go : (t : Bool) → cond t (negℤ (f i 0)) (f i 0) *ℤ cond t (negℤ (f i 1)) (f i 1) ≡ f i 0 *ℤ f i 1
+    go true = neg-neg (f i 0) (f i 1)
+    go false = refl
+
+-- where the overlaps are equal no bond is red, and where they differ the coupling alone decides
+red-only : (t u v : Bool) (a w : Float) (y : BondKind) → pick t (pick u (Blue a) None) y ≡ Red w → pick t (pick v (Blue a) None) y ≡ Red w
+red-only true true v a w y e = let z : _≡_ {A = ℕ} 0 1 = cc in absurd (omega arith)
+red-only true false v a w y e = let z : _≡_ {A = ℕ} 0 1 = cc in absurd (omega arith)
+red-only false u v a w y e = e
+
+red-alike : (j : ℤ) (f g f′ g′ : Pattern) (w : Float) → eqZ (f′ 0 *ℤ f′ 1) (g′ 0 *ℤ g′ 1) ≡ eqZ (f 0 *ℤ f 1) (g 0 *ℤ g 1)
+    → kindOf j f g ≡ Red w → kindOf j f′ g′ ≡ Red w
+red-alike j f g f′ g′ w same e =
+    rw same
+    (red-only (eqZ (f 0 *ℤ f 1) (g 0 *ℤ g 1)) (ltZ (pos 0) (j *ℤ f 0 *ℤ g 0)) (ltZ (pos 0) (j *ℤ f′ 0 *ℤ g′ 0)) (whole (natAbs j)) w
+    (pick (eqZ j (pos 0)) None (Red (whole (natAbs j)))) e)
+
+-- so a bond is red, and as strong, after the blue flips exactly where it was before
+pub red-kept : (set : ℕ → Bool) (f : ℕ → Pattern) (j : ℤ) (a b : ℕ) (w : Float)
+    → (kindOf j (f a) (f b) ≡ Red w) ↔ (kindOf j (turned set f a) (turned set f b) ≡ Red w)
+red-kept set f j a b w =
+    let same : eqZ (turned set f a 0 *ℤ turned set f a 1) (turned set f b 0 *ℤ turned set f b 1) ≡ eqZ (f a 0 *ℤ f a 1) (f b 0 *ℤ f b 1) =
+    λ i. eqZ (overlap-kept set f a i) (overlap-kept set f b i)
+    in (
+      red-alike j (f a) (f b) (turned set f a) (turned set f b) w same,
+      red-alike j (turned set f a) (turned set f b) (f a) (f b) w (sym same),
+    )
