@@ -1,6 +1,6 @@
 -- The spins that a column's lowest bits show. Assumes nothing.
 use Prim.Native.Nat.{ℕ, zero, suc, _%_, _/_, _<_}
-use mathlib.Core.Path.{_≡_, refl, sym, _∙_, ap}
+use mathlib.Core.Path.{_≡_, refl, _∙_, ap}
 use mathlib.Core.Bool.{Bool, true, false, cond, Bool·beq}
 use native.Mathlib.Nat.{div-one, mod-lt, mul-one}
 use native.Mathlib.Omega.{arith}

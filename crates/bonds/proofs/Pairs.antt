@@ -1,6 +1,6 @@
 -- Jörg's sum over the pairs of two columns, taken from the lowest bits up. Assumes nothing.
 use Prim.Native.Nat.{ℕ, zero, suc, _+_, _*_, _/_, _%_, _^_, _≤_}
-use mathlib.Core.Path.{_≡_, refl, sym, _∙_, ap}
+use mathlib.Core.Path.{_≡_, sym, _∙_, ap}
 use mathlib.Core.Bool.{Bool, true, false, not, cond, _&&_}
 use native.Mathlib.Nat.{add-zero, div-one}
 use native.Mathlib.Numerals.{add-one}

@@ -1,7 +1,7 @@
 -- Rows of a table, written byte by byte and site by site. Assumes nothing.
-use Prim.Native.Nat.{ℕ, suc, _+_, _*_, _≤_, _<_}
+use Prim.Native.Nat.{ℕ, _+_, _*_, _≤_, _<_}
 use mathlib.Core.Path.{_≡_, refl, sym, _∙_, ap}
-use mathlib.Core.Bool.{Bool, true, false}
+use mathlib.Core.Bool.{Bool, false}
 use mathlib.Core.List.{List}
 use native.Mathlib.Nat.{le-of-lt, le-trans, mul-le-mul-left, mul-le-mul-right, suc-mul, zero-add}
 use native.Mathlib.Numerals.{add-one}
@@ -37,7 +37,8 @@ base-short {n} {d} h i hi = le-trans (mul-le-mul-right d (le-of-lt hi)) (short-t
 pub row-none : (base : ℕ) (f : ℕ → Bool) (xs : List ℕ) → Row base 0 f xs xs
 row-none base f xs = record { long = refl; at = λ e h. absurd (omega arith); below = λ k h. refl; above = λ k h. refl }
 
-pub row-more : (base m v : ℕ) (f : ℕ → Bool) (xs ys : List ℕ) → Row base m f xs ys → base + m < length xs → v ≡ bit (f m) → Row base (m + 1) f xs (set ys (base + m) v)
+pub row-more : (base m v : ℕ) (f : ℕ → Bool) (xs ys : List ℕ)
+    → Row base m f xs ys → base + m < length xs → v ≡ bit (f m) → Row base (m + 1) f xs (set ys (base + m) v)
 row-more base m v f xs ys r h e =
     record {
       long = simp length-set (r .long);

@@ -1,11 +1,11 @@
 -- How tight the promises are: for one input they allow one table. Assumes nothing.
-use Prim.Native.Nat.{ℕ, zero, suc, _+_, _*_, _/_, _%_, _<_}
+use Prim.Native.Nat.{ℕ, zero, suc, _*_, _/_, _%_, _<_}
 use mathlib.Core.Path.{_≡_, sym, _∙_}
 use mathlib.Core.Bool.{Bool}
 use mathlib.Core.List.{List}
 use native.Mathlib.Nat.{div-add-mod', div-lt-iff-lt-mul, mod-lt, mul-zero}
 use native.Mathlib.Omega.{arith}
-use lib.ListN.{length, getD}
+use lib.ListN.{getD}
 use lib.Seq.{ext-getD}
 use lib.IntN.{ℤ}
 use lib.Ieee.{Float}
@@ -31,7 +31,8 @@ marks-same {n} {d} {f} {xs} {ys} a b = ext-getD 0 xs ys (a .long ∙ sym (b .lon
         let e : k % d < d = mod-lt k p in
         rw div-add-mod' at (a .at (k / d) (k % d) i e ∙ sym (b .at (k / d) (k % d) i e))
 
-pub classify-determined : (a b : ℕ) (coupling : ℤ) (r r′ : BondKind) → r ≡ kindOf coupling (shown a) (shown b) → r′ ≡ kindOf coupling (shown a) (shown b) → r ≡ r′
+pub classify-determined : (a b : ℕ) (coupling : ℤ) (r r′ : BondKind)
+    → r ≡ kindOf coupling (shown a) (shown b) → r′ ≡ kindOf coupling (shown a) (shown b) → r ≡ r′
 classify-determined a b coupling r r′ p q = p ∙ sym q
 
 pub draw-blue-determined : (kind : BondKind) (s : Sampler) (cut : Float) (r r′ : Bool) → r ≡ blueHolds kind s cut → r′ ≡ blueHolds kind s cut → r ≡ r′
@@ -57,5 +58,6 @@ pub record SameTables (bs gs bs′ gs′ : List ℕ) : Type 0 where
   pub grey : gs ≡ gs′
 
 module _ (n d : ℕ) (fwd : List ℕ) (couplings : List ℤ) (cuts : List Float) (s : Sampler) (cols : List ℕ) where
-  pub cmr-bonds-determined : (bs gs bs′ gs′ : List ℕ) → CmrOut n d fwd couplings cuts s cols bs gs → CmrOut n d fwd couplings cuts s cols bs′ gs′ → SameTables bs gs bs′ gs′
+  pub cmr-bonds-determined : (bs gs bs′ gs′ : List ℕ)
+      → CmrOut n d fwd couplings cuts s cols bs gs → CmrOut n d fwd couplings cuts s cols bs′ gs′ → SameTables bs gs bs′ gs′
   cmr-bonds-determined bs gs bs′ gs′ p q = record { blue = marks-same (p .blue) (q .blue); grey = marks-same (p .grey) (q .grey) }

@@ -1,7 +1,6 @@
 -- `bonds::active_site` meets its contract. Assumes nothing.
-use Prim.Native.Nat.{ℕ, _+_, _*_, _≤_, _<_, _-_}
-use mathlib.Core.Path.{_≡_, refl, ap, _∙_}
-use mathlib.Core.Bool.{Bool, false}
+use Prim.Native.Nat.{ℕ, _+_, _*_, _≤_, _-_}
+use mathlib.Core.Path.{_≡_, ap, _∙_}
 use native.Mathlib.Nat.{le-antisymm}
 use native.Mathlib.Omega.{arith}
 use lib.ListN.{length, getD}
@@ -26,7 +25,8 @@ at : (c : tie.In-loop Inv-loop μ-loop) → (let a = of-turn c .args in Place (l
 at c = let s = of-turn c in place (s .pre .0 .forward) (s .args .i) (c .before .loop .e) (s .pre .1 .below) (c .loop-test .taken)
 
 -- the site acts, so the other end decides
-right : (s : tie.Start Inv-loop μ-loop) (e : ℕ) → (let a = s .args in acting (a .acts .now) (getD (a .fwd .now) (a .i * a .d + e) 0) ≡ bothActing (a .d) (a .fwd .now) (a .acts .now) (a .i) e)
+right : (s : tie.Start Inv-loop μ-loop) (e : ℕ) → (let a = s .args in
+    acting (a .acts .now) (getD (a .fwd .now) (a .i * a .d + e) 0) ≡ bothActing (a .d) (a .fwd .now) (a .acts .now) (a .i) e)
 right s e = rw (s .pre .1 .does)
 
 mul-base : tie.Need-mul-base Inv-loop μ-loop
@@ -66,7 +66,8 @@ loop-again : tie.Need-loop-again Inv-loop μ-loop
 loop-again c =
     let t = c .before .before .before in
     let l = t .before .loop in
-    (omega arith, row-more _ (l .e) _ _ _ _ (l .inv .1) (omega (arith, at t)) (ap bit (ap (acting (of-turn t .args .acts .now)) (c .before .wide .ensures) ∙ right (of-turn t) (l .e))))
+    let is = ap (acting (of-turn t .args .acts .now)) (c .before .wide .ensures) ∙ right (of-turn t) (l .e) in
+    (omega arith, row-more _ (l .e) _ _ _ _ (l .inv .1) (omega (arith, at t)) (ap bit is))
 
 same-length : tie.Need-same-length Inv-loop μ-loop
 same-length c = search needs

@@ -27,7 +27,8 @@ module _ (s : tie.Start) where
 sub-result : tie.Need-sub-result
 sub-result c = asks (minus (c .before))
 
-aligned-by : (s : tie.Start) (t : Bool) → eqb (s .args .a % 2) (s .args .b % 2) ≡ t → (let a = s .args in a .coupling *ℤ shown (a .a) 0 *ℤ shown (a .b) 0 ≡ cond t (a .coupling) (negℤ (a .coupling)))
+aligned-by : (s : tie.Start) (t : Bool) → eqb (s .args .a % 2) (s .args .b % 2) ≡ t → (let a = s .args in
+    a .coupling *ℤ shown (a .a) 0 *ℤ shown (a .b) 0 ≡ cond t (a .coupling) (negℤ (a .coupling)))
 aligned-by s t e =
     let a = s .args in
     align (a .coupling) (bitOf (a .a) 0) (bitOf (a .b) 0)

@@ -32,14 +32,16 @@ module _ (s : tie.Start) where
   zero = given (sfits-lit tt)
 
 -- the test of the overlaps
-overlaps : (c : tie.After-agree2) (t : Bool) → Bool·beq (c .before .agree .result) (c .agree2 .result) ≡ t → (let s = c .before .before .args in eqZ (shown (s .a) 0 *ℤ shown (s .a) 1) (shown (s .b) 0 *ℤ shown (s .b) 1) ≡ t)
+overlaps : (c : tie.After-agree2) (t : Bool) → Bool·beq (c .before .agree .result) (c .agree2 .result) ≡ t → (let s = c .before .before .args in
+    eqZ (shown (s .a) 0 *ℤ shown (s .a) 1) (shown (s .b) 0 *ℤ shown (s .b) 1) ≡ t)
 overlaps c t e =
     let s = c .before .before .args in
     overlaps-same (bitOf (s .a) 0) (bitOf (s .a) 1) (bitOf (s .b) 0) (bitOf (s .b) 1)
     ∙ ((λ i. Bool·beq (sym (c .before .agree .ensures) i) (sym (c .agree2 .ensures) i)) ∙ e)
 
 -- the test of the first replica's spins
-above : (c : tie.After-aligned) (t : Bool) → ltZ (toZ w32 0) (toZ w32 (ofZ w32 (c .aligned .result))) ≡ t → (let s = c .before .before .before .before .args in ltZ (pos 0) (s .coupling *ℤ shown (s .a) 0 *ℤ shown (s .b) 0) ≡ t)
+above : (c : tie.After-aligned) (t : Bool) → ltZ (toZ w32 0) (toZ w32 (ofZ w32 (c .aligned .result))) ≡ t → (let s = c .before .before .before .before .args in
+    ltZ (pos 0) (s .coupling *ℤ shown (s .a) 0 *ℤ shown (s .b) 0) ≡ t)
 above c t e =
     let s = c .before .before .before .before in
     let k : Holds w32 (ofZ w32 (c .aligned .result)) (c .aligned .result) = bounded w32 (c .aligned .result) (c .aligned .ok) in

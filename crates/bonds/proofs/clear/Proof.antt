@@ -6,7 +6,7 @@ use native.Mathlib.Nat.{le-antisymm, zero-add}
 use native.Mathlib.Omega.{arith}
 use lib.ListN.{length}
 use Rattle.bonds.specs.Row.{Row}
-use Rattle.bonds.proofs.Rows.{row-none, row-more, all-blank}
+use Rattle.bonds.proofs.Rows.{row-more, all-blank}
 use borrow.Author.Needs.{needs}
 use Rattle.bonds.proofs.clear.Statement.{statement}
 use Rattle.bonds.proofs.clear.Tie as tie

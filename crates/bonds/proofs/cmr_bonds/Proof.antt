@@ -1,10 +1,10 @@
 -- `bonds::cmr_bonds` meets its contract. Assumes nothing.
-use Prim.Native.Nat.{ℕ, _≤_, _-_}
-use mathlib.Core.Path.{_≡_, sym, _∙_}
+use Prim.Native.Nat.{_≤_, _-_}
+use mathlib.Core.Path.{sym, _∙_}
 use native.Mathlib.Nat.{le-antisymm}
 use native.Mathlib.Omega.{arith}
 use borrow.Author.Needs.{needs}
-use Rattle.bonds.specs.Table.{CmrIn, blueAt, greyAt}
+use Rattle.bonds.specs.Table.{blueAt, greyAt}
 use Rattle.bonds.proofs.Rows.{Begun, begun-none, begun-more, begun-all}
 use Rattle.bonds.proofs.cmr_bonds.Statement.{statement}
 use Rattle.bonds.proofs.cmr_bonds.Tie as tie

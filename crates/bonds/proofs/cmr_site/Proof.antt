@@ -1,11 +1,10 @@
 -- `bonds::cmr_site` meets its contract. Assumes nothing.
-use Prim.Native.Nat.{ℕ, _+_, _*_, _≤_, _<_, _-_}
-use mathlib.Core.Path.{_≡_, refl, ap, _∙_}
-use mathlib.Core.Bool.{Bool}
+use Prim.Native.Nat.{_+_, _*_, _≤_, _-_}
+use mathlib.Core.Path.{_≡_, ap, _∙_}
 use native.Mathlib.Nat.{le-antisymm}
 use native.Mathlib.Omega.{arith}
 use borrow.Author.Needs.{needs}
-use lib.ListN.{length, getD, length-set}
+use lib.ListN.{length, getD}
 use lib.Ieee.{nan}
 use Rattle.paper.specs.declared.BondKind.{BondKind}
 use Rattle.paper.specs.Site.Bonds.{kindOf, blueHolds, greyHolds}
@@ -43,8 +42,9 @@ kind-is : (c : tie.After-classify Inv-loop μ-loop) → (let t = turn (c .before
 kind-is c =
     let t = turn (c .before) in
     let cols = of-turn t .args .cols .now in
+    let j = c .before .before .before .wide .ensures in
     c .classify .ensures
-    ∙ (λ i. kindOf (coupling-back (coupled t) (at t) i) (shown (getD cols (of-turn t .args .i) 0)) (shown (getD cols (c .before .before .before .wide .ensures i) 0)))
+    ∙ (λ i. kindOf (coupling-back (coupled t) (at t) i) (shown (getD cols (of-turn t .args .i) 0)) (shown (getD cols (j i) 0)))
 
 mul-base : tie.Need-mul-base Inv-loop μ-loop
 mul-base c = let s = c .before .before .before .before .before in omega (arith, base-short (s .pre .0 .forward) (s .args .i) (s .pre .1))
@@ -107,7 +107,9 @@ cast-grey : tie.Need-cast-grey Inv-loop μ-loop
 cast-grey c = search needs
 
 slice-write-grey : tie.Need-slice-write-grey Inv-loop μ-loop
-slice-write-grey c = let t = turn (c .before .before .before .before .before) in omega (arith, at t, t .before .loop .inv .1 .grey .long, of-turn t .pre .0 .grey-long)
+slice-write-grey c =
+    let t = turn (c .before .before .before .before .before) in
+    omega (arith, at t, t .before .loop .inv .1 .grey .long, of-turn t .pre .0 .grey-long)
 
 add-e : tie.Need-add-e Inv-loop μ-loop
 add-e c = let t = turn (c .before .before .before .before .before) in omega (arith, t)

@@ -1,5 +1,5 @@
 -- `bonds::jorg_bond` meets its contract. Assumes nothing.
-use mathlib.Core.Path.{_≡_, ap, _∙_}
+use mathlib.Core.Path.{ap, _∙_}
 use borrow.Author.Tests.{eq-eqb, ne-eqb}
 use lib.IntN.{ℤ}
 use Rattle.paper.specs.Site.Bonds.{jorgHolds}
@@ -14,7 +14,10 @@ jorg-holds-requires c κs = let s = c .before in (rw (reads (given (s .fits .cou
 returns : tie.Need-returns
 returns c =
     let s = c .before .before in
-    rw (eq-eqb _ 1 (c .before .if1 .taken)) (c .jorg-holds .ensures ∙ ap (λ (z : ℤ). jorgHolds z (s .args .len) (shown (s .args .a)) (shown (s .args .b)) (s .args .sampler) (s .args .cut)) (reads (given (s .fits .coupling))))
+    let a = s .args in
+    rw (eq-eqb _ 1 (c .before .if1 .taken))
+    (c .jorg-holds .ensures
+    ∙ ap (λ (z : ℤ). jorgHolds z (a .len) (shown (a .a)) (shown (a .b)) (a .sampler) (a .cut)) (reads (given (s .fits .coupling))))
 
 returns-2 : tie.Need-returns-2
 returns-2 c = rw (ne-eqb _ 1 (c .if1 .left))

@@ -1,6 +1,6 @@
 -- `bonds::jorg_holds` meets its contract: the machine's product is the strength, which fits. Assumes nothing.
 use Prim.Native.Nat.{_/_, _≤_}
-use mathlib.Core.Path.{_≡_, ap, _∙_}
+use mathlib.Core.Path.{ap, _∙_}
 use native.Mathlib.Nat.{le-trans}
 use native.Mathlib.Omega.{arith}
 use borrow.Author.Needs.{needs}

@@ -1,5 +1,5 @@
 -- `bonds::jorg_site` meets its contract. Assumes nothing.
-use Prim.Native.Nat.{ℕ, _+_, _*_, _≤_, _<_, _-_}
+use Prim.Native.Nat.{_+_, _*_, _≤_, _-_}
 use mathlib.Core.Path.{_≡_, ap, _∙_}
 use mathlib.Core.Bool.{_&&_}
 use native.Mathlib.Nat.{le-antisymm}
@@ -18,7 +18,8 @@ use Rattle.bonds.proofs.jorg_site.Statement.{statement}
 use Rattle.bonds.proofs.jorg_site.Tie as tie
 
 abbrev Inv-loop : tie.InvT-loop
-Inv-loop i d fwd couplings cuts len sampler acts cols holds₀ base col e₀ holds e = (e ≤ d) × Row (i * d) e (jorgAt d fwd couplings cuts len sampler acts cols i) holds₀ holds
+Inv-loop i d fwd couplings cuts len sampler acts cols holds₀ base col e₀ holds e =
+    (e ≤ d) × Row (i * d) e (jorgAt d fwd couplings cuts len sampler acts cols i) holds₀ holds
 
 abbrev μ-loop : tie.MeasureT-loop
 μ-loop i d fwd couplings cuts len sampler acts cols holds₀ base col e₀ holds e = d - e
@@ -38,7 +39,8 @@ turn c = c .before .before .before .before .before .before
 -- what is written: the site acts, so the other end and the draw decide
 right : (c : tie.After-jorg-bond Inv-loop μ-loop) → (let t = turn (c .before) in
     let a = of-turn t .args in
-    c .jorg-bond .result ≡ jorgAt (a .d) (a .fwd .now) (a .couplings .now) (a .cuts .now) (a .len) (a .sampler) (a .acts .now) (a .cols .now) (a .i) (t .before .loop .e))
+    c .jorg-bond .result
+    ≡ jorgAt (a .d) (a .fwd .now) (a .couplings .now) (a .cuts .now) (a .len) (a .sampler) (a .acts .now) (a .cols .now) (a .i) (t .before .loop .e))
 right c =
     let t = turn (c .before) in
     let a = of-turn t .args in

@@ -4,7 +4,7 @@ use mathlib.Core.Path.{_≡_, refl, ap, _∙_}
 use native.Mathlib.Nat.{le-antisymm, le-trans}
 use native.Mathlib.Omega.{arith}
 use borrow.Author.Needs.{needs}
-use lib.IntN.{ℤ, pos, natAbs, _+ℤ_}
+use lib.IntN.{ℤ, _+ℤ_}
 use mir.Syntax.{w32}
 use mir.Val.{SFits, toZ, ofZ}
 use Rattle.paper.specs.Site.Acting.{sum}
@@ -31,7 +31,8 @@ module _ (s : tie.Start Inv-loop μ-loop) where
 held : (l : tie.At-loop Inv-loop μ-loop) → Holds w32 (l .loop .total) (sum (l .loop .k) (term (l .before)))
 held l = record { bits = l .loop .inv .1; fits = sum-fits (l .before) (l .loop .k) (l .loop .inv .0) }
 
-next : (c : tie.After-pair-term Inv-loop μ-loop) → (let l = c .before .before in Value w32 (toZ w32 (l .loop .total) +ℤ toZ w32 (ofZ w32 (c .pair-term .result))) (sum (l .loop .k + 1) (term (l .before))))
+next : (c : tie.After-pair-term Inv-loop μ-loop) → (let l = c .before .before in
+    Value w32 (toZ w32 (l .loop .total) +ℤ toZ w32 (ofZ w32 (c .pair-term .result))) (sum (l .loop .k + 1) (term (l .before))))
 next c =
     let l = c .before .before in
     let k = l .loop .k in

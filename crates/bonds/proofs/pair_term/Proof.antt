@@ -12,7 +12,8 @@ use Rattle.bonds.proofs.pair_term.Statement.{statement}
 use Rattle.bonds.proofs.pair_term.Tie as tie
 
 -- where both ends disagree the term is the product of the first spins
-apart : (c : tie.Else2) (t : Bool) → (let s = c .before .before .before .before .args in eqb (s .a % 2) (s .b % 2) ≡ t → sign t ≡ pairTerm (shown (s .a)) (shown (s .b)) 0)
+apart : (c : tie.Else2) (t : Bool) → (let s = c .before .before .before .before .args in
+    eqb (s .a % 2) (s .b % 2) ≡ t → sign t ≡ pairTerm (shown (s .a)) (shown (s .b)) 0)
 apart c t e =
     let f = c .before .before .before in
     let s = f .before .args in
