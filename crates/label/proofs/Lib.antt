@@ -4,7 +4,7 @@ mod Lists
 mod Bonds
 mod Tallies
 mod Flatten
-mod Labelling
+mod Whole
 mod Ranks
 mod Picks
 mod Reports

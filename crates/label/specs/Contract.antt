@@ -33,6 +33,18 @@ pub record Countable (labels tally : List ℕ) (counts sizes : ℕ) : Type 0 whe
   pub counts-long : counts ≡ length labels + 1
   pub sizes-long : sizes ≡ 4
 
+-- the number of components of each size, and the four largest sizes
 pub record Reported (labels counts sizes : List ℕ) : Type 0 where
   pub counted : Counted labels counts
   pub largest : Largest labels sizes
+
+-- both steps: places for all that is written, and for a tally of all sites
+pub record Room (n d : ℕ) (fwd holds : List ℕ) (labels counts sizes tally : ℕ) : Type 0 where
+  pub given : Given n d fwd holds labels n
+  pub counts-long : counts ≡ n + 1
+  pub sizes-long : sizes ≡ 4
+  pub tally-fits : n ≤ tally
+
+pub record Seen (n d : ℕ) (fwd holds l counts sizes : List ℕ) : Type 0 where
+  pub labels : Labels (graphOf n d fwd) (marked d holds) l
+  pub reported : Reported l counts sizes

@@ -4,3 +4,7 @@ pub mod Forest
 pub mod Contract
 pub mod Steps
 pub mod Sizes
+pub mod Totals
+pub mod Facts
+pub mod Entry
+pub mod Determined

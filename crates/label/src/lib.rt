@@ -3,10 +3,11 @@ ghost use mathlib.Core.Path.{_≡_};
 ghost use Prim.Native.Nat.{ℕ, _+_, _≤_, _<_};
 ghost use lib.ListN.{length, getD};
 ghost use Rattle.paper.specs.Component.Sizes.{bit};
-ghost use Rattle.paper.specs.Component.Marks.{marked};
+ghost use Rattle.paper.specs.Component.Marks.{marked, Tells};
 ghost use Rattle.label.specs.Closure.{Or, Only};
-ghost use Rattle.label.specs.Contract.{graphOf, Given, Labelled, Countable, Reported};
+ghost use Rattle.label.specs.Contract.{graphOf, Given, Labelled, Countable, Reported, Room, Seen};
 ghost use Rattle.label.specs.Forest.{Edge, Down, Keeps};
+ghost use Rattle.label.specs.Entry.{ExactLengths, Below, Request, Lent, Answers};
 ghost use Rattle.label.specs.Sizes.{Cleared, Picking, Picked, Histogramming, Histogram, orMore, Top4, with, Falling};
 ghost use Rattle.label.specs.Steps.{Own, Climbing, Gathering, Gathered, Listing, Listed, Part, Block, Ends, Bonding, Flattening, Flattened};
 
@@ -247,4 +248,97 @@ pub fn count(labels: &[u32], tally: &[u32], counts: &mut [u32], sizes: &mut [u32
     sizes[1] = t.1;
     sizes[2] = t.2;
     sizes[3] = t.3;
+}
+
+fn exact(
+    n: usize,
+    d: usize,
+    fwd: usize,
+    holds: usize,
+    labels: usize,
+    counts: usize,
+    sizes: usize,
+) -> bool
+    requires { ⌜ (n ≤ 4096) × (d ≤ 4) ⌝ }
+    ensures { λ r. ⌜ Tells r (ExactLengths n d fwd holds labels counts sizes) ⌝ }
+{
+    let table = n * d;
+    (fwd == table) & (holds == table) & (labels == n) & (counts == n + 1) & (sizes == 4)
+}
+
+// One pass without an exit, which the compiler makes vector code of.
+fn all_below(xs: &[u32], n: usize) -> bool
+    ensures { λ r. ⌜ Tells r (Below n (now (xs .entry))) ⌝ }
+{
+    let mut ok = true;
+    let mut i = 0;
+    while i < xs.len() {
+        ok = ok & (wide(xs[i]) < n);
+        i += 1;
+    }
+    ok
+}
+
+fn label_and_count(
+    n: usize,
+    d: usize,
+    fwd: &[u32],
+    holds: &[u8],
+    labels: &mut [u32],
+    counts: &mut [u32],
+    sizes: &mut [u32],
+    tally: &mut [u32],
+)
+    requires { ⌜ Room n d (now fwd) (now holds) (length (now labels)) (length (now counts)) (length (now sizes)) (length (now tally)) ⌝ }
+    ensures { λ _. ⌜ Seen n d (now (fwd .entry)) (now (holds .entry)) (now (labels .exit)) (now (counts .exit)) (now (sizes .exit)) ⌝ }
+{
+    label(n, d, fwd, holds, labels, &mut tally[..n]);
+    count(labels, &tally[..n], counts, sizes);
+}
+
+// A refusal with its number, or all is written.
+pub enum Labelling {
+    Unlabelled(u8),
+    Written,
+}
+
+// The labels, counts and four largest sizes of any tables: what is no lattice is refused, and nothing is written.
+pub fn components(
+    n: usize,
+    d: usize,
+    fwd: &[u32],
+    holds: &[u8],
+    labels: &mut [u32],
+    counts: &mut [u32],
+    sizes: &mut [u32],
+) -> Labelling
+    ensures { λ r. ⌜ Answers
+        (record { n = n; d = d; fwd = now (fwd .entry); holds = now (holds .entry) })
+        (record { labels = now (labels .entry); counts = now (counts .entry); sizes = now (sizes .entry) })
+        r
+        (record { labels = now (labels .exit); counts = now (counts .exit); sizes = now (sizes .exit) }) ⌝ }
+{
+    if !lattice::sizes_ok(n, d, 1) {
+        return Labelling::Unlabelled(1);
+    }
+    if !exact(
+        n,
+        d,
+        fwd.len(),
+        holds.len(),
+        labels.len(),
+        counts.len(),
+        sizes.len(),
+    ) {
+        return Labelling::Unlabelled(2);
+    }
+    if !all_below(fwd, n) {
+        return Labelling::Unlabelled(4);
+    }
+    if !lattice::bytes_at_most(holds, 1) {
+        return Labelling::Unlabelled(9);
+    }
+    let mut tally = [0u32; 4096];
+    label_and_count(n, d, fwd, holds, labels, counts, sizes, &mut tally);
+    Labelling::Written
 }

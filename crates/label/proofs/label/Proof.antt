@@ -1,5 +1,5 @@
 -- `label` meets its contract. Assumes nothing.
-use Rattle.label.proofs.Labelling.{bonding-start, labelled}
+use Rattle.label.proofs.Whole.{bonding-start, labelled}
 use borrow.Author.Needs.{needs}
 use Rattle.label.proofs.label.Statement.{statement}
 use Rattle.label.proofs.label.Tie as tie

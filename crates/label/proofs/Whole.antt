@@ -1,5 +1,5 @@
 -- What the steps of `label` come to. Assumes nothing.
-use Prim.Native.Nat.{ℕ, _≤_, _<_, zero-le}
+use Prim.Native.Nat.{ℕ, _+_, _*_, _≤_, _<_, zero-le}
 use mathlib.Core.Path.{_≡_, refl, sym, ap, _∙_}
 use mathlib.Core.Logic.{inl, inr, ⊎-elim}
 use mathlib.Core.Bool.{Bool}
@@ -8,8 +8,11 @@ use native.Mathlib.Nat.{le-trans, le-of-eq}
 use lib.ListN.{length, getD}
 use Rattle.paper.specs.Component.Links.{Linked, Linked.stay, bind}
 use Rattle.paper.specs.Component.Labels.{Bond, Joined, Labels}
+use Rattle.paper.specs.Refusal.Rules.{Sizes}
+use Rattle.lattice.specs.Tables.{cell-lt}
 use Rattle.label.specs.Closure.{Or, one, alike}
 use Rattle.label.specs.Contract.{graphOf, Given}
+use Rattle.label.specs.Entry.{ExactLengths, Below}
 use Rattle.label.specs.Forest.{Edge, Keeps}
 use Rattle.label.specs.Steps.{Own, Part, Bonding, Flattened}
 
@@ -54,3 +57,16 @@ module _ {n d : ℕ} {fwd : List ℕ} {f : ℕ → ℕ → Bool} where
 
       root : (a b : ℕ) → Edge l a b → getD l a 0 ≡ getD l b 0
       root a b e = sym (h .flat a (e .site)) ∙ ap (λ (x : ℕ). getD l x 0) (e .parent)
+
+-- what the entry's tests leave
+pub given-by : {n d : ℕ} {fwd holds : List ℕ} {labels counts sizes tally : ℕ} → Sizes n d 1 → ExactLengths n d (length fwd) (length holds) labels counts sizes → Below n fwd → tally ≡ n
+    → Given n d fwd holds labels tally
+given-by {n} {d} {fwd} z x h e = record {
+  n-high = z .n-high;
+  d-high = z .d-high;
+  fwd-long = x .fwd-long;
+  holds-long = x .holds-long;
+  ahead-lt = λ i k il kl. h (i * d + k) (rw (x .fwd-long) (cell-lt n d i k il kl));
+  labels-long = x .labels-long;
+  tally-long = e;
+}

@@ -1,0 +1,60 @@
+-- How tight the promises are: what each allows for one input is one answer and one content of every lent buffer. Assumes nothing.
+use Prim.Native.Nat.{ℕ}
+use mathlib.Core.Path.{_≡_, refl, sym, _∙_, ap}
+use mathlib.Core.List.{List}
+use lib.ListN.{length}
+use lib.Seq.{ext-getD}
+use Rattle.paper.specs.Component.Labels.{Labels}
+use Rattle.paper.specs.Component.Marks.{marked}
+use Rattle.paper.specs.Component.Sizes.{Counted, Largest, Sized}
+use Rattle.paper.specs.Law.Unique.{labels-unique, counts-unique, sizes-unique}
+use Rattle.paper.specs.Refusal.Rule.{Kept, Broken, broken-unique, broken-not-kept}
+use Rattle.label.specs.declared.Labelling.{Labelling}
+use Rattle.label.specs.declared.Labelling.the-variants.{Unlabelled, Written}
+use Rattle.label.specs.Contract.{graphOf, Labelled, Reported}
+use Rattle.label.specs.Entry.{Request, Lent, rules, Refuses, Accepts, Answers}
+
+-- two lists and two others
+pub record SameTwo (a a′ b b′ : List ℕ) : Type 0 where
+  pub first : a ≡ a′
+  pub second : b ≡ b′
+
+tally-unique : (l t t′ : List ℕ) → Sized l t → Sized l t′ → t ≡ t′
+tally-unique l t t′ h h′ = ext-getD 0 t t′ (h .long ∙ sym (h′ .long)) (λ i il. h .each i (rw (h .long) at il) ∙ sym (h′ .each i (rw (h .long) at il)))
+
+pub label-determined : (n d : ℕ) (fwd holds l l′ t t′ : List ℕ) → Labelled n d fwd holds l t → Labelled n d fwd holds l′ t′ → SameTwo l l′ t t′
+label-determined n d fwd holds l l′ t t′ h h′ = record { first = same; second = tally-unique l t t′ (h .sized) (rw same (h′ .sized)) }
+  where
+    same : l ≡ l′
+    same = labels-unique (graphOf n d fwd) (marked d holds) l l′ (h .labels) (h′ .labels)
+
+pub count-determined : (l c c′ s s′ : List ℕ) → Reported l c s → Reported l c′ s′ → SameTwo c c′ s s′
+count-determined l c c′ s s′ h h′ = record { first = counts-unique l c c′ (h .counted) (h′ .counted); second = sizes-unique l s s′ (h .largest) (h′ .largest) }
+
+pub record Same (a a′ : Labelling) (b b′ : Lent) : Type 0 where
+  pub answer : a ≡ a′
+  pub buffers : b ≡ b′
+
+module _ (r : Request) (b y z : Lent) where
+  written-same : Accepts r b y → Accepts r b z → y ≡ z
+  written-same p q = λ i. record { labels = l i; counts = two .first i; sizes = two .second i }
+    where
+      l : y .labels ≡ z .labels
+      l = labels-unique (graphOf (r .n) (r .d) (r .fwd)) (marked (r .d) (r .holds)) (y .labels) (z .labels) (p .seen .labels) (q .seen .labels)
+
+      two : SameTwo (y .counts) (z .counts) (y .sizes) (z .sizes)
+      two = count-determined (y .labels) (y .counts) (z .counts) (y .sizes) (z .sizes) (p .seen .reported) (rw l (q .seen .reported))
+
+  pub components-determined : (a a′ : Labelling) → Answers r b a y → Answers r b a′ z → Same a a′ y z
+  components-determined (Unlabelled c) (Unlabelled e) p q = record { answer = ap Unlabelled (broken-unique (rules r b) c e (p .why) (q .why)); buffers = p .kept ∙ sym (q .kept) }
+  components-determined (Unlabelled c) Written p q = absurd (broken-not-kept (rules r b) c (p .why) (q .valid))
+  components-determined Written (Unlabelled e) p q = absurd (broken-not-kept (rules r b) e (q .why) (p .valid))
+  components-determined Written Written p q = record { answer = refl; buffers = written-same p q }
+
+-- `given exactly when`: where rule c is the first that is broken the answer is the refusal c, and where all are kept it is none
+pub must-refuse : (r : Request) (b b′ : Lent) (a : Labelling) (c : ℕ) → Answers r b a b′ → Broken (rules r b) c → a ≡ Unlabelled c
+must-refuse r b b′ (Unlabelled e) c p w = ap Unlabelled (broken-unique (rules r b) e c (p .why) w)
+must-refuse r b b′ Written c p w = absurd (broken-not-kept (rules r b) c w (p .valid))
+
+pub must-label : (r : Request) (b b′ : Lent) (c : ℕ) → Answers r b (Unlabelled c) b′ → Kept (rules r b) → ⊥
+must-label r b b′ c p k = broken-not-kept (rules r b) c (p .why) k
