@@ -1,36 +1,34 @@
 -- The forest grows bond by bond. Assumes nothing.
-use Prim.Native.Nat.{ℕ, suc, _+_, _*_, _≤_, _<_, zero-le}
+use Prim.Native.Nat.{ℕ, _+_, _*_, _≤_, _<_, zero-le}
 use mathlib.Core.Path.{_≡_, refl, sym, ap, _∙_}
-use mathlib.Core.Logic.{_⊎_, inl, inr, ⊎-elim}
-use mathlib.Core.Bool.{Bool, true, false}
+use mathlib.Core.Logic.{_⊎_, inl, inr}
+use mathlib.Core.Bool.{Bool}
 use mathlib.Core.List.{List}
 use native.Mathlib.Nat.{not-suc-le-zero, lt-of-not-le}
 use native.Mathlib.Decide.{ℕ-discrete, decLe}
 use native.Mathlib.Omega.{arith}
 use lib.ListN.{length, getD}
-use Rattle.lattice.specs.Tables.{cell-lt}
-use Rattle.paper.specs.Panel.Input.{Graph, leadsTo}
-use Rattle.label.specs.Closure.{SameLinks, Or, Only, none, more}
-use Rattle.label.specs.Forest.{Edge, Down, Keeps}
-use Rattle.label.specs.Steps.{Climbing, Passes, Among, Gathered, Ahead, Listing, Listed, Part, Bonding, Block}
+use Rattle.label.specs.Closure.{Only, none, more}
+use Rattle.label.specs.Forest.{Adds, Down, Keeps}
+use Rattle.label.specs.Steps.{Passes, Gathered, Listed, Part, Bonding}
 use Rattle.label.proofs.Stores.{lt-of-ne}
 
 -- ---- a loop that adds steps to a forest: after i of m turns q has p's links and those of B i
 pub record Joining (p : List ℕ) (B : ℕ → ℕ → ℕ → Type 0) (m : ℕ) (q : List ℕ) (i : ℕ) : Type 0 where
   pub reached : i ≤ m
-  pub keeps : Keeps p (Or (Edge p) (B i)) q
+  pub keeps : Adds p (B i) q
 
 -- the same with the list that a turn writes
 pub record Joins (p : List ℕ) (B : ℕ → ℕ → ℕ → Type 0) (m room : ℕ) (q list : List ℕ) (i : ℕ) : Type 0 where
   pub forest : Joining p B m q i
   pub list-long : length list ≡ room
 
-pub keeps-none : {p : List ℕ} {B : ℕ → ℕ → Type 0} → Down p → ((x y : ℕ) → B x y → ⊥) → Keeps p (Or (Edge p) B) p
+pub keeps-none : {p : List ℕ} {B : ℕ → ℕ → Type 0} → Down p → ((x y : ℕ) → B x y → ⊥) → Adds p B p
 keeps-none d empty = record { long = refl; down = d; same = none empty }
 
 -- q has B's steps beside p's, r has G's beside q's, and C has those of both
-pub keeps-more : {p q r : List ℕ} {B G C : ℕ → ℕ → Type 0} → Keeps p (Or (Edge p) B) q → Keeps q (Or (Edge q) G) r
-    → ((x y : ℕ) → B x y → C x y) → ((x y : ℕ) → G x y → C x y) → ((x y : ℕ) → C x y → B x y ⊎ G x y) → Keeps p (Or (Edge p) C) r
+pub keeps-more : {p q r : List ℕ} {B G C : ℕ → ℕ → Type 0} → Adds p B q → Adds q G r
+    → ((x y : ℕ) → B x y → C x y) → ((x y : ℕ) → G x y → C x y) → ((x y : ℕ) → C x y → B x y ⊎ G x y) → Adds p C r
 keeps-more k l bc gc cbg = record { long = l .long ∙ k .long; down = l .down; same = more (l .same) (k .same) bc gc cbg }
 
 -- ---- a list of sites, each joined along its bond k
@@ -43,7 +41,7 @@ module _ (d k : ℕ) (fwd list : List ℕ) where
 
   -- a turn: the site a, which stands at t, is joined to the end b of its bond
   pub listed-more : {m t a b : ℕ} {p q r : List ℕ} → Joining p (Listed d k fwd list) m q t → t < m → a ≡ getD list t 0 → b ≡ getD fwd (a * d + k) 0
-      → Keeps q (Or (Edge q) (Only a b)) r → Joining p (Listed d k fwd list) m r (t + 1)
+      → Adds q (Only a b) r → Joining p (Listed d k fwd list) m r (t + 1)
   listed-more {m} {t} {a} {b} j l ea eb u = record { reached = omega arith; keeps = keeps-more (j .keeps) u kept new split }
     where
       kept : (x y : ℕ) → Listed d k fwd list t x y → Listed d k fwd list (t + 1) x y
@@ -72,7 +70,7 @@ module _ (d : ℕ) (fwd : List ℕ) (f : ℕ → ℕ → Bool) (lo hi : ℕ) whe
 
   -- a turn: the sites whose bond k holds are listed and joined
   pub block-more : {k m : ℕ} {p q r list : List ℕ} → Joining p (Part d fwd f lo hi) d q k → k < d → Gathered (λ x. f x k) lo hi list m
-      → Keeps q (Or (Edge q) (Listed d k fwd list m)) r → Joining p (Part d fwd f lo hi) d r (k + 1)
+      → Adds q (Listed d k fwd list m) r → Joining p (Part d fwd f lo hi) d r (k + 1)
   block-more {k} {m} {p} {q} {r} {list} j l g u = record { reached = omega arith; keeps = keeps-more (j .keeps) u kept new split }
     where
       kept : (x y : ℕ) → Part d fwd f lo hi k x y → Part d fwd f lo hi (k + 1) x y
@@ -99,7 +97,7 @@ module _ (d : ℕ) (fwd : List ℕ) (f : ℕ → ℕ → Bool) where
   all-start n h = record { reached = zero-le; keeps = keeps-none h (λ x y b. not-suc-le-zero (b .below)) }
 
   pub all-more : {n lo hi : ℕ} {p q r : List ℕ} → Joining p (λ i. Part d fwd f 0 i d) n q lo → lo < hi → hi ≤ n
-      → Keeps q (Or (Edge q) (Part d fwd f lo hi d)) r → Joining p (λ i. Part d fwd f 0 i d) n r hi
+      → Adds q (Part d fwd f lo hi d) r → Joining p (λ i. Part d fwd f 0 i d) n r hi
   all-more {n} {lo} {hi} j l h u = record { reached = h; keeps = keeps-more (j .keeps) u kept new split }
     where
       kept : (x y : ℕ) → Part d fwd f 0 lo d x y → Part d fwd f 0 hi d x y
@@ -116,7 +114,8 @@ module _ (d : ℕ) (fwd : List ℕ) (f : ℕ → ℕ → Bool) where
           go (no k) = inl (record { from = zero-le; below = lt-of-not-le k; dir = b .dir; dir-lt = b .dir-lt; on = b .on; leads = b .leads })
 
 -- what the steps ask still holds of a forest that was made of the first one
-pub bonding-kept : {d room room′ : ℕ} {fwd holds p q : List ℕ} {E : ℕ → ℕ → Type 0} → Bonding d fwd holds p room → Keeps p E q → room′ ≡ room → Bonding d fwd holds q room′
+pub bonding-kept : {d room room′ : ℕ} {fwd holds p q : List ℕ} {E : ℕ → ℕ → Type 0} → Bonding d fwd holds p room → Keeps p E q → room′ ≡ room
+    → Bonding d fwd holds q room′
 bonding-kept {d} b k e = record {
   ahead = rw (k .long) (b .ahead);
   holds-long = rw (k .long) (b .holds-long);

@@ -1,8 +1,8 @@
 -- The pass that makes every parent a root and tallies the sites of each. Assumes nothing.
-use Prim.Native.Nat.{ℕ, suc, _+_, _≤_, _<_, zero-le}
+use Prim.Native.Nat.{ℕ, _+_, _≤_, _<_, zero-le}
 use mathlib.Core.Path.{_≡_, refl, sym, ap, _∙_}
 use mathlib.Core.Logic.{_⊎_, inl, inr}
-use mathlib.Core.Bool.{Bool, true, false}
+use mathlib.Core.Bool.{Bool, false}
 use mathlib.Core.List.{List}
 use native.Mathlib.Nat.{le-trans, lt-of-le-of-lt, lt-irrefl, eq-or-lt-of-le, not-suc-le-zero, le-antisymm, le-of-eq}
 use native.Mathlib.Omega.{arith}
@@ -11,9 +11,9 @@ use lib.Dec.{eqb}
 use lib.ListN.{length, getD, set, length-set}
 use lib.Seq.{getD-set-same, getD-set-other}
 use Rattle.paper.specs.Component.Links.{Linked, Linked.stay, Linked.along, Linked.against}
-use Rattle.paper.specs.Component.Sizes.{bit, countWhere, labelOf, sizeOf}
-use Rattle.label.specs.Closure.{SameLinks, one, same-refl, same-trans, reroute}
-use Rattle.label.specs.Counting.{count-none, count-suc, count-zero, count-ext, count-most}
+use Rattle.paper.specs.Component.Sizes.{countWhere, labelOf, sizeOf}
+use Rattle.label.specs.Closure.{one, same-refl, same-trans, reroute}
+use Rattle.label.specs.Counting.{count-zero, count-ext, count-most}
 use Rattle.label.specs.Forest.{Edge, Down, Keeps, Flat}
 use Rattle.label.specs.Steps.{Flattening, Flattened}
 use Rattle.label.proofs.Stores.{AfterSet, AfterSet.here, AfterSet.there, after-set, lt-of-ne}

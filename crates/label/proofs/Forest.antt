@@ -1,17 +1,17 @@
 -- Laws of the forest in `labels`: a climb from two sites, and the pass that makes every parent a root. Assumes nothing.
-use Prim.Native.Nat.{ℕ, suc, _+_, _≤_, _<_}
+use Prim.Native.Nat.{ℕ, _+_, _≤_, _<_}
 use mathlib.Core.Path.{_≡_, refl, sym, ap, _∙_}
 use mathlib.Core.Logic.{_⊎_, inl, inr}
 use mathlib.Core.List.{List}
-use native.Mathlib.Nat.{le-trans, lt-of-le-of-lt, lt-irrefl, eq-or-lt-of-le}
+use native.Mathlib.Nat.{lt-of-le-of-lt, lt-irrefl, eq-or-lt-of-le}
 use native.Mathlib.Omega.{arith}
 use lib.ListN.{length, getD, set, length-set}
 use lib.Seq.{getD-set-same, getD-set-other}
-use Rattle.paper.specs.Component.Links.{Linked, Linked.stay, Linked.along, Linked.against}
-use Rattle.label.specs.Closure.{SameLinks, Or, Only, one, same-refl, same-trans, flip, settled, splice}
-use Rattle.label.specs.Forest.{Edge, Down, Keeps, Flat}
+use Rattle.paper.specs.Component.Links.{Linked.stay, Linked.along, Linked.against}
+use Rattle.label.specs.Closure.{SameLinks, Or, Only, same-refl, same-trans, flip, settled, splice}
+use Rattle.label.specs.Forest.{Adds, Edge, Down}
 use Rattle.label.specs.Steps.{Climbing}
-use Rattle.label.proofs.Stores.{AfterSet, AfterSet.here, AfterSet.there, after-set, lt-of-ne}
+use Rattle.label.proofs.Stores.{AfterSet, AfterSet.here, AfterSet.there, after-set}
 
 -- ---- a new parent v for the site x
 module _ (p : List ℕ) (x v : ℕ) (xl : x < length p) where
@@ -115,9 +115,10 @@ module _ {p : List ℕ} {a b : ℕ} {q : List ℕ} {x y u v : ℕ} (c : Climb p 
       go (inl h) = omega (arith, ap (λ (z : ℕ). getD (set q y u) z 0) (e ∙ h) ∙ getD-set-same q y u 0 (c .y-lt))
       go (inr h) = omega (arith, climb-y .down y′ (climb-y .y-lt))
 
-pub climb-end : {p : List ℕ} {a b : ℕ} {q : List ℕ} {x y u v : ℕ} → Climb p a b q x y u v → u ≡ v → Keeps p (Or (Edge p) (Only a b)) q
+pub climb-end : {p : List ℕ} {a b : ℕ} {q : List ℕ} {x y u v : ℕ} → Climb p a b q x y u v → u ≡ v → Adds p (Only a b) q
 climb-end {q = q} {x = x} {y = y} {u = u} c e = record {
   long = c .long;
   down = c .down;
-  same = same-trans (settled x y (along {b = u} (record { site = c .x-lt; parent = sym (c .x-parent) }) (against (record { site = c .y-lt; parent = sym (e ∙ c .y-parent) }) stay))) (c .same);
+  same = same-trans (settled x y (along {b = u} (record { site = c .x-lt; parent = sym (c .x-parent) })
+      (against (record { site = c .y-lt; parent = sym (e ∙ c .y-parent) }) stay))) (c .same);
 }

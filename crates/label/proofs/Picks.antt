@@ -7,7 +7,7 @@ use lib.Seq.{getD-set-same, getD-set-other}
 use native.Mathlib.Nat.{lt-irrefl, not-suc-le-zero, add-zero, le-antisymm, le-trans, le-of-eq}
 use native.Mathlib.Omega.{arith}
 use lib.ListN.{length, getD, set, length-set}
-use Rattle.paper.specs.Component.Sizes.{bit, countWhere, labelOf, counted, sizeOf, Sized}
+use Rattle.paper.specs.Component.Sizes.{bit, countWhere, counted, sizeOf, Sized}
 use Rattle.label.specs.Counting.{bit-le, count-none, count-suc, count-no, count-ext, count-most}
 use Rattle.label.specs.Sizes.{Picking, Picked}
 use Rattle.label.proofs.Stores.{AfterSet, AfterSet.here, AfterSet.there, after-set, lt-of-ne}

@@ -2,14 +2,13 @@
 use Prim.Native.Nat.{ℕ, _+_, _≤_, _<_, zero-le}
 use mathlib.Core.Path.{_≡_, refl, sym}
 use mathlib.Core.Logic.{_⊎_, inl, inr, ⊎-elim}
-use mathlib.Core.Bool.{Bool, true, false}
 use mathlib.Core.List.{List}
 use native.Mathlib.Nat.{le-refl, le-trans}
 use native.Mathlib.Omega.{arith}
 use borrow.Author.Tests.{le-leb, lt-leb, leb-true}
 use lib.Dec.{leb}
 use lib.ListN.{getD}
-use Rattle.paper.specs.Component.Sizes.{bit, countWhere}
+use Rattle.paper.specs.Component.Sizes.{bit}
 use Rattle.paper.specs.Law.Unique.{count-le}
 use Rattle.label.specs.Counting.{bit-le, count-none, count-suc}
 use Rattle.label.specs.Sizes.{orMore, Place, Top4, with, Falling}
@@ -127,7 +126,8 @@ module _ (G : ℕ → ℕ) (falls : Falling G) (x : ℕ) where
 
 -- ---- the sizes of a list
 pub or-more-falls : (sizes : List ℕ) (m : ℕ) → Falling (orMore sizes m)
-or-more-falls sizes m v w h = count-le (λ t. leb w (getD sizes t 0)) (λ t. leb v (getD sizes t 0)) m (λ t e. le-leb v (getD sizes t 0) (le-trans h (leb-true w (getD sizes t 0) e)))
+or-more-falls sizes m v w h = count-le (λ t. leb w (getD sizes t 0)) (λ t. leb v (getD sizes t 0)) m
+    (λ t e. le-leb v (getD sizes t 0) (le-trans h (leb-true w (getD sizes t 0) e)))
 
 -- `top4_sizes` has taken the first i
 pub top-none : (sizes : List ℕ) → Top4 (orMore sizes 0) 0 0 0 0

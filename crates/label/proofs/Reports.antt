@@ -1,6 +1,6 @@
 -- What the steps of `count` come to. Assumes nothing.
 use Prim.Native.Nat.{ℕ, _+_, _≤_, _<_}
-use mathlib.Core.Path.{_≡_, refl, sym, ap, _∙_}
+use mathlib.Core.Path.{_≡_, refl, ap, _∙_}
 use mathlib.Core.Bool.{Bool, true, false, _&&_}
 use mathlib.Core.List.{List}
 use native.Mathlib.Nat.{lt-irrefl}
@@ -10,7 +10,7 @@ use borrow.Author.Tests.{ne-eqb}
 use lib.Dec.{eqb, leb}
 use lib.ListN.{length, getD, set, take, length-set}
 use lib.Seq.{length-take-le, getD-take, getD-set-same, getD-set-other}
-use Rattle.paper.specs.Component.Sizes.{bit, countWhere, labelOf, counted, sizeOf, ofSize, atLeast, Counted, Rank, Largest, Sized}
+use Rattle.paper.specs.Component.Sizes.{countWhere, labelOf, counted, sizeOf, ofSize, atLeast, Counted, Rank, Largest, Sized}
 use Rattle.label.specs.Counting.{count-zero, count-pos, count-ext}
 use Rattle.label.specs.Sizes.{Picked, Histogramming, Histogram, orMore, Place, Top4}
 use Rattle.label.proofs.Ranks.{top-ext}
@@ -32,7 +32,8 @@ module _ {l tally list : List ℕ} {m : ℕ} (z : Sized l tally) (p : Picked l t
   passing : (f : ℕ → Bool) → countWhere (λ t. f (getD (take m list) t 0)) (length (take m list)) ≡ countWhere (λ r. counted l r && f (sizeOf l r)) (length l)
   passing f =
       rw part-long (count-ext (λ t. f (getD (take m list) t 0)) (λ t. f (getD list t 0)) m (λ t tl. ap f (getD-take m list t 0 tl)))
-      ∙ (p .same f ∙ count-ext (λ r. counted l r && f (getD tally r 0)) (λ r. counted l r && f (sizeOf l r)) (length l) (λ r rl. ap (λ (y : ℕ). counted l r && f y) (z .each r rl)))
+      ∙ (p .same f ∙ count-ext (λ r. counted l r && f (getD tally r 0)) (λ r. counted l r && f (sizeOf l r)) (length l)
+      (λ r rl. ap (λ (y : ℕ). counted l r && f y) (z .each r rl)))
 
   pub histogramming : length l ≤ 4096 → Histogramming (take m list) (length l + 1)
   histogramming h = record {

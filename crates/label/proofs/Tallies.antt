@@ -1,6 +1,6 @@
 -- Lists of counts: entry r counts the first i that F r takes. Assumes nothing.
 use Prim.Native.Nat.{ℕ, _+_, _≤_, _<_, zero-le}
-use mathlib.Core.Path.{_≡_, refl, sym, ap, _∙_}
+use mathlib.Core.Path.{_≡_, sym, ap, _∙_}
 use mathlib.Core.Bool.{Bool, true, false}
 use mathlib.Core.List.{List}
 use native.Mathlib.Nat.{le-antisymm}
@@ -8,7 +8,7 @@ use native.Mathlib.Omega.{arith}
 use borrow.Author.Tests.{eq-eqb, ne-eqb}
 use lib.Dec.{eqb}
 use lib.ListN.{length, getD, set, length-set}
-use Rattle.paper.specs.Component.Sizes.{bit, countWhere}
+use Rattle.paper.specs.Component.Sizes.{countWhere}
 use Rattle.label.specs.Counting.{count-none, count-yes, count-no, count-most}
 use Rattle.label.specs.Sizes.{Cleared, Histogramming, Histogram}
 use Rattle.label.proofs.Stores.{AfterSet, AfterSet.here, AfterSet.there, after-set}
@@ -38,7 +38,8 @@ pub record Bins (sizes : List ℕ) (n : ℕ) (counts : List ℕ) (i : ℕ) : Typ
 pub bins-none : (sizes : List ℕ) (n : ℕ) (counts : List ℕ) → Cleared n counts → Bins sizes n counts 0
 bins-none sizes n counts h = record { long = h .long; reached = zero-le; counts-are = λ s l. h .zeros s l ∙ sym (count-none (sized sizes s)) }
 
-module _ {sizes : List ℕ} {n : ℕ} {counts : List ℕ} {i : ℕ} (h : Bins sizes n counts i) (g : Histogramming sizes n) (il : i < length sizes) (k : ℕ) (e : k ≡ getD sizes i 0) where
+module _ {sizes : List ℕ} {n : ℕ} {counts : List ℕ} {i : ℕ} (h : Bins sizes n counts i) (g : Histogramming sizes n) (il : i < length sizes) (k : ℕ)
+    (e : k ≡ getD sizes i 0) where
   pub bin-lt : k < length counts
   bin-lt = rw (e, h .long) (g .low i il)
 
@@ -53,4 +54,8 @@ module _ {sizes : List ℕ} {n : ℕ} {counts : List ℕ} {i : ℕ} (h : Bins si
   }
 
 pub bins-end : {sizes : List ℕ} {n : ℕ} {counts : List ℕ} {i : ℕ} → Bins sizes n counts i → length sizes ≤ i → Histogram sizes counts n
-bins-end {sizes} {n} {counts} {i} h l = record { long = h .long; each = λ s sl. h .counts-are s sl ∙ ap (countWhere (sized sizes s)) (le-antisymm (h .reached) l) }
+bins-end {sizes} {n} {counts} {i} h l = record {
+  long = h .long;
+  each = λ s sl. h .counts-are s sl ∙ ap (countWhere (sized sizes s))
+      (le-antisymm (h .reached) l);
+}

@@ -1,7 +1,7 @@
 -- What the steps of `label` come to. Assumes nothing.
-use Prim.Native.Nat.{ℕ, _+_, _*_, _≤_, _<_, zero-le}
+use Prim.Native.Nat.{ℕ, _+_, _*_, zero-le}
 use mathlib.Core.Path.{_≡_, refl, sym, ap, _∙_}
-use mathlib.Core.Logic.{inl, inr, ⊎-elim}
+use mathlib.Core.Logic.{inr, ⊎-elim}
 use mathlib.Core.Bool.{Bool}
 use mathlib.Core.List.{List}
 use native.Mathlib.Nat.{le-trans, le-of-eq}
@@ -10,10 +10,10 @@ use Rattle.paper.specs.Component.Links.{Linked, Linked.stay, bind}
 use Rattle.paper.specs.Component.Labels.{Bond, Joined, Labels}
 use Rattle.paper.specs.Refusal.Rules.{Sizes}
 use Rattle.lattice.specs.Tables.{cell-lt}
-use Rattle.label.specs.Closure.{Or, one, alike}
+use Rattle.label.specs.Closure.{one, alike}
 use Rattle.label.specs.Contract.{graphOf, Given}
 use Rattle.label.specs.Entry.{ExactLengths, Below}
-use Rattle.label.specs.Forest.{Edge, Keeps}
+use Rattle.label.specs.Forest.{Adds, Edge, Keeps}
 use Rattle.label.specs.Steps.{Own, Part, Bonding, Flattened}
 
 -- the first forest
@@ -36,10 +36,11 @@ module _ {n d : ℕ} {fwd : List ℕ} {f : ℕ → ℕ → Bool} where
   of-bond b = record { from = zero-le; below = b .site; dir = b .dir; dir-lt = b .dir-lt; on = b .on; leads = b .leads }
 
   -- p is the first forest, q has every bond, and l is q made flat
-  pub labelled : {p q l tally : List ℕ} → Own n p → Keeps p (Or (Edge p) (Part d fwd f 0 (length p) d)) q → Flattened q l tally → Labels (graphOf n d fwd) f l
+  pub labelled : {p q l tally : List ℕ} → Own n p → Adds p (Part d fwd f 0 (length p) d) q → Flattened q l tally → Labels (graphOf n d fwd) f l
   labelled {p} {q} {l} o kq h = record {
     long = long;
-    joined = λ i il. bind (λ a b. ⊎-elim (self a b) (λ e. one (to-bond (rw (o .long) at e)))) (bind (kq .same .to) (kl .same .to i (getD l i 0) (record { site = rw long il; parent = refl })));
+    joined = λ i il. bind (λ a b. ⊎-elim (self a b) (λ e. one (to-bond (rw (o .long) at e))))
+        (bind (kq .same .to) (kl .same .to i (getD l i 0) (record { site = rw long il; parent = refl })));
     least = λ i j il jl w. le-trans (le-of-eq (alike (λ (x : ℕ). getD l x 0) root (bind up w))) (kl .down j (rw long jl));
   }
     where
@@ -59,7 +60,8 @@ module _ {n d : ℕ} {fwd : List ℕ} {f : ℕ → ℕ → Bool} where
       root a b e = sym (h .flat a (e .site)) ∙ ap (λ (x : ℕ). getD l x 0) (e .parent)
 
 -- what the entry's tests leave
-pub given-by : {n d : ℕ} {fwd holds : List ℕ} {labels counts sizes tally : ℕ} → Sizes n d 1 → ExactLengths n d (length fwd) (length holds) labels counts sizes → Below n fwd → tally ≡ n
+pub given-by : {n d : ℕ} {fwd holds : List ℕ} {labels counts sizes tally : ℕ} → Sizes n d 1
+    → ExactLengths n d (length fwd) (length holds) labels counts sizes → Below n fwd → tally ≡ n
     → Given n d fwd holds labels tally
 given-by {n} {d} {fwd} z x h e = record {
   n-high = z .n-high;

@@ -2,7 +2,7 @@
 use Prim.Native.Nat.{ℕ}
 use mathlib.Core.Path.{_≡_, refl, sym, _∙_}
 use mathlib.Core.Logic.{_⊎_, inl, inr, ⊎-elim}
-use Rattle.paper.specs.Component.Links.{Linked, Linked.stay, Linked.along, Linked.against, Within, trans, back, bind}
+use Rattle.paper.specs.Component.Links.{Linked, Linked.stay, Linked.along, Linked.against, Within, bind}
 
 -- E and F link the same numbers
 pub record SameLinks (E F : ℕ → ℕ → Type 0) : Type 0 where
@@ -39,7 +39,8 @@ same-trans s t = record {
 pub more : {E′ E G A B C : ℕ → ℕ → Type 0} → SameLinks E′ (Or E G) → SameLinks E (Or A B)
     → ((a b : ℕ) → B a b → C a b) → ((a b : ℕ) → G a b → C a b) → ((a b : ℕ) → C a b → B a b ⊎ G a b) → SameLinks E′ (Or A C)
 more {E′} {E} {G} {A} {B} {C} s t bc gc cbg = record {
-  to = λ a b e. bind (λ a b. ⊎-elim (λ e. bind (λ a b. ⊎-elim (λ h. one (inl h)) (λ h. one (inr (bc a b h)))) (t .to a b e)) (λ g. one (inr (gc a b g)))) (s .to a b e);
+  to = λ a b e. bind (λ a b. ⊎-elim (λ e. bind (λ a b. ⊎-elim (λ h. one (inl h)) (λ h. one (inr (bc a b h)))) (t .to a b e))
+      (λ g. one (inr (gc a b g)))) (s .to a b e);
   from = λ a b. ⊎-elim (λ h. old a b (inl h)) (λ h. ⊎-elim (λ k. old a b (inr k)) (λ g. s .from a b (inr g)) (cbg a b h));
 }
   where

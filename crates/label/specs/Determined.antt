@@ -2,17 +2,15 @@
 use Prim.Native.Nat.{ℕ}
 use mathlib.Core.Path.{_≡_, refl, sym, _∙_, ap}
 use mathlib.Core.List.{List}
-use lib.ListN.{length}
 use lib.Seq.{ext-getD}
-use Rattle.paper.specs.Component.Labels.{Labels}
 use Rattle.paper.specs.Component.Marks.{marked}
-use Rattle.paper.specs.Component.Sizes.{Counted, Largest, Sized}
+use Rattle.paper.specs.Component.Sizes.{Sized}
 use Rattle.paper.specs.Law.Unique.{labels-unique, counts-unique, sizes-unique}
 use Rattle.paper.specs.Refusal.Rule.{Kept, Broken, broken-unique, broken-not-kept}
 use Rattle.label.specs.declared.Labelling.{Labelling}
 use Rattle.label.specs.declared.Labelling.the-variants.{Unlabelled, Written}
 use Rattle.label.specs.Contract.{graphOf, Labelled, Reported}
-use Rattle.label.specs.Entry.{Request, Lent, rules, Refuses, Accepts, Answers}
+use Rattle.label.specs.Entry.{Request, Lent, rules, Accepts, Answers}
 
 -- two lists and two others
 pub record SameTwo (a a′ b b′ : List ℕ) : Type 0 where
@@ -46,7 +44,11 @@ module _ (r : Request) (b y z : Lent) where
       two = count-determined (y .labels) (y .counts) (z .counts) (y .sizes) (z .sizes) (p .seen .reported) (rw l (q .seen .reported))
 
   pub components-determined : (a a′ : Labelling) → Answers r b a y → Answers r b a′ z → Same a a′ y z
-  components-determined (Unlabelled c) (Unlabelled e) p q = record { answer = ap Unlabelled (broken-unique (rules r b) c e (p .why) (q .why)); buffers = p .kept ∙ sym (q .kept) }
+  components-determined (Unlabelled c) (Unlabelled e) p q = record {
+    answer = ap Unlabelled
+        (broken-unique (rules r b) c e (p .why) (q .why));
+    buffers = p .kept ∙ sym (q .kept);
+  }
   components-determined (Unlabelled c) Written p q = absurd (broken-not-kept (rules r b) c (p .why) (q .valid))
   components-determined Written (Unlabelled e) p q = absurd (broken-not-kept (rules r b) e (q .why) (p .valid))
   components-determined Written Written p q = record { answer = refl; buffers = written-same p q }

@@ -1,5 +1,5 @@
 -- What labels and counts say. Assumes nothing.
-use Prim.Native.Nat.{ℕ, suc, _+_, _*_, _≤_, _<_}
+use Prim.Native.Nat.{ℕ, _+_, _*_, _≤_, _<_}
 use mathlib.Core.Path.{_≡_, refl, sym, ap, _∙_}
 use mathlib.Core.Logic.{_↔_, _≢_}
 use mathlib.Core.Bool.{Bool, true, false, cond, _&&_}
@@ -12,7 +12,7 @@ use lib.ListN.{length, getD}
 use Rattle.paper.specs.Panel.Input.{Graph}
 use Rattle.paper.specs.Component.Labels.{Joined, Labels}
 use Rattle.paper.specs.Component.Marks.{marked}
-use Rattle.paper.specs.Component.Sizes.{bit, countWhere, labelOf, counted, sizeOf, ofSize, Counted}
+use Rattle.paper.specs.Component.Sizes.{countWhere, labelOf, counted, sizeOf, Counted}
 use Rattle.paper.specs.Law.Unique.{same-label, label-lt}
 use Rattle.label.specs.Contract.{graphOf, Labelled}
 use Rattle.label.specs.Counting.{count-most}
@@ -24,7 +24,8 @@ pub one-label : {n d : ℕ} {fwd holds l tally : List ℕ} → Labelled n d fwd 
 one-label {n} {d} {fwd} {holds} {l} h = same-label (graphOf n d fwd) (marked d holds) l (h .labels)
 
 -- ---- every site is in one component, so the sizes of all components add up to the number of sites
-module _ (l : List ℕ) (n : ℕ) (long : length l ≡ n) (below : (i : ℕ) → i < n → labelOf l i < n) (flat : (i : ℕ) → i < n → labelOf l (labelOf l i) ≡ labelOf l i) where
+module _ (l : List ℕ) (n : ℕ) (long : length l ≡ n) (below : (i : ℕ) → i < n → labelOf l i < n)
+    (flat : (i : ℕ) → i < n → labelOf l (labelOf l i) ≡ labelOf l i) where
   -- the component r has s sites; the site i has the label r, which is a component's
   of-size : ℕ → ℕ → Bool
   of-size s r = counted l r && eqb (sizeOf l r) s
@@ -52,7 +53,8 @@ module _ (l : List ℕ) (n : ℕ) (long : length l ≡ n) (below : (i : ℕ) →
       go : (b : Bool) → total (λ s. cond (b && eqb (sizeOf l r) s) s 0) (n + 1) ≡ cond b (sizeOf l r) 0
       go true =
           total-ext (λ s. cond (eqb (sizeOf l r) s) s 0) (λ s. cond (eqb (sizeOf l r) s) (sizeOf l r) 0) (n + 1) (λ s _. swap s (eqb (sizeOf l r) s) refl)
-          ∙ total-one (λ s. eqb (sizeOf l r) s) (sizeOf l r) (n + 1) (sizeOf l r) (omega (arith, size-le r)) (eq-eqb (sizeOf l r) (sizeOf l r) refl) (λ k _ ne. ne-eqb (sizeOf l r) k (λ e. ne (sym e)))
+          ∙ total-one (λ s. eqb (sizeOf l r) s) (sizeOf l r) (n + 1) (sizeOf l r) (omega (arith, size-le r)) (eq-eqb (sizeOf l r) (sizeOf l r) refl)
+          (λ k _ ne. ne-eqb (sizeOf l r) k (λ e. ne (sym e)))
       go false = total-zero (n + 1)
 
   -- the sites of r one by one
@@ -89,7 +91,8 @@ module _ (l : List ℕ) (n : ℕ) (long : length l ≡ n) (below : (i : ℕ) →
       each s sl = ap (λ (x : ℕ). s * x) (h .each s (omega arith)) ∙ rw (← long) (total-count s (of-size s) (length l))
 
 -- the number of sites is the sum over all sizes s of s times count s
-pub counts-total : (t : Graph) (holding : ℕ → ℕ → Bool) (l counts : List ℕ) → Labels t holding l → Counted l counts → total (λ s. s * getD counts s 0) (t .n + 1) ≡ t .n
+pub counts-total : (t : Graph) (holding : ℕ → ℕ → Bool) (l counts : List ℕ) → Labels t holding l → Counted l counts
+    → total (λ s. s * getD counts s 0) (t .n + 1) ≡ t .n
 counts-total t holding l counts h = sizes-total l (t .n) (h .long) (label-lt t holding l h) flat counts
   where
     flat : (i : ℕ) → i < t .n → labelOf l (labelOf l i) ≡ labelOf l i

@@ -3,7 +3,7 @@ use Prim.Native.Nat.{ℕ, _≤_, _<_}
 use mathlib.Core.Path.{_≡_}
 use mathlib.Core.List.{List}
 use lib.ListN.{length, getD}
-use Rattle.label.specs.Closure.{SameLinks}
+use Rattle.label.specs.Closure.{SameLinks, Or}
 
 -- the step from a site to its parent
 pub record Edge (p : List ℕ) (x y : ℕ) : Type 0 where
@@ -19,6 +19,10 @@ pub record Keeps (p : List ℕ) (E : ℕ → ℕ → Type 0) (q : List ℕ) : Ty
   pub long : length q ≡ length p
   pub down : Down q
   pub same : SameLinks (Edge q) E
+
+-- q links what p does and the steps of B besides
+abbrev pub Adds : List ℕ → (ℕ → ℕ → Type 0) → List ℕ → Type 0
+Adds p B q = Keeps p (Or (Edge p) B) q
 
 -- the parent of each of the first i sites is a root
 abbrev pub Flat : List ℕ → ℕ → Type 0

@@ -1,13 +1,13 @@
 // Components of holding bonds: the label of each site, how many components there are of each size, and the four largest sizes.
 ghost use mathlib.Core.Path.{_≡_};
 ghost use Prim.Native.Nat.{ℕ, _+_, _≤_, _<_};
-ghost use lib.ListN.{length, getD};
+ghost use lib.ListN.{length};
 ghost use Rattle.paper.specs.Component.Sizes.{bit};
 ghost use Rattle.paper.specs.Component.Marks.{marked, Tells};
-ghost use Rattle.label.specs.Closure.{Or, Only};
-ghost use Rattle.label.specs.Contract.{graphOf, Given, Labelled, Countable, Reported, Room, Seen};
-ghost use Rattle.label.specs.Forest.{Edge, Down, Keeps};
-ghost use Rattle.label.specs.Entry.{ExactLengths, Below, Request, Lent, Answers};
+ghost use Rattle.label.specs.Closure.{Only};
+ghost use Rattle.label.specs.Contract.{Given, Labelled, Countable, Reported, Room, Seen};
+ghost use Rattle.label.specs.Forest.{Adds};
+ghost use Rattle.label.specs.Entry.{ExactLengths, Below, Answers};
 ghost use Rattle.label.specs.Sizes.{Cleared, Picking, Picked, Histogramming, Histogram, orMore, Top4, with, Falling};
 ghost use Rattle.label.specs.Steps.{Own, Climbing, Gathering, Gathered, Listing, Listed, Part, Block, Ends, Bonding, Flattening, Flattened};
 
@@ -38,7 +38,7 @@ fn start(labels: &mut [u32])
 // Links `a` and `b`. Climbs from both at once: the one whose parent is larger gets the smaller parent, and goes on from its old one.
 fn union(labels: &mut [u32], a: usize, b: usize)
     requires { ⌜ Climbing (now labels) a b ⌝ }
-    ensures { λ _. ⌜ Keeps (now (labels .entry)) (Or (Edge (now (labels .entry))) (Only a b)) (now (labels .exit)) ⌝ }
+    ensures { λ _. ⌜ Adds (now (labels .entry)) (Only a b) (now (labels .exit)) ⌝ }
 {
     let mut x = a;
     let mut y = b;
@@ -77,7 +77,7 @@ fn gather(d: usize, k: usize, lo: usize, hi: usize, holds: &[u8], list: &mut [u3
 // Links each listed site to the end of its bond k.
 fn join_listed(d: usize, k: usize, len: usize, fwd: &[u32], list: &[u32], labels: &mut [u32])
     requires { ⌜ Listing d k len (now fwd) (now list) (now labels) ⌝ }
-    ensures { λ _. ⌜ Keeps (now (labels .entry)) (Or (Edge (now (labels .entry))) (Listed d k (now (fwd .entry)) (now (list .entry)) len)) (now (labels .exit)) ⌝ }
+    ensures { λ _. ⌜ Adds (now (labels .entry)) (Listed d k (now (fwd .entry)) (now (list .entry)) len) (now (labels .exit)) ⌝ }
 {
     let mut t = 0;
     while t < len {
@@ -98,7 +98,7 @@ fn join_block(
     list: &mut [u32],
 )
     requires { ⌜ Block d lo hi (now fwd) (now holds) (now labels) (length (now list)) ⌝ }
-    ensures { λ _. ⌜ Keeps (now (labels .entry)) (Or (Edge (now (labels .entry))) (Part d (now (fwd .entry)) (marked d (now (holds .entry))) lo hi d)) (now (labels .exit)) ⌝ }
+    ensures { λ _. ⌜ Adds (now (labels .entry)) (Part d (now (fwd .entry)) (marked d (now (holds .entry))) lo hi d) (now (labels .exit)) ⌝ }
 {
     let mut k = 0;
     while k < d {
@@ -119,7 +119,10 @@ fn block_end(lo: usize, n: usize) -> usize
 // Links the ends of every bond that holds.
 fn uf_bonds(d: usize, fwd: &[u32], holds: &[u8], labels: &mut [u32], list: &mut [u32])
     requires { ⌜ Bonding d (now fwd) (now holds) (now labels) (length (now list)) ⌝ }
-    ensures { λ _. ⌜ Keeps (now (labels .entry)) (Or (Edge (now (labels .entry))) (Part d (now (fwd .entry)) (marked d (now (holds .entry))) 0 (length (now (labels .entry))) d)) (now (labels .exit)) ⌝ }
+    ensures { λ _. ⌜ Adds
+        (now (labels .entry))
+        (Part d (now (fwd .entry)) (marked d (now (holds .entry))) 0 (length (now (labels .entry))) d)
+        (now (labels .exit)) ⌝ }
 {
     let n = labels.len();
     let mut lo = 0;

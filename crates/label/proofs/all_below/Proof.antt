@@ -1,5 +1,5 @@
 -- `all_below` meets its contract: after i turns the flag tells of the numbers below i. Assumes nothing.
-use Prim.Native.Nat.{ℕ, _<_, _-_}
+use Prim.Native.Nat.{_<_, _-_}
 use lib.ListN.{length, getD}
 use Rattle.lattice.specs.Telling.{Flagged, flag-start, flag-more, flag-end, same, test-lt}
 use borrow.Author.Needs.{needs}
@@ -33,7 +33,8 @@ loop-less c = search needs
 loop-again : tie.Need-loop-again Inv-loop μ-loop
 loop-again c =
     let t = c .before .before in
-    flag-more (t .before .loop .inv) (t .loop-test .taken) (same _ (λ h. rw (c .wide .ensures) at h) (λ h. rw (c .wide .ensures) h) (test-lt (c .wide .result) _))
+    flag-more (t .before .loop .inv) (t .loop-test .taken) (same _ (λ h. rw (c .wide .ensures) at h) (λ h. rw (c .wide .ensures) h)
+    (test-lt (c .wide .result) _))
 
 returns : tie.Need-returns Inv-loop μ-loop
 returns c = flag-end (c .before .loop .inv) (c .loop-test .left)

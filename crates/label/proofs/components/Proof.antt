@@ -1,9 +1,7 @@
 -- `components` meets its contract: each place past a test knows that test's rule, and each refusal that the next is broken. Assumes nothing.
-use mathlib.Core.Path.{_≡_, refl, sym}
+use mathlib.Core.Path.{refl}
 use mathlib.Core.Logic.{inl, inr}
-use native.Mathlib.Omega.{arith}
 use denote.Ref.{now}
-use lib.ListN.{length}
 use Rattle.paper.specs.Component.Marks.{passed, refused}
 use Rattle.paper.specs.Refusal.Rule.{Kept}
 use Rattle.paper.specs.Refusal.Rules.{Sizes}
@@ -112,7 +110,13 @@ slice-aggregate-label-and-count c = search needs
 label-and-count-requires : tie.Need-label-and-count-requires
 label-and-count-requires c κs =
     let e = c .before .before .before .before in
-    record { given = given-by (k1 (e1 e)) (k2 (e2 e)) (k3 (e3 e)) refl; counts-long = k2 (e2 e) .counts-long; sizes-long = k2 (e2 e) .sizes-long; tally-fits = k1 (e1 e) .n-high }
+    record {
+      given = given-by (k1 (e1 e)) (k2 (e2 e)) (k3 (e3 e)) refl;
+      counts-long = k2 (e2 e) .counts-long;
+      sizes-long = k2
+          (e2 e) .sizes-long;
+      tally-fits = k1 (e1 e) .n-high;
+    }
 
 same-length : tie.Need-same-length
 same-length c = search needs

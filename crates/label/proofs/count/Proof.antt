@@ -36,7 +36,8 @@ array-share-prefix-list-2 : tie.Need-array-share-prefix-list-2
 array-share-prefix-list-2 c = search needs
 
 slice-aggregate-top4-sizes : tie.Need-slice-aggregate-top4-sizes
-slice-aggregate-top4-sizes c = let g = c .before .before .before .before .before .before .before in sym (part-long (S g .pre .sized) (g .gather-sizes .ensures) (fits g))
+slice-aggregate-top4-sizes c = let g = c .before .before .before .before .before .before .before in sym
+    (part-long (S g .pre .sized) (g .gather-sizes .ensures) (fits g))
 
 top4-sizes-requires : tie.Need-top4-sizes-requires
 top4-sizes-requires c κs = search needs
@@ -66,7 +67,8 @@ returns c =
     let s = S g in
     record {
       counted = counted-are (s .pre .sized) (g .gather-sizes .ensures) (fits g) (rw (s .pre .counts-long) at (u .uf-histogram .ensures));
-      largest = largest-written (s .args .labels .now) (s .args .sizes .now) (s .pre .sizes-long) (largest-are (s .pre .sized) (g .gather-sizes .ensures) (fits g) (c .top4-sizes .ensures));
+      largest = largest-written (s .args .labels .now) (s .args .sizes .now) (s .pre .sizes-long)
+          (largest-are (s .pre .sized) (g .gather-sizes .ensures) (fits g) (c .top4-sizes .ensures));
     }
 
 pub count-spec : {M : Type 1} → statement M

@@ -1,6 +1,6 @@
 -- `gather` meets its contract. Assumes nothing.
-use Prim.Native.Nat.{ℕ, _+_, _*_, _-_, _≤_, _<_}
-use mathlib.Core.Path.{_≡_, sym, ap}
+use Prim.Native.Nat.{ℕ, _+_, _*_, _-_, _<_}
+use mathlib.Core.Path.{sym, ap}
 use native.Mathlib.Omega.{arith}
 use native.Mathlib.Nat.{mul-le-mul, lt-of-lt-of-le, le-antisymm}
 use Rattle.lattice.specs.Tables.{cell-lt}
@@ -71,7 +71,8 @@ loop-again : tie.Need-loop-again Inv-loop μ-loop
 loop-again c =
     let t = c .before .before in
     let h = t .before .loop .inv in
-    gather-more h (t .loop-test .taken) (S t .pre .fits) (holds t) (ap (λ (z : ℕ). eqb (getD (S t .args .holds .now) z 0) 1) (sym (h .cell))) _ (c .one .ensures)
+    gather-more h (t .loop-test .taken) (S t .pre .fits) (holds t) (ap (λ (z : ℕ). eqb (getD (S t .args .holds .now) z 0) 1) (sym (h .cell))) _
+    (c .one .ensures)
 
 same-length : tie.Need-same-length Inv-loop μ-loop
 same-length c = search needs

@@ -1,10 +1,10 @@
 -- `gather_sizes` meets its contract. Assumes nothing.
-use Prim.Native.Nat.{ℕ, _-_, _≤_, _<_}
-use mathlib.Core.Path.{_≡_, sym, ap}
+use Prim.Native.Nat.{ℕ, _-_, _<_}
+use mathlib.Core.Path.{sym, ap}
 use mathlib.Core.Bool.{Bool}
 use native.Mathlib.Omega.{arith}
 use lib.Dec.{eqb}
-use lib.ListN.{length, getD}
+use lib.ListN.{length}
 use Rattle.label.specs.Counting.{bit-le}
 use Rattle.label.proofs.Picks.{Pick, pick-none, pick-room, pick-more, pick-end}
 use borrow.Author.Needs.{needs}
@@ -67,7 +67,8 @@ loop-again : tie.Need-loop-again Inv-loop μ-loop
 loop-again c =
     let w = c .before in
     let t = w .before .before .before in
-    pick-more (t .before .loop .inv) (S t .pre) (t .loop-test .taken) (own w) (ap (λ (z : ℕ). eqb z (t .before .loop .i)) (sym (w .wide .ensures))) _ (c .one .ensures)
+    pick-more (t .before .loop .inv) (S t .pre) (t .loop-test .taken) (own w) (ap (λ (z : ℕ). eqb z (t .before .loop .i)) (sym (w .wide .ensures))) _
+    (c .one .ensures)
 
 same-length : tie.Need-same-length Inv-loop μ-loop
 same-length c = search needs

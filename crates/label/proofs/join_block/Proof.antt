@@ -1,9 +1,9 @@
 -- `join_block` meets its contract. Assumes nothing.
-use Prim.Native.Nat.{ℕ, _+_, _*_, _-_, _≤_, _<_}
-use mathlib.Core.Path.{_≡_, refl, sym}
+use Prim.Native.Nat.{_-_, _≤_}
+use mathlib.Core.Path.{refl, sym}
 use native.Mathlib.Omega.{arith}
 use native.Mathlib.Nat.{le-antisymm, mul-le-mul-right, le-trans, le-of-eq}
-use lib.ListN.{length, getD}
+use lib.ListN.{length}
 use Rattle.paper.specs.Component.Marks.{marked}
 use Rattle.label.specs.Steps.{Part, Bonding}
 use Rattle.label.proofs.Bonds.{Joins, block-start, block-more, bonding-kept}
@@ -21,7 +21,8 @@ abbrev S : tie.In-loop Inv-loop μ-loop → tie.Start Inv-loop μ-loop
 S c = c .before .before .before .before .before .before
 
 -- what the steps ask of the forest at the loop's head
-bonding : (c : tie.In-loop Inv-loop μ-loop) → Bonding (S c .args .d) (S c .args .fwd .now) (S c .args .holds .now) (c .before .loop .labels) (length (c .before .loop .list))
+bonding : (c : tie.In-loop Inv-loop μ-loop) → Bonding (S c .args .d) (S c .args .fwd .now) (S c .args .holds .now) (c .before .loop .labels)
+    (length (c .before .loop .list))
 bonding c = bonding-kept (S c .pre .bonding) (c .before .loop .inv .forest .keeps) (c .before .loop .inv .list-long)
 
 inside : (c : tie.In-loop Inv-loop μ-loop) → S c .args .hi ≤ length (c .before .loop .labels)
@@ -70,7 +71,8 @@ loop-again c =
     let t = g .before .before in
     let s = S t in
     record {
-      forest = block-more (s .args .d) (s .args .fwd .now) (marked (s .args .d) (s .args .holds .now)) (s .args .lo) (s .args .hi) (t .before .loop .inv .forest) (t .loop-test .taken) (g .gather .ensures) (j .join-listed .ensures);
+      forest = block-more (s .args .d) (s .args .fwd .now) (marked (s .args .d) (s .args .holds .now)) (s .args .lo) (s .args .hi)
+          (t .before .loop .inv .forest) (t .loop-test .taken) (g .gather .ensures) (j .join-listed .ensures);
       list-long = omega (arith, t .before .loop .inv .list-long);
     }
 

@@ -1,12 +1,9 @@
 -- `join_listed` meets its contract. Assumes nothing.
-use Prim.Native.Nat.{ℕ, _+_, _*_, _-_, _≤_, _<_}
-use mathlib.Core.Path.{_≡_, refl}
+use Prim.Native.Nat.{_+_, _*_, _-_, _<_}
 use native.Mathlib.Omega.{arith}
 use native.Mathlib.Nat.{le-antisymm}
 use lib.ListN.{length, getD}
 use Rattle.lattice.specs.Tables.{cell-lt}
-use Rattle.label.specs.Closure.{Or}
-use Rattle.label.specs.Forest.{Edge, Keeps}
 use Rattle.label.specs.Steps.{Listed}
 use Rattle.label.proofs.Bonds.{Joining, listed-start, listed-more}
 use borrow.Author.Needs.{needs}
@@ -26,10 +23,12 @@ S c = c .before .before .before .before .before
 site : (c : tie.In-loop Inv-loop μ-loop) → getD (S c .args .list .now) (c .before .loop .t) 0 < length (S c .args .labels .now)
 site c = S c .pre .sites (c .before .loop .t) (c .loop-test .taken)
 
-within : (c : tie.After-wide Inv-loop μ-loop) → c .wide .result * S (c .before .before) .args .d + S (c .before .before) .args .k < length (S (c .before .before) .args .fwd .now)
+within : (c : tie.After-wide Inv-loop μ-loop) → c .wide .result * S (c .before .before) .args .d + S (c .before .before) .args .k < length
+    (S (c .before .before) .args .fwd .now)
 within c =
     let s = S (c .before .before) in
-    rw (s .pre .ahead .fwd-long) (cell-lt (length (s .args .labels .now)) (s .args .d) (c .wide .result) (s .args .k) (rw (c .wide .ensures) (site (c .before .before))) (s .pre .way))
+    rw (s .pre .ahead .fwd-long) (cell-lt (length (s .args .labels .now)) (s .args .d) (c .wide .result) (s .args .k)
+    (rw (c .wide .ensures) (site (c .before .before))) (s .pre .way))
 
 loop-holds : tie.Need-loop-holds Inv-loop μ-loop
 loop-holds c = listed-start _ _ _ _ _ (c .before .before .before .pre .down)
@@ -82,7 +81,8 @@ loop-again c =
     let w = u .before .before .before .before in
     let t = w .before .before in
     let s = S t in
-    listed-more (s .args .d) (s .args .k) (s .args .fwd .now) (s .args .list .now) (t .before .loop .inv) (t .loop-test .taken) (w .wide .ensures) (u .before .wide2 .ensures) (u .union .ensures)
+    listed-more (s .args .d) (s .args .k) (s .args .fwd .now) (s .args .list .now) (t .before .loop .inv) (t .loop-test .taken) (w .wide .ensures)
+    (u .before .wide2 .ensures) (u .union .ensures)
 
 same-length : tie.Need-same-length Inv-loop μ-loop
 same-length c = search needs

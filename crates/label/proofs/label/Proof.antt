@@ -27,7 +27,11 @@ returns c =
     let f = c .before .before .before .before in
     let b = f .before .before .before .before .before .before .before in
     let s = b .before .before .before .before .before in
-    record { labels = labelled (rw (given s .pre .labels-long) at (s .start .ensures)) (b .uf-bonds .ensures) (f .uf-flatten-counts .ensures); sized = f .uf-flatten-counts .ensures .sized }
+    record {
+      labels = labelled (rw (given s .pre .labels-long) at (s .start .ensures)) (b .uf-bonds .ensures)
+          (f .uf-flatten-counts .ensures);
+      sized = f .uf-flatten-counts .ensures .sized;
+    }
 
 pub label-spec : {M : Type 1} → statement M
 label-spec =

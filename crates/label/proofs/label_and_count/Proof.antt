@@ -1,5 +1,4 @@
 -- `label_and_count` meets its contract. Assumes nothing.
-use Prim.Native.Nat.{ℕ}
 use mathlib.Core.Path.{_≡_, sym, _∙_}
 use native.Mathlib.Omega.{arith}
 use lib.ListN.{length, take}
@@ -31,7 +30,8 @@ slice-reshare-prefix-count : tie.Need-slice-reshare-prefix-count
 slice-reshare-prefix-count c = search needs
 
 slice-aggregate-count : tie.Need-slice-aggregate-count
-slice-aggregate-count c = let l = c .before .before .before .before .before .before in rw (take-at (l .label .last .1 .1 .1 .1 .1 .0) _ _ (tally-long l)) (sym (tally-long l))
+slice-aggregate-count c = let l = c .before .before .before .before .before .before in rw
+    (take-at (l .label .last .1 .1 .1 .1 .1 .0) _ _ (tally-long l)) (sym (tally-long l))
 
 count-requires : tie.Need-count-requires
 count-requires c κs =

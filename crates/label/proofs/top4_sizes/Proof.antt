@@ -2,7 +2,7 @@
 use Prim.Native.Nat.{_-_, _≤_}
 use native.Mathlib.Omega.{arith}
 use native.Mathlib.Nat.{le-antisymm}
-use lib.ListN.{length, getD}
+use lib.ListN.{length}
 use Rattle.label.specs.Sizes.{orMore, Top4}
 use Rattle.label.proofs.Ranks.{or-more-falls, top-none, top-more}
 use borrow.Author.Needs.{needs}

@@ -1,11 +1,11 @@
 -- `uf_bonds` meets its contract. Assumes nothing.
-use Prim.Native.Nat.{ℕ, _-_, _≤_, _<_}
-use mathlib.Core.Path.{_≡_, refl}
+use Prim.Native.Nat.{_-_}
+use mathlib.Core.Path.{refl}
 use native.Mathlib.Omega.{arith}
 use native.Mathlib.Nat.{le-antisymm, le-of-lt}
 use lib.ListN.{length}
 use Rattle.paper.specs.Component.Marks.{marked}
-use Rattle.label.specs.Steps.{Part, Bonding}
+use Rattle.label.specs.Steps.{Part}
 use Rattle.label.proofs.Bonds.{Joins, all-start, all-more, bonding-kept}
 use borrow.Author.Needs.{needs}
 use Rattle.label.proofs.uf_bonds.Statement.{statement}
@@ -47,7 +47,8 @@ loop-again c =
     let t = b .before in
     let s = S t in
     record {
-      forest = all-more (s .args .d) (s .args .fwd .now) (marked (s .args .d) (s .args .holds .now)) (t .before .loop .inv .forest) (b .block-end .ensures .some) (b .block-end .ensures .inside) (j .join-block .ensures);
+      forest = all-more (s .args .d) (s .args .fwd .now) (marked (s .args .d) (s .args .holds .now)) (t .before .loop .inv .forest)
+          (b .block-end .ensures .some) (b .block-end .ensures .inside) (j .join-block .ensures);
       list-long = omega (arith, t .before .loop .inv .list-long);
     }
 

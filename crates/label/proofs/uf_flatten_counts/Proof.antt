@@ -1,8 +1,7 @@
 -- `uf_flatten_counts` meets its contract. Assumes nothing.
-use Prim.Native.Nat.{_-_, _≤_, _<_}
-use mathlib.Core.Path.{refl}
+use Prim.Native.Nat.{_-_, _≤_}
 use native.Mathlib.Omega.{arith}
-use lib.ListN.{length, getD, length-set}
+use lib.ListN.{length, length-set}
 use Rattle.label.proofs.Flatten.{Flatten, flatten-start, parent-le, root-le, tally-fits, flatten-more, flatten-end}
 use borrow.Author.Needs.{needs}
 use Rattle.label.proofs.uf_flatten_counts.Statement.{statement}
@@ -22,7 +21,8 @@ low : (c : tie.After-wide Inv-loop μ-loop) → c .wide .result ≤ c .before .b
 low c = let t = c .before .before in parent-le (t .before .loop .inv) (t .loop-test .taken) _ (c .wide .ensures)
 
 root : (c : tie.After-wide2 Inv-loop μ-loop) → c .wide2 .result ≤ c .before .before .before .before .before .loop .i
-root c = let w = c .before .before in let t = w .before .before in root-le (t .before .loop .inv) (t .loop-test .taken) _ (w .wide .ensures) _ (c .wide2 .ensures)
+root c = let w = c .before .before in let t = w .before .before in root-le (t .before .loop .inv) (t .loop-test .taken) _ (w .wide .ensures) _
+    (c .wide2 .ensures)
 
 mul-wide : tie.Need-mul-wide Inv-loop μ-loop
 mul-wide c = search needs
@@ -61,7 +61,8 @@ slice-read-tally : tie.Need-slice-read-tally Inv-loop μ-loop
 slice-read-tally c = simp length-set (omega (arith, root (c .before)))
 
 add-tally : tie.Need-add-tally Inv-loop μ-loop
-add-tally c = let w = c .before .before .before in let t = w .before .before in omega (arith, tally-fits (t .before .loop .inv) (t .loop-test .taken) _ (w .wide .ensures) _ (c .before .wide2 .ensures))
+add-tally c = let w = c .before .before .before in let t = w .before .before in omega
+    (arith, tally-fits (t .before .loop .inv) (t .loop-test .taken) _ (w .wide .ensures) _ (c .before .wide2 .ensures))
 
 mul-tally-3 : tie.Need-mul-tally-3 Inv-loop μ-loop
 mul-tally-3 c = omega (arith, root (c .before))
@@ -76,7 +77,8 @@ loop-less : tie.Need-loop-less Inv-loop μ-loop
 loop-less c = simp length-set (omega arith)
 
 loop-again : tie.Need-loop-again Inv-loop μ-loop
-loop-again c = let w = c .before .before .before in let t = w .before .before in flatten-more (t .before .loop .inv) (t .loop-test .taken) _ (w .wide .ensures) _ (c .before .wide2 .ensures)
+loop-again c = let w = c .before .before .before in let t = w .before .before in flatten-more (t .before .loop .inv) (t .loop-test .taken) _
+    (w .wide .ensures) _ (c .before .wide2 .ensures)
 
 same-length : tie.Need-same-length Inv-loop μ-loop
 same-length c = search needs

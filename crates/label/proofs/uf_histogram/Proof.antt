@@ -46,7 +46,8 @@ slice-read-counts : tie.Need-slice-read-counts Inv-loop μ-loop
 slice-read-counts c = bin (c .before)
 
 add-counts : tie.Need-add-counts Inv-loop μ-loop
-add-counts c = let w = c .before in let t = w .before .before in omega (arith, bin-fits (t .before .loop .inv) (asked t) (t .loop-test .taken) _ (w .wide .ensures))
+add-counts c = let w = c .before in let t = w .before .before in omega
+    (arith, bin-fits (t .before .loop .inv) (asked t) (t .loop-test .taken) _ (w .wide .ensures))
 
 mul-counts-2 : tie.Need-mul-counts-2 Inv-loop μ-loop
 mul-counts-2 c = omega (arith, bin (c .before))

@@ -68,7 +68,11 @@ slice-read-u-2 : tie.Need-slice-read-u-2 Inv-loop μ-loop
 slice-read-u-2 c = climb-y (climb-turn (c .before .before .before .before .loop .inv)) _ (c .before .wide2 .ensures) (smaller (c .before .before)) .y-lt
 
 loop-less-2 : tie.Need-loop-less-2 Inv-loop μ-loop
-loop-less-2 c = omega (arith, climb-falls (climb-turn (c .before .before .before .before .loop .inv)) _ (c .before .wide2 .ensures) (smaller (c .before .before)))
+loop-less-2 c = omega (
+  arith,
+  climb-falls (climb-turn (c .before .before .before .before .loop .inv)) _ (c .before .wide2 .ensures)
+      (smaller (c .before .before)),
+)
 
 loop-again-2 : tie.Need-loop-again-2 Inv-loop μ-loop
 loop-again-2 c = climb-turn (climb-y (climb-turn (c .before .before .before .before .loop .inv)) _ (c .before .wide2 .ensures) (smaller (c .before .before)))
