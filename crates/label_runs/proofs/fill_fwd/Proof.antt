@@ -1,0 +1,61 @@
+-- `fill_fwd` keeps its indices in range and ends. Assumes nothing.
+use Prim.Native.Nat.{_-_, _≤_}
+use mathlib.Core.Path.{_≡_}
+use native.Mathlib.Omega.{arith}
+use lib.ListN.{length, length-set}
+use borrow.Author.Needs.{needs}
+use Rattle.label_runs.proofs.fill_fwd.Statement.{statement}
+use Rattle.label_runs.proofs.fill_fwd.Tie as tie
+
+abbrev Inv-loop : tie.InvT-loop
+Inv-loop seed n fwd₀ s₀ i₀ fwd s i = (length fwd ≡ length fwd₀) × (i ≤ length fwd)
+
+abbrev μ-loop : tie.MeasureT-loop
+μ-loop seed n fwd₀ s₀ i₀ fwd s i = length fwd - i
+
+loop-holds : tie.Need-loop-holds Inv-loop μ-loop
+loop-holds c = search needs
+
+next-requires : tie.Need-next-requires Inv-loop μ-loop
+next-requires c κs = search needs
+
+draw-requires : tie.Need-draw-requires Inv-loop μ-loop
+draw-requires c κs = search needs
+
+mul-fwd : tie.Need-mul-fwd Inv-loop μ-loop
+mul-fwd c = search needs
+
+slice-write-fwd : tie.Need-slice-write-fwd Inv-loop μ-loop
+slice-write-fwd c = search needs
+
+add-i : tie.Need-add-i Inv-loop μ-loop
+add-i c = search needs
+
+loop-less : tie.Need-loop-less Inv-loop μ-loop
+loop-less c = simp length-set (omega arith)
+
+loop-again : tie.Need-loop-again Inv-loop μ-loop
+loop-again c = simp length-set (omega arith)
+
+same-length : tie.Need-same-length Inv-loop μ-loop
+same-length c = search needs
+
+returns : tie.Need-returns Inv-loop μ-loop
+returns c = search needs
+
+pub fill-fwd-spec : {M : Type 1} → statement M
+fill-fwd-spec =
+    tie.close
+    (tie.spec
+    Inv-loop
+    μ-loop
+    loop-holds
+    next-requires
+    draw-requires
+    mul-fwd
+    slice-write-fwd
+    add-i
+    loop-less
+    loop-again
+    same-length
+    returns)
