@@ -8,7 +8,7 @@ ghost use Rattle.paper.specs.Component.Marks.{Tells};
 ghost use Rattle.paper.specs.Answer.Frame.{bytes, words, signed, Frame, FrameSizes, GroupSize};
 ghost use Rattle.frame.specs.Digits.{Digit, Valued};
 ghost use Rattle.frame.specs.Lines.{byteAt, wordAt, TwoDigits, FourDigits, DigitsEnd};
-ghost use Rattle.frame.specs.Found.{LineAt, Lent, sizesIn, latticeOf, groupIn, ScannedAs};
+ghost use Rattle.frame.specs.Found.{LineAt, AfterAs, Lent, sizesIn, latticeOf, groupIn, Headed, Tabled, ScannedAs};
 
 // The sizes that the first line says.
 pub struct Sizes {
@@ -17,10 +17,11 @@ pub struct Sizes {
     pub s: usize,
 }
 
-// Where the lines of a text that is spelt well begin; the second begins at 11.
+// Where the lines of a text that is spelt well begin.
 struct Places {
     sizes: Sizes,
     len: usize,
+    spins: usize,
     fwd: usize,
     group: usize,
     perms: usize,
@@ -31,10 +32,15 @@ enum Scanned {
     Whole(Places),
 }
 
-// A line at a place of the text: no frame of the tag asked for, or one of so many bytes behind the tag.
+// A line at a place of the text: no frame of the tag asked for, or one of so many bytes behind the tag, and where the next begins.
 enum Line {
     Bad,
-    Good(usize),
+    Good(usize, usize),
+}
+
+enum Next {
+    Nowhere,
+    At(usize),
 }
 
 fn is_digit(a: u8) -> bool
@@ -86,7 +92,7 @@ fn digits_end(text: &[u8], at: usize) -> usize
 
 fn line_at(text: &[u8], at: usize, tag: u8) -> Line
     requires { ⌜ at ≤ length (now text) ⌝ }
-    ensures { λ r. ⌜ LineAt tag (drop at (now (text .entry))) r ⌝ }
+    ensures { λ r. ⌜ LineAt tag (now (text .entry)) at r ⌝ }
 {
     let e = digits_end(text, at);
     if e == text.len() {
@@ -105,21 +111,21 @@ fn line_at(text: &[u8], at: usize, tag: u8) -> Line
     if byte_at(text, at) != tag {
         return Line::Bad;
     }
-    Line::Good(w - 1)
+    Line::Good(w - 1, e + 1)
 }
 
-// The line is there and has m bytes behind its tag.
-fn framed(text: &[u8], at: usize, tag: u8, m: usize) -> bool
+// The place behind a frame of the tag and of m bytes.
+fn after(text: &[u8], at: usize, tag: u8, m: usize) -> Next
     requires { ⌜ at ≤ length (now text) ⌝ }
-    ensures { λ r. ⌜ Tells r (Frame tag m (drop at (now (text .entry)))) ⌝ }
+    ensures { λ r. ⌜ AfterAs tag m (now (text .entry)) at r ⌝ }
 {
-    let Line::Good(count) = line_at(text, at, tag) else {
-        return false;
+    let Line::Good(count, next) = line_at(text, at, tag) else {
+        return Next::Nowhere;
     };
     if count != m {
-        return false;
+        return Next::Nowhere;
     }
-    true
+    Next::At(next)
 }
 
 fn word_at(text: &[u8], p: usize) -> u32
@@ -236,4 +242,59 @@ fn read_group(text: &[u8], at: usize, len: usize) -> Group
         k += 1;
     }
     Group { len, systems }
+}
+
+// The group line, the permutations and the text's end.
+fn scan_group(text: &[u8], sizes: Sizes, spins: usize, fwd: usize, group: usize) -> Scanned
+    requires { ⌜ Tabled (now text) sizes spins fwd group ⌝ }
+    ensures { λ r. ⌜ ScannedAs (now (text .entry)) r ⌝ }
+{
+    let Line::Good(len, perms) = line_at(text, group, 0x13) else {
+        return Scanned::Wrong(11);
+    };
+    if !group_size(len) {
+        return Scanned::Wrong(1);
+    }
+    let Next::At(end) = after(text, perms, 0x14, sizes.n * len) else {
+        return Scanned::Wrong(11);
+    };
+    if end != text.len() {
+        return Scanned::Wrong(11);
+    }
+    Scanned::Whole(Places {
+        sizes,
+        len,
+        spins,
+        fwd,
+        group,
+        perms,
+    })
+}
+
+// The spins and the neighbours.
+fn scan_tables(text: &[u8], sizes: Sizes, spins: usize) -> Scanned
+    requires { ⌜ Headed (now text) sizes spins ⌝ }
+    ensures { λ r. ⌜ ScannedAs (now (text .entry)) r ⌝ }
+{
+    let Next::At(fwd) = after(text, spins, 0x11, sizes.s * sizes.n) else {
+        return Scanned::Wrong(11);
+    };
+    let Next::At(group) = after(text, fwd, 0x12, 2 * (sizes.n * sizes.d)) else {
+        return Scanned::Wrong(11);
+    };
+    scan_group(text, sizes, spins, fwd, group)
+}
+
+// Every fault of spelling and size is found here, before anything is written.
+fn scan(text: &[u8]) -> Scanned
+    ensures { λ r. ⌜ ScannedAs (now (text .entry)) r ⌝ }
+{
+    let Next::At(spins) = after(text, 0, 0x10, 4) else {
+        return Scanned::Wrong(11);
+    };
+    let sizes = sizes_in(text);
+    if !in_range(sizes) {
+        return Scanned::Wrong(1);
+    }
+    scan_tables(text, sizes, spins)
 }

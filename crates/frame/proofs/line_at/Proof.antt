@@ -5,7 +5,8 @@ use native.Mathlib.Omega.{arith}
 use lib.ListN.{drop}
 use denote.Ref.{now}
 use Rattle.paper.specs.Answer.Frame.{Spelt}
-use Rattle.frame.specs.Lines.{TwoDigits, LineEnd, ended, line-of}
+use Rattle.frame.specs.Lines.{TwoDigits, LineEnd, ended}
+use Rattle.frame.specs.Found.{passed-line}
 use borrow.Author.Needs.{needs}
 use Rattle.frame.proofs.line_at.Statement.{statement}
 use Rattle.frame.proofs.line_at.Tie as tie
@@ -60,8 +61,11 @@ byte-at-requires c κs = two c
 returns-5 : tie.Need-returns-5
 returns-5 c = λ s. c .if5 .taken (c .before .byte-at .ensures ∙ spelt (E2 (c .before .before .before .before)) s .tagged)
 
+add-t6 : tie.Need-add-t6
+add-t6 c = omega arith
+
 returns-6 : tie.Need-returns-6
-returns-6 c = line-of _ _ _ _ _ (E2 (c .before .before .before .before) .digits-end .ensures) (omega arith) (c .before .before .before .before .if2 .left) (omega arith) (sym (c .before .byte-at .ensures) ∙ c .if5 .left)
+returns-6 c = passed-line _ _ _ _ _ (search needs) (E2 (c .before .before .before .before) .digits-end .ensures) (omega arith) (c .before .before .before .before .if2 .left) (omega arith) (sym (c .before .byte-at .ensures) ∙ c .if5 .left)
 
 pub line-at-spec : {M : Type 1} → statement M
 line-at-spec =
@@ -78,4 +82,5 @@ line-at-spec =
     returns-4
     byte-at-requires
     returns-5
+    add-t6
     returns-6)
