@@ -11,7 +11,7 @@ use Rattle.paper.specs.Answer.Frame.{next, bytes, Spelt, Frame, FrameSizes, Gro
 use Rattle.frame.specs.declared.Sizes.{Sizes}
 use Rattle.frame.specs.declared.Places.{Places}
 use Rattle.frame.specs.Spelling.{line2, line3, line4, line5, spellingRules, Spelling}
-use Rattle.frame.specs.Found.{Passed, sizesIn, latticeOf, Headed, Tabled, Placed}
+use Rattle.frame.specs.Scan.{Passed, sizesIn, latticeOf, Headed, Tabled, Placed}
 
 -- the last three
 abbrev groupRules : List ℕ → List Rule
@@ -22,7 +22,7 @@ groupRules t =
     ∷ []
 
 -- ---- the first line
-bare : (t : List ℕ) → FrameSizes (frameLattice t []) → FrameSizes (latticeOf (sizesIn t))
+pub bare : (t : List ℕ) → FrameSizes (frameLattice t []) → FrameSizes (latticeOf (sizesIn t))
 bare t s = record { n-low = s .n-low; n-high = s .n-high; d-low = s .d-low; d-high = s .d-high; s-low = s .s-low; s-high = s .s-high }
 
 whole : (t : List ℕ) → FrameSizes (latticeOf (sizesIn t)) → FrameSizes (frameLattice t [])

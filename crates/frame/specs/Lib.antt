@@ -4,4 +4,6 @@ pub mod Lines
 pub mod Spelling
 pub mod Entries
 pub mod Fill
-pub mod Found
+pub mod Scan
+pub mod Reading
+pub mod Determined

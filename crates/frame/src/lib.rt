@@ -8,13 +8,26 @@ ghost use Rattle.paper.specs.Component.Marks.{Tells};
 ghost use Rattle.paper.specs.Answer.Frame.{bytes, words, signed, Frame, FrameSizes, GroupSize};
 ghost use Rattle.frame.specs.Digits.{Digit, Valued};
 ghost use Rattle.frame.specs.Lines.{byteAt, wordAt, TwoDigits, FourDigits, DigitsEnd};
-ghost use Rattle.frame.specs.Found.{LineAt, AfterAs, Lent, sizesIn, latticeOf, groupIn, Headed, Tabled, ScannedAs};
+ghost use Rattle.frame.specs.Scan.{LineAt, AfterAs, Lent, sizesIn, latticeOf, groupIn, Headed, Tabled, Placed, ScannedAs};
+ghost use Rattle.frame.specs.Reading.{Rooms, noGroup, Held, ReadAs};
 
 // The sizes that the first line says.
 pub struct Sizes {
     pub n: usize,
     pub d: usize,
     pub s: usize,
+}
+
+// What a text is: refused with a number, or a panel of these sizes.
+pub enum Found {
+    Fault(u8),
+    Panel(Sizes),
+}
+
+// With the group; of a text that is refused, none.
+pub struct Frames {
+    pub found: Found,
+    pub group: Group,
 }
 
 // Where the lines of a text that is spelt well begin.
@@ -297,4 +310,53 @@ fn scan(text: &[u8]) -> Scanned
         return Scanned::Wrong(1);
     }
     scan_tables(text, sizes, spins)
+}
+
+fn faulty(r: u8) -> Frames
+    ensures { λ f. ⌜ f ≡ record { found = Found.Fault r; group = noGroup } ⌝ }
+{
+    let group = Group {
+        len: 0,
+        systems: [0; 8],
+    };
+    Frames {
+        found: Found::Fault(r),
+        group,
+    }
+}
+
+fn fill(text: &[u8], p: Places, spins: &mut [i8], fwd: &mut [u32], perms: &mut [u8]) -> Frames
+    requires { ⌜ Rooms (length (now spins)) (length (now fwd)) (length (now perms)) ⌝ }
+    requires { ⌜ Placed (now text) p ⌝ }
+    ensures { λ r. ⌜ ReadAs
+        (now (text .entry))
+        (record { spins = now (spins .entry); fwd = now (fwd .entry); perms = now (perms .entry) })
+        r
+        (record { spins = now (spins .exit); fwd = now (fwd .exit); perms = now (perms .exit) }) ⌝ }
+{
+    let sizes = p.sizes;
+    let len = p.len;
+    fill_spins(text, p.spins, sizes.s * sizes.n, spins);
+    fill_words(text, p.fwd, sizes.n * sizes.d, fwd);
+    fill_bytes(text, p.perms, sizes.n * len, perms);
+    let group = read_group(text, p.group, len);
+    Frames {
+        found: Found::Panel(sizes),
+        group,
+    }
+}
+
+// The rules on spelling and sizes are tested first; then the spins, the neighbours and the permutations are written from the front of their buffers.
+pub fn read(text: &[u8], spins: &mut [i8], fwd: &mut [u32], perms: &mut [u8]) -> Frames
+    requires { ⌜ Rooms (length (now spins)) (length (now fwd)) (length (now perms)) ⌝ }
+    ensures { λ r. ⌜ ReadAs
+        (now (text .entry))
+        (record { spins = now (spins .entry); fwd = now (fwd .entry); perms = now (perms .entry) })
+        r
+        (record { spins = now (spins .exit); fwd = now (fwd .exit); perms = now (perms .exit) }) ⌝ }
+{
+    match scan(text) {
+        Scanned::Wrong(r) => faulty(r),
+        Scanned::Whole(p) => fill(text, p, spins, fwd, perms),
+    }
 }

@@ -1,7 +1,7 @@
 -- `frame::after` meets its contract. Assumes nothing.
 use mathlib.Core.Path.{_≡_, sym, _∙_, subst}
 use denote.Ref.{now}
-use Rattle.frame.specs.Found.{LineAt, Passed, passed-of}
+use Rattle.frame.specs.Scan.{LineAt, Passed, passed-of}
 use borrow.Author.Needs.{needs}
 use Rattle.frame.proofs.after.Statement.{statement}
 use Rattle.frame.proofs.after.Tie as tie

@@ -6,7 +6,7 @@ use lib.ListN.{drop}
 use denote.Ref.{now}
 use Rattle.paper.specs.Answer.Frame.{Spelt}
 use Rattle.frame.specs.Lines.{TwoDigits, LineEnd, ended}
-use Rattle.frame.specs.Found.{passed-line}
+use Rattle.frame.specs.Scan.{passed-line}
 use borrow.Author.Needs.{needs}
 use Rattle.frame.proofs.line_at.Statement.{statement}
 use Rattle.frame.proofs.line_at.Tie as tie

@@ -2,7 +2,7 @@
 use mathlib.Core.Path.{subst}
 use denote.Ref.{now}
 use Rattle.paper.specs.Component.Marks.{passed, refused}
-use Rattle.frame.specs.Found.{AfterAs, Passed}
+use Rattle.frame.specs.Scan.{AfterAs, Passed}
 use Rattle.frame.proofs.Steps.{no-head, no-sizes, headed}
 use borrow.Author.Needs.{needs}
 use Rattle.frame.proofs.scan.Statement.{statement}

@@ -5,7 +5,7 @@ use native.Mathlib.Omega.{arith}
 use denote.Ref.{now}
 use Rattle.paper.specs.Answer.Frame.{GroupSize}
 use Rattle.paper.specs.Component.Marks.{passed, refused}
-use Rattle.frame.specs.Found.{LineAt, AfterAs, Passed}
+use Rattle.frame.specs.Scan.{LineAt, AfterAs, Passed}
 use Rattle.frame.proofs.Steps.{no-group, no-group-size, perms-small, no-perms, no-end, placed}
 use borrow.Author.Needs.{needs}
 use Rattle.frame.proofs.scan_group.Statement.{statement}

@@ -3,7 +3,7 @@ use Prim.Native.Nat.{_*_}
 use mathlib.Core.Path.{subst}
 use native.Mathlib.Omega.{arith}
 use denote.Ref.{now}
-use Rattle.frame.specs.Found.{AfterAs, Passed}
+use Rattle.frame.specs.Scan.{AfterAs, Passed}
 use Rattle.frame.proofs.Steps.{spins-small, bonds-small, no-spins, no-fwd, tabled}
 use borrow.Author.Needs.{needs}
 use Rattle.frame.proofs.scan_tables.Statement.{statement}

@@ -1,0 +1,53 @@
+-- What each public function's promise allows for one input is one answer and one content of every lent buffer. Assumes nothing.
+use Prim.Native.Nat.{ℕ, _*_}
+use mathlib.Core.Path.{_≡_, refl, sym, _∙_, ap}
+use mathlib.Core.List.{List, _++_, map}
+use lib.ListN.{drop}
+use Rattle.paper.specs.declared.Group.{Group}
+use Rattle.paper.specs.Refusal.Rule.{broken-unique, broken-not-kept}
+use Rattle.paper.specs.Answer.Frame.{bytes, words, signed}
+use Rattle.frame.specs.declared.Sizes.{Sizes}
+use Rattle.frame.specs.declared.Found.{Found}
+use Rattle.frame.specs.declared.Found.the-variants.{Fault, Panel}
+use Rattle.frame.specs.declared.Frames.{Frames}
+use Rattle.frame.specs.Spelling.{line2, line3, line5, spellingRules}
+use Rattle.frame.specs.Reading.{Held, FoundAs, ReadAs}
+
+pub record SameRead (r r′ : Frames) (a a′ : Held) : Type 0 where
+  pub answer : r ≡ r′
+  pub held : a ≡ a′
+
+frames : Found → Group → Frames
+frames f g = record { found = f; group = g }
+
+read-same : (text : List ℕ) (b : Held) (f f′ : Found) (g g′ : Group) (a a′ : Held) → FoundAs text b f g a → FoundAs text b f′ g′ a′ → SameRead (frames f g) (frames f′ g′) a a′
+unfolding frames
+read-same text b (Fault r) (Fault r′) g g′ a a′ p q = record {
+  answer = λ i. record { found = Fault (broken-unique (spellingRules text) r r′ (p .why) (q .why) i); group = (p .group ∙ sym (q .group)) i };
+  held = p .kept ∙ sym (q .kept);
+}
+read-same text b (Fault r) (Panel z) g g′ a a′ p q = absurd (broken-not-kept (spellingRules text) r (p .why) (q .spelt))
+read-same text b (Panel z) (Fault r) g g′ a a′ p q = absurd (broken-not-kept (spellingRules text) r (q .why) (p .spelt))
+read-same text b (Panel z) (Panel z′) g g′ a a′ p q = record {
+  answer = λ i. record { found = Panel (sizes i); group = group i };
+  held = λ i. record { spins = spins i; fwd = fwd i; perms = perms i };
+}
+  where
+    sizes : z ≡ z′
+    sizes = p .sizes ∙ sym (q .sizes)
+
+    group : g ≡ g′
+    group = p .group ∙ sym (q .group)
+
+    spins : a .spins ≡ a′ .spins
+    spins = p .spins ∙ (ap (λ (y : Sizes). map signed (bytes (line2 text)) ++ drop (y .s * y .n) (b .spins)) sizes ∙ sym (q .spins))
+
+    fwd : a .fwd ≡ a′ .fwd
+    fwd = p .fwd ∙ (ap (λ (y : Sizes). words (bytes (line3 text)) ++ drop (y .n * y .d) (b .fwd)) sizes ∙ sym (q .fwd))
+
+    perms : a .perms ≡ a′ .perms
+    perms = p .perms ∙ ((λ i. bytes (line5 text) ++ drop (sizes i .n * group i .len) (b .perms)) ∙ sym (q .perms))
+
+pub read-determined : (text : List ℕ) (b : Held) (r r′ : Frames) (a a′ : Held) → ReadAs text b r a → ReadAs text b r′ a′ → SameRead r r′ a a′
+unfolding frames
+read-determined text b r r′ a a′ p q = read-same text b (r .found) (r′ .found) (r .group) (r′ .group) a a′ p q
