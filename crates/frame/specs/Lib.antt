@@ -6,4 +6,5 @@ pub mod Entries
 pub mod Fill
 pub mod Scan
 pub mod Reading
+pub mod Writing
 pub mod Determined

@@ -12,6 +12,12 @@ use lib.Signed.{mag}
 use Rattle.paper.specs.Answer.Frame.{words, twoBytes, signed, spinByte}
 use Rattle.frame.specs.Digits.{Below}
 
+twice : (k : ℕ) → 2 * suc k ≡ suc (suc (2 * k))
+twice k = omega arith
+
+twice-one : (k : ℕ) → suc (suc (2 * k)) + 1 ≡ suc (suc (2 * k + 1))
+twice-one k = omega arith
+
 pub words-length : (bs : List ℕ) (m : ℕ) → length bs ≡ 2 * m → length (words bs) ≡ m
 unfolding words
 words-length [] m e = omega arith
@@ -25,12 +31,6 @@ words-at [] k l = absurd (omega arith)
 words-at (a ∷ []) k l = absurd (omega arith)
 words-at (a ∷ (b ∷ r)) zero l = refl
 words-at (a ∷ (b ∷ r)) (suc k) l = rw (twice k, twice-one k) (words-at r k (omega arith))
-  where
-    twice : (k : ℕ) → 2 * suc k ≡ suc (suc (2 * k))
-    twice k = omega arith
-
-    twice-one : (k : ℕ) → suc (suc (2 * k)) + 1 ≡ suc (suc (2 * k + 1))
-    twice-one k = omega arith
 
 pub twoBytes-length : (xs : List ℕ) → length (twoBytes xs) ≡ 2 * length xs
 unfolding twoBytes
@@ -43,6 +43,18 @@ twoBytes-small [] h k l = absurd (omega arith)
 twoBytes-small (x ∷ xs) h zero l = let s = h 0 (omega arith) in omega arith
 twoBytes-small (x ∷ xs) h (suc zero) l = omega arith
 twoBytes-small (x ∷ xs) h (suc (suc k)) l = twoBytes-small xs (λ j q. h (suc j) (omega arith)) k (omega arith)
+
+pub twoBytes-high : (xs : List ℕ) (k : ℕ) → k < length xs → getD (twoBytes xs) (2 * k) 0 ≡ getD xs k 0 / 256
+unfolding twoBytes
+twoBytes-high [] k l = absurd (omega arith)
+twoBytes-high (x ∷ xs) zero l = refl
+twoBytes-high (x ∷ xs) (suc k) l = rw (twice k) (twoBytes-high xs k (omega arith))
+
+pub twoBytes-low : (xs : List ℕ) (k : ℕ) → k < length xs → getD (twoBytes xs) (2 * k + 1) 0 ≡ getD xs k 0 % 256
+unfolding twoBytes
+twoBytes-low [] k l = absurd (omega arith)
+twoBytes-low (x ∷ xs) zero l = refl
+twoBytes-low (x ∷ xs) (suc k) l = rw (twice k, twice-one k) (twoBytes-low xs k (omega arith))
 
 -- what is written in two bytes reads back
 pub words-twoBytes : (xs : List ℕ) → words (twoBytes xs) ≡ xs

@@ -1,14 +1,16 @@
 // The frame program's text, read into numbers and written from them.
 use paper::Group;
 ghost use mathlib.Core.Path.{_≡_};
-ghost use Prim.Native.Nat.{_+_, _*_, _≤_, _<_};
+ghost use Prim.Native.Nat.{_+_, _*_, _/_, _%_, _≤_, _<_};
 ghost use lib.ListN.{length, drop};
-ghost use mathlib.Core.List.{_++_, map};
+ghost use mathlib.Core.List.{[], _∷_, _++_, map};
+ghost use lib.Seq.{sets};
 ghost use Rattle.paper.specs.Component.Marks.{Tells};
-ghost use Rattle.paper.specs.Answer.Frame.{bytes, words, signed, Frame, FrameSizes, GroupSize};
-ghost use Rattle.frame.specs.Digits.{Digit, Valued};
+ghost use Rattle.paper.specs.Answer.Frame.{digit, hex, line, refusal, twoBytes, spinByte, bytes, words, signed, Frame, FrameSizes, GroupSize};
+ghost use Rattle.frame.specs.Digits.{Digit, Valued, Below};
 ghost use Rattle.frame.specs.Lines.{byteAt, wordAt, TwoDigits, FourDigits, DigitsEnd};
 ghost use Rattle.frame.specs.Scan.{LineAt, AfterAs, Lent, sizesIn, latticeOf, groupIn, Headed, Tabled, Placed, ScannedAs};
+ghost use Rattle.frame.specs.Writing.{TwoByte, resultOf, WrittenAs, Room, Put};
 ghost use Rattle.frame.specs.Reading.{Rooms, noGroup, Held, ReadAs};
 
 // The sizes that the first line says.
@@ -28,6 +30,12 @@ pub enum Found {
 pub struct Frames {
     pub found: Found,
     pub group: Group,
+}
+
+// So many bytes are written; or there is no room for the answer, and nothing is written.
+pub enum Written {
+    Wrote(usize),
+    NoRoom,
 }
 
 // Where the lines of a text that is spelt well begin.
@@ -359,4 +367,108 @@ pub fn read(text: &[u8], spins: &mut [i8], fwd: &mut [u32], perms: &mut [u8]) ->
         Scanned::Wrong(r) => faulty(r),
         Scanned::Whole(p) => fill(text, p, spins, fwd, perms),
     }
+}
+
+fn digit_of(x: u8) -> u8
+    requires { ⌜ x < 16 ⌝ }
+    ensures { λ r. ⌜ r ≡ digit x ⌝ }
+{
+    if x < 10 { 48 + x } else { 87 + x }
+}
+
+// A byte's two digits.
+fn put_byte(b: u8, out: &mut [u8], at: usize)
+    requires { ⌜ at + 1 < length (now out) ⌝ }
+    ensures { λ _. ⌜ now (out .exit) ≡ sets (now (out .entry)) at (hex (b ∷ [])) ⌝ }
+{
+    out[at] = digit_of(b / 16);
+    out[at + 1] = digit_of(b % 16);
+}
+
+// A number's two bytes, high first.
+fn put_word(x: u32, out: &mut [u8], at: usize)
+    requires { ⌜ (x < 65536) × (at + 3 < length (now out)) ⌝ }
+    ensures { λ _. ⌜ now (out .exit) ≡ sets (now (out .entry)) at (hex (x / 256 ∷ x % 256 ∷ [])) ⌝ }
+{
+    put_byte((x / 256) as u8, out, at);
+    put_byte((x % 256) as u8, out, at + 2);
+}
+
+fn put_words(tag: u8, xs: &[u32], out: &mut [u8], at: usize) -> usize
+    requires { ⌜ Room (line tag (twoBytes (now xs))) at (length (now out)) ⌝ }
+    requires { ⌜ Below 65536 (now xs) ⌝ }
+    ensures { λ r. ⌜ Put (line tag (twoBytes (now (xs .entry)))) (now (out .entry)) at r (now (out .exit)) ⌝ }
+{
+    put_byte(tag, out, at);
+    let mut k = 0;
+    while k < xs.len() {
+        put_word(xs[k], out, at + 4 * k + 2);
+        k += 1;
+    }
+    let end = at + 4 * xs.len() + 2;
+    out[end] = 10;
+    end + 1
+}
+
+fn spin_byte(z: i8) -> u8
+    ensures { λ r. ⌜ r ≡ spinByte z ⌝ }
+{
+    if z < 0 {
+        255 - ((-1 - z) as u8)
+    } else {
+        z as u8
+    }
+}
+
+fn put_spins(tag: u8, xs: &[i8], out: &mut [u8], at: usize) -> usize
+    requires { ⌜ Room (line tag (map spinByte (now xs))) at (length (now out)) ⌝ }
+    ensures { λ r. ⌜ Put (line tag (map spinByte (now (xs .entry)))) (now (out .entry)) at r (now (out .exit)) ⌝ }
+{
+    put_byte(tag, out, at);
+    let mut k = 0;
+    while k < xs.len() {
+        put_byte(spin_byte(xs[k]), out, at + 2 * k + 2);
+        k += 1;
+    }
+    let end = at + 2 * xs.len() + 2;
+    out[end] = 10;
+    end + 1
+}
+
+// The three lines of an accepted move.
+pub fn write(labels: &[u32], counts: &[u32], spins: &[i8], out: &mut [u8]) -> Written
+    requires { ⌜ TwoByte (now labels) (now counts) ⌝ }
+    ensures { λ r. ⌜ WrittenAs (resultOf (now (labels .entry)) (now (counts .entry)) (now (spins .entry))) (now (out .entry)) r (now (out .exit)) ⌝ }
+{
+    // No sum here can wrap, however long the slices are.
+    let words = 4 * labels.len() + 4 * counts.len() + 6;
+    if out.len() < words {
+        return Written::NoRoom;
+    }
+    let left = out.len() - words;
+    if left < 3 {
+        return Written::NoRoom;
+    }
+    if (left - 3) / 2 < spins.len() {
+        return Written::NoRoom;
+    }
+    let second = put_words(0x20, labels, out, 0);
+    let third = put_words(0x21, counts, out, second);
+    let end = put_spins(0x22, spins, out, third);
+    Written::Wrote(end)
+}
+
+// The one line of a refusal.
+pub fn write_refusal(r: u8, out: &mut [u8]) -> Written
+    ensures { λ w. ⌜ WrittenAs (refusal r) (now (out .entry)) w (now (out .exit)) ⌝ }
+{
+    if out.len() < 5 {
+        return Written::NoRoom;
+    }
+    out[0] = 50;
+    out[1] = 102;
+    out[2] = 48 + r / 10;
+    out[3] = 48 + r % 10;
+    out[4] = 10;
+    Written::Wrote(5)
 }
