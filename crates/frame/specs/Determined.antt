@@ -2,16 +2,21 @@
 use Prim.Native.Nat.{ℕ, _*_}
 use mathlib.Core.Path.{_≡_, refl, sym, _∙_, ap}
 use mathlib.Core.List.{List, _++_, map}
+use native.Mathlib.Omega.{arith}
 use lib.ListN.{drop}
+use lib.IntN.{ℤ}
 use Rattle.paper.specs.declared.Group.{Group}
 use Rattle.paper.specs.Refusal.Rule.{broken-unique, broken-not-kept}
-use Rattle.paper.specs.Answer.Frame.{bytes, words, signed}
+use Rattle.paper.specs.Answer.Frame.{bytes, words, signed, refusal}
 use Rattle.frame.specs.declared.Sizes.{Sizes}
 use Rattle.frame.specs.declared.Found.{Found}
 use Rattle.frame.specs.declared.Found.the-variants.{Fault, Panel}
 use Rattle.frame.specs.declared.Frames.{Frames}
+use Rattle.frame.specs.declared.Written.{Written}
+use Rattle.frame.specs.declared.Written.the-variants.{Wrote, NoRoom}
 use Rattle.frame.specs.Spelling.{line2, line3, line5, spellingRules}
 use Rattle.frame.specs.Reading.{Held, FoundAs, ReadAs}
+use Rattle.frame.specs.Writing.{WrittenAs, resultOf}
 
 pub record SameRead (r r′ : Frames) (a a′ : Held) : Type 0 where
   pub answer : r ≡ r′
@@ -51,3 +56,19 @@ read-same text b (Panel z) (Panel z′) g g′ a a′ p q = record {
 pub read-determined : (text : List ℕ) (b : Held) (r r′ : Frames) (a a′ : Held) → ReadAs text b r a → ReadAs text b r′ a′ → SameRead r r′ a a′
 unfolding frames
 read-determined text b r r′ a a′ p q = read-same text b (r .found) (r′ .found) (r .group) (r′ .group) a a′ p q
+
+pub record SameWritten (w w′ : Written) (a a′ : List ℕ) : Type 0 where
+  pub answer : w ≡ w′
+  pub held : a ≡ a′
+
+written-same : (bs before : List ℕ) (w w′ : Written) (a a′ : List ℕ) → WrittenAs bs before w a → WrittenAs bs before w′ a′ → SameWritten w w′ a a′
+written-same bs before (Wrote m) (Wrote m′) a a′ p q = record { answer = ap Wrote (p .count ∙ sym (q .count)); held = p .is ∙ sym (q .is) }
+written-same bs before (Wrote m) NoRoom a a′ p q = absurd (omega (arith, p .fits, q .short))
+written-same bs before NoRoom (Wrote m) a a′ p q = absurd (omega (arith, q .fits, p .short))
+written-same bs before NoRoom NoRoom a a′ p q = record { answer = refl; held = p .kept ∙ sym (q .kept) }
+
+pub write-determined : (labels counts : List ℕ) (spins : List ℤ) (out : List ℕ) (w w′ : Written) (a a′ : List ℕ) → WrittenAs (resultOf labels counts spins) out w a → WrittenAs (resultOf labels counts spins) out w′ a′ → SameWritten w w′ a a′
+write-determined labels counts spins out w w′ a a′ p q = written-same (resultOf labels counts spins) out w w′ a a′ p q
+
+pub write-refusal-determined : (r : ℕ) (out : List ℕ) (w w′ : Written) (a a′ : List ℕ) → WrittenAs (refusal r) out w a → WrittenAs (refusal r) out w′ a′ → SameWritten w w′ a a′
+write-refusal-determined r out w w′ a a′ p q = written-same (refusal r) out w w′ a a′ p q

@@ -7,4 +7,5 @@ pub mod Fill
 pub mod Scan
 pub mod Reading
 pub mod Writing
+pub mod RoundTrip
 pub mod Determined

@@ -45,12 +45,12 @@ one-more {t} {a} {e} d l h = record { from = omega arith; to = omega arith; digi
     at k low (no q) high = let same : k ≡ e = omega arith in rw same h
 
 -- ---- a text that begins with digits and a line feed
-first-line : (ds r : List ℕ) → Digits ds → firstLine (ds ++ (10 ∷ r)) ≡ ds
+pub first-line : (ds r : List ℕ) → Digits ds → firstLine (ds ++ (10 ∷ r)) ≡ ds
 unfolding firstLine
 first-line [] r h = refl
 first-line (a ∷ ds) r h = rw (not-feed a (h 0 (omega arith))) (ap (λ (q : List ℕ). a ∷ q) (first-line ds r (λ k l. h (suc k) (omega arith))))
 
-next-line : (ds r : List ℕ) → Digits ds → next (ds ++ (10 ∷ r)) ≡ r
+pub next-line : (ds r : List ℕ) → Digits ds → next (ds ++ (10 ∷ r)) ≡ r
 unfolding next
 next-line [] r h = refl
 next-line (a ∷ ds) r h = rw (not-feed a (h 0 (omega arith))) (next-line ds r (λ k l. h (suc k) (omega arith)))

@@ -9,8 +9,9 @@ use Rattle.paper.specs.Panel.Input.{Lattice}
 use Rattle.paper.specs.Refusal.Rule.{Kept, Broken}
 use Rattle.paper.specs.Answer.Frame.{bytes, words, signed, frameCall}
 use Rattle.frame.specs.Spelling.{line2, line3, line5, spellingRules}
-use Rattle.frame.specs.Scan.{sizesIn}
+use Rattle.frame.specs.Scan.{sizesIn, Placed}
 use Rattle.frame.specs.declared.Sizes.{Sizes}
+use Rattle.frame.specs.declared.Places.{Places}
 use Rattle.frame.specs.declared.Found.{Found}
 use Rattle.frame.specs.declared.Found.the-variants.{Fault, Panel}
 use Rattle.frame.specs.declared.Frames.{Frames}
@@ -20,6 +21,11 @@ pub record Rooms (s f p : ℕ) : Type 0 where
   pub spins : 2048 ≤ s
   pub fwd : 1024 ≤ f
   pub perms : 2048 ≤ p
+
+-- what is known when the lines are read: the room, and the places
+pub record Ready (text : List ℕ) (at : Places) (s f p : ℕ) : Type 0 where
+  pub rooms : Rooms s f p
+  pub placed : Placed text at
 
 -- the lent buffers, before or after
 pub record Held : Type 0 where

@@ -58,9 +58,17 @@ sets-append (v ∷ vs) ws before a =
     let z : suc a + length vs ≡ a + suc (length vs) = omega arith in
     sets-append vs ws (set before a v) (suc a) ∙ ap (λ (k : ℕ). sets (sets (set before a v) (suc a) vs) k ws) z
 
--- room for vs at a
+-- room at a: for vs; for a number in two bytes; for a line of such numbers
 pub record Room (vs : List ℕ) (a n : ℕ) : Type 0 where
   pub fits : a + length vs ≤ n
+
+pub record WordRoom (x a n : ℕ) : Type 0 where
+  pub small : x < 65536
+  pub fits : a + 3 < n
+
+pub record WordsRoom (tag : ℕ) (xs : List ℕ) (a n : ℕ) : Type 0 where
+  pub small : Below 65536 xs
+  pub fits : a + length (line tag (twoBytes xs)) ≤ n
 
 -- vs is written from the place a on, and r is the place behind it
 pub record Put (vs before : List ℕ) (a r : ℕ) (after : List ℕ) : Type 0 where

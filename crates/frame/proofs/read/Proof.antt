@@ -9,7 +9,7 @@ use Rattle.frame.proofs.read.Tie as tie
 abbrev S : tie.After-scan → tie.Start
 S c = c .before .before .before .before
 
-abbrev E : tie.After-fill-arg3 → tie.After-scan
+abbrev E : tie.After-read-places-arg3 → tie.After-scan
 E c = c .before .before .before .before .before .before
 
 scan-requires : tie.Need-scan-requires
@@ -24,8 +24,8 @@ faulty-requires c κs = search needs
 enum-known-p : tie.Need-enum-known-p
 enum-known-p c = search needs
 
-fill-requires : tie.Need-fill-requires
-fill-requires c κs = (S (E c) .pre, subst (ScannedAs _) (c .before .before .before .before .p .given .1) (E c .scan .ensures))
+read-places-requires : tie.Need-read-places-requires
+read-places-requires c κs = record { rooms = S (E c) .pre; placed = subst (ScannedAs _) (c .before .before .before .before .p .given .1) (E c .scan .ensures) }
 
 returns : tie.Need-returns
 returns c = misread _ _ _ _ (c .faulty .ensures) (subst (ScannedAs _) (c .before .before .r .given .1) (c .before .before .before .before .scan .ensures))
@@ -50,7 +50,7 @@ read-spec =
     enum-known-r
     faulty-requires
     enum-known-p
-    fill-requires
+    read-places-requires
     returns
     same-length
     same-length-2

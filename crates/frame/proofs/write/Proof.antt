@@ -67,14 +67,17 @@ returns-3 : tie.Need-returns-3
 returns-3 c = let s = c .before .before .before .before .before .before in record { short = omega (arith, total s); kept = refl }
 
 put-words-requires : tie.Need-put-words-requires
-put-words-requires c κs = let s = S (c .before) in (record { fits = omega (arith, enough (c .before), words-line-length 0x20 (now (s .args .labels))) }, s .pre .small-labels)
+put-words-requires c κs =
+    let s = S (c .before) in
+    record { small = s .pre .small-labels; fits = omega (arith, enough (c .before), words-line-length 0x20 (now (s .args .labels))) }
 
 put-words-requires-2 : tie.Need-put-words-requires-2
 put-words-requires-2 c κs =
-    let b = c .before .before .before in (
-      record { fits = omega (arith, enough (E b), first b .next, put-long _ _ _ _ _ (first b), words-line-length 0x20 (L (E b)), words-line-length 0x21 (C (E b))) },
-      S (E b) .pre .small-counts,
-    )
+    let b = c .before .before .before in
+    record {
+      small = S (E b) .pre .small-counts;
+      fits = omega (arith, enough (E b), first b .next, put-long _ _ _ _ _ (first b), words-line-length 0x20 (L (E b)), words-line-length 0x21 (C (E b)));
+    }
 
 put-spins-requires : tie.Need-put-spins-requires
 put-spins-requires c κs =
