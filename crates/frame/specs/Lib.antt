@@ -8,4 +8,6 @@ pub mod Scan
 pub mod Reading
 pub mod Writing
 pub mod RoundTrip
+pub mod Joined
+pub mod Worked
 pub mod Determined

@@ -112,8 +112,8 @@ pub(crate) fn scan(text: &[u8]) -> Scanned
         return Scanned::Wrong(11);
     };
     let sizes = sizes_in(text);
-    if !in_range(sizes) {
-        return Scanned::Wrong(1);
+    if in_range(sizes) {
+        return scan_tables(text, sizes, spins);
     }
-    scan_tables(text, sizes, spins)
+    Scanned::Wrong(1)
 }

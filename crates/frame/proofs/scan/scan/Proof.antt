@@ -1,7 +1,7 @@
 -- `frame::scan::scan` meets its contract: the first line. Assumes nothing.
 use mathlib.Core.Path.{subst}
 use denote.Ref.{now}
-use Rattle.paper.specs.Component.Marks.{passed, refused}
+use Rattle.paper.specs.Component.Marks.{told, denied}
 use Rattle.frame.specs.Scan.{AfterAs, Passed}
 use Rattle.frame.proofs.Steps.{no-head, no-sizes, headed}
 use borrow.Author.Needs.{needs}
@@ -32,14 +32,14 @@ sizes-in-requires c κs = passed-head c .frame
 in-range-requires : tie.Need-in-range-requires
 in-range-requires c κs = search needs
 
-returns-2 : tie.Need-returns-2
-returns-2 c = no-sizes _ _ (passed-head (c .before .before .before) .frame) (c .before .before .sizes-in .ensures) (refused (c .before .in-range .result) (c .if1 .taken) (c .before .in-range .ensures))
-
 scan-tables-requires : tie.Need-scan-tables-requires
-scan-tables-requires c κs = headed _ _ _ (passed-head (c .before .before .before)) (c .before .before .sizes-in .ensures) (passed (c .before .in-range .result) (c .if1 .left) (c .before .in-range .ensures))
+scan-tables-requires c κs = headed _ _ _ (passed-head (c .before .before .before)) (c .before .before .sizes-in .ensures) (told (c .if1 .taken) (c .before .in-range .ensures))
+
+returns-2 : tie.Need-returns-2
+returns-2 c = search needs
 
 returns-3 : tie.Need-returns-3
-returns-3 c = search needs
+returns-3 c = no-sizes _ _ (passed-head (c .before .before .before) .frame) (c .before .before .sizes-in .ensures) (denied (c .if1 .left) (c .before .in-range .ensures))
 
 pub scan-spec : {M : Type 1} → statement M
 scan-spec =
@@ -51,6 +51,6 @@ scan-spec =
     returns
     sizes-in-requires
     in-range-requires
-    returns-2
     scan-tables-requires
+    returns-2
     returns-3)

@@ -1,0 +1,74 @@
+-- Reading and writing against the whole program: what was read is the paper's call, and what was written is an answer to the text. Assumes nothing.
+use Prim.Native.Nat.{ℕ, _*_, _≤_}
+use mathlib.Core.Path.{_≡_, refl, sym, _∙_, ap}
+use mathlib.Core.Logic.{inl, inr}
+use mathlib.Core.List.{List, [], _++_, map}
+use lib.ListN.{length, take, drop, length-map}
+use lib.Seq.{take-at}
+use lib.IntN.{ℤ}
+use Rattle.paper.specs.declared.Group.{Group}
+use Rattle.paper.specs.declared.Answer.{Answer}
+use Rattle.paper.specs.Panel.Input.{Lattice, Buffers}
+use Rattle.paper.specs.Refusal.Rule.{Kept, Broken}
+use Rattle.paper.specs.Answer.Move.{Answers}
+use Rattle.paper.specs.Demand3.Step.{Accepted}
+use Rattle.paper.specs.Answer.Frame.{bytes, words, signed, frameLattice, frameCall, frameChoices, frameBuffers, HasBack, frameRules, refusal, FrameAnswers}
+use Rattle.frame.specs.declared.Sizes.{Sizes}
+use Rattle.frame.specs.Spelling.{line2, line3, line5, spellingRules, valueRules, Spelling, spelling-of, misspelt, misvalued, all-kept}
+use Rattle.frame.specs.Words.{words-length}
+use Rattle.frame.specs.Reading.{Held, Misread, Readout}
+use Rattle.frame.specs.Writing.{resultOf, Fitted, fitted-take}
+
+-- ---- what was read: the used part of each buffer is the paper's, and has the exact length
+module _ {text : List ℕ} {b : Held} {z : Sizes} {g : Group} {a : Held} (r : Readout text b z g a) where
+  spelling : Spelling text
+  spelling = spelling-of text (r .spelt)
+
+  pub spins-count : length (frameBuffers text .spins) ≡ z .s * z .n
+  spins-count = length-map (bytes (line2 text)) signed ∙ (spelling .spins-line .long ∙ ap (λ (y : Sizes). y .s * y .n) (sym (r .sizes)))
+
+  pub fwd-count : length (frameLattice text [] .fwd) ≡ z .n * z .d
+  fwd-count = words-length (bytes (line3 text)) (frameLattice text [] .n * frameLattice text [] .d) (spelling .fwd-line .long) ∙ ap (λ (y : Sizes). y .n * y .d) (sym (r .sizes))
+
+  pub perms-count : length (frameChoices text .perms) ≡ z .n * g .len
+  perms-count = spelling .perms-line .long ∙ (λ i. sym (r .sizes) i .n * sym (r .group) i .len)
+
+  pub spins-part : take (z .s * z .n) (a .spins) ≡ frameBuffers text .spins
+  spins-part = rw (r .spins) (take-at (frameBuffers text .spins) (drop (z .s * z .n) (b .spins)) (z .s * z .n) spins-count)
+
+  pub fwd-part : take (z .n * z .d) (a .fwd) ≡ frameLattice text [] .fwd
+  fwd-part = rw (r .fwd) (take-at (frameLattice text [] .fwd) (drop (z .n * z .d) (b .fwd)) (z .n * z .d) fwd-count)
+
+  pub perms-part : take (z .n * g .len) (a .perms) ≡ frameChoices text .perms
+  perms-part = rw (r .perms) (take-at (frameChoices text .perms) (drop (z .n * g .len) (b .perms)) (z .n * g .len) perms-count)
+
+-- ---- what was written, m bytes of out′
+module _ (text out : List ℕ) (m : ℕ) (out′ : List ℕ) where
+  refused : (c : ℕ) → Broken (frameRules text) c → Fitted (refusal c) out m out′ → FrameAnswers text (take m out′)
+  refused c w f = inl (record { number = c; why = w; written = fitted-take (refusal c) out m out′ f })
+
+  -- a rule on spelling or size is broken
+  pub answer-misspelt : (c : ℕ) → Broken (spellingRules text) c → Fitted (refusal c) out m out′ → FrameAnswers text (take m out′)
+  answer-misspelt c w f = refused c (misspelt text c w) f
+
+  -- they are kept, and one of the others is broken
+  pub answer-misvalued : (c : ℕ) → Kept (spellingRules text) → Broken (valueRules text) c → Fitted (refusal c) out m out′ → FrameAnswers text (take m out′)
+  answer-misvalued c k w f = refused c (misvalued text c k w) f
+
+  -- all are kept, and the move was run
+  pub answer-run : (back : HasBack text) (r : Answer) (after : Buffers)
+      → Kept (spellingRules text)
+      → Kept (valueRules text)
+      → Accepted r
+      → Answers (frameCall text (back .bwd)) (frameChoices text) (frameBuffers text) r after
+      → Fitted (resultOf (after .labels) (after .counts) (after .spins)) out m out′
+      → FrameAnswers text (take m out′)
+  answer-run back r after k v ok w f = inr (record {
+    valid = all-kept text k v;
+    back = back;
+    answer = r;
+    after = after;
+    accepted = ok;
+    answers = w;
+    written = fitted-take (resultOf (after .labels) (after .counts) (after .spins)) out m out′ f;
+  })
