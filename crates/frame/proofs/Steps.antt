@@ -6,6 +6,7 @@ use mathlib.Core.List.{List, [], _∷_}
 use native.Mathlib.Omega.{arith}
 use native.Mathlib.Nat.{mul-le-mul}
 use lib.ListN.{length, drop, length-drop, drop-of-length-le}
+use Rattle.paper.specs.Panel.Input.{Lattice}
 use Rattle.paper.specs.Refusal.Rule.{Rule, rule, Broken}
 use Rattle.paper.specs.Answer.Frame.{next, bytes, Spelt, Frame, FrameSizes, GroupSize, frameLattice, groupBytes}
 use Rattle.frame.specs.declared.Sizes.{Sizes}
@@ -22,11 +23,14 @@ groupRules t =
     ∷ []
 
 -- ---- the first line
+same-sizes : (u v : Lattice) → u .n ≡ v .n → u .d ≡ v .d → u .s ≡ v .s → FrameSizes u → FrameSizes v
+same-sizes u v a b c s = omega arith
+
 pub bare : (t : List ℕ) → FrameSizes (frameLattice t []) → FrameSizes (latticeOf (sizesIn t))
-bare t s = record { n-low = s .n-low; n-high = s .n-high; d-low = s .d-low; d-high = s .d-high; s-low = s .s-low; s-high = s .s-high }
+bare t s = same-sizes (frameLattice t []) (latticeOf (sizesIn t)) refl refl refl s
 
 whole : (t : List ℕ) → FrameSizes (latticeOf (sizesIn t)) → FrameSizes (frameLattice t [])
-whole t s = record { n-low = s .n-low; n-high = s .n-high; d-low = s .d-low; d-high = s .d-high; s-low = s .s-low; s-high = s .s-high }
+whole t s = same-sizes (latticeOf (sizesIn t)) (frameLattice t []) refl refl refl s
 
 pub no-head : (t : List ℕ) → (Frame 0x10 4 t → ⊥) → Broken (spellingRules t) 11
 no-head t h = inl (h, refl)
@@ -110,7 +114,8 @@ module _ {t : List ℕ} {z : Sizes} {spins fwd group : ℕ} (h : Tabled t z spin
         rest = ap next perms-at ∙ q .behind
 
         pub no-end : (end ≡ length t → ⊥) → Broken (spellingRules t) 11
-        no-end g = behind-fwd 11 (inr (size, inr (perms-line, inl (λ e. g (omega (arith, q .within, length-drop end t, ap (length {A = ℕ}) (sym rest ∙ e))), refl))))
+        no-end g =
+            behind-fwd 11 (inr (size, inr (perms-line, inl (λ e. g (omega (arith, q .within, length-drop end t, ap (length {A = ℕ}) (sym rest ∙ e))), refl))))
 
         pub placed : end ≡ length t → Placed t (record { sizes = z; len = len; spins = spins; fwd = fwd; group = group; perms = perms })
         placed e = record {

@@ -25,7 +25,8 @@ pub record SameRead (r r′ : Frames) (a a′ : Held) : Type 0 where
 frames : Found → Group → Frames
 frames f g = record { found = f; group = g }
 
-read-same : (text : List ℕ) (b : Held) (f f′ : Found) (g g′ : Group) (a a′ : Held) → FoundAs text b f g a → FoundAs text b f′ g′ a′ → SameRead (frames f g) (frames f′ g′) a a′
+read-same : (text : List ℕ) (b : Held) (f f′ : Found) (g g′ : Group) (a a′ : Held) → FoundAs text b f g a → FoundAs text b f′ g′ a′
+    → SameRead (frames f g) (frames f′ g′) a a′
 unfolding frames
 read-same text b (Fault r) (Fault r′) g g′ a a′ p q = record {
   answer = λ i. record { found = Fault (broken-unique (spellingRules text) r r′ (p .why) (q .why) i); group = (p .group ∙ sym (q .group)) i };
@@ -67,8 +68,10 @@ written-same bs before (Wrote m) NoRoom a a′ p q = absurd (omega (arith, p .fi
 written-same bs before NoRoom (Wrote m) a a′ p q = absurd (omega (arith, q .fits, p .short))
 written-same bs before NoRoom NoRoom a a′ p q = record { answer = refl; held = p .kept ∙ sym (q .kept) }
 
-pub write-determined : (labels counts : List ℕ) (spins : List ℤ) (out : List ℕ) (w w′ : Written) (a a′ : List ℕ) → WrittenAs (resultOf labels counts spins) out w a → WrittenAs (resultOf labels counts spins) out w′ a′ → SameWritten w w′ a a′
+pub write-determined : (labels counts : List ℕ) (spins : List ℤ) (out : List ℕ) (w w′ : Written) (a a′ : List ℕ)
+    → WrittenAs (resultOf labels counts spins) out w a → WrittenAs (resultOf labels counts spins) out w′ a′ → SameWritten w w′ a a′
 write-determined labels counts spins out w w′ a a′ p q = written-same (resultOf labels counts spins) out w w′ a a′ p q
 
-pub write-refusal-determined : (r : ℕ) (out : List ℕ) (w w′ : Written) (a a′ : List ℕ) → WrittenAs (refusal r) out w a → WrittenAs (refusal r) out w′ a′ → SameWritten w w′ a a′
+pub write-refusal-determined : (r : ℕ) (out : List ℕ) (w w′ : Written) (a a′ : List ℕ) → WrittenAs (refusal r) out w a
+    → WrittenAs (refusal r) out w′ a′ → SameWritten w w′ a a′
 write-refusal-determined r out w w′ a a′ p q = written-same (refusal r) out w w′ a a′ p q

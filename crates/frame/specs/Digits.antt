@@ -96,7 +96,10 @@ hex-digits (b ∷ bs) h (suc (suc k)) l = hex-digits bs (λ j q. h (suc j) (omeg
 pub unhex-hex : (bs : List ℕ) → Below 256 bs → unhex (hex bs) ≡ bs
 unfolding hex unhex
 unhex-hex [] h = refl
-unhex-hex (b ∷ bs) h = rw (value-back (b / 16) (omega (arith, h 0 (omega arith))), value-back (b % 16) (omega arith), unhex-hex bs (λ j q. h (suc j) (omega arith))) (ap (λ (x : ℕ). x ∷ bs) (omega arith))
+unhex-hex (b ∷ bs) h =
+    let high = value-back (b / 16) (omega (arith, h 0 (omega arith))) in
+    let low = value-back (b % 16) (omega arith) in
+    rw (high, low, unhex-hex bs (λ j q. h (suc j) (omega arith))) (ap (λ (x : ℕ). x ∷ bs) (omega arith))
 
 pub unhex-length : (ds : List ℕ) (m : ℕ) → length ds ≡ 2 * m → length (unhex ds) ≡ m
 unfolding unhex
@@ -124,7 +127,8 @@ hex-unhex [] m e h = refl
 hex-unhex (a ∷ []) m e h = absurd (omega arith)
 hex-unhex (a ∷ (b ∷ r)) zero e h = absurd (omega arith)
 hex-unhex (a ∷ (b ∷ r)) (suc m) e h =
-    rw (high (digitValue a) (digitValue b) vb, low (digitValue a) (digitValue b) vb, digit-back a da, digit-back b db, hex-unhex r m (omega arith) (λ k l. h (suc (suc k)) (omega arith))) refl
+    let rest = hex-unhex r m (omega arith) (λ k l. h (suc (suc k)) (omega arith)) in
+    rw (high (digitValue a) (digitValue b) vb, low (digitValue a) (digitValue b) vb, digit-back a da, digit-back b db, rest) refl
   where
     da : Digit a
     da = h 0 (omega arith)

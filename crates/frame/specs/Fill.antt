@@ -14,7 +14,8 @@ pub record Filling {A : Type 0} (xs before : List A) (m k : ℕ) (ys : List A) :
   pub is : ys ≡ take k xs ++ drop k before
   pub long : length ys ≡ length before
 
-more : {A : Type 0} (xs before : List A) (k : ℕ) (d : A) → k < length xs → k < length before → set (take k xs ++ drop k before) k (getD xs k d) ≡ take (suc k) xs ++ drop (suc k) before
+more : {A : Type 0} (xs before : List A) (k : ℕ) (d : A) → k < length xs → k < length before
+    → set (take k xs ++ drop k before) k (getD xs k d) ≡ take (suc k) xs ++ drop (suc k) before
 more [] before k d l r = absurd (omega arith)
 more (x ∷ xs) [] k d l r = absurd (omega arith)
 more (x ∷ xs) (b ∷ before) zero d l r = refl
@@ -24,7 +25,8 @@ module _ {A : Type 0} (xs before : List A) (m : ℕ) (count : length xs ≡ m) w
   pub filling-none : Filling xs before m 0 before
   filling-none = record { within = omega arith; is = refl; long = refl }
 
-  pub filling-more : (k : ℕ) (ys : List A) (v d : A) → Filling xs before m k ys → k < m → m ≤ length before → v ≡ getD xs k d → Filling xs before m (k + 1) (set ys k v)
+  pub filling-more : (k : ℕ) (ys : List A) (v d : A) → Filling xs before m k ys → k < m → m ≤ length before → v ≡ getD xs k d
+      → Filling xs before m (k + 1) (set ys k v)
   filling-more k ys v d f l r e = record {
     within = omega arith;
     is = rw (f .is, e, add-one k) (more xs before k d (omega arith) (omega arith));

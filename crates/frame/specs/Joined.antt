@@ -28,7 +28,9 @@ module _ {text : List ℕ} {b : Held} {z : Sizes} {g : Group} {a : Held} (r : Re
   spins-count = length-map (bytes (line2 text)) signed ∙ (spelling .spins-line .long ∙ ap (λ (y : Sizes). y .s * y .n) (sym (r .sizes)))
 
   pub fwd-count : length (frameLattice text [] .fwd) ≡ z .n * z .d
-  fwd-count = words-length (bytes (line3 text)) (frameLattice text [] .n * frameLattice text [] .d) (spelling .fwd-line .long) ∙ ap (λ (y : Sizes). y .n * y .d) (sym (r .sizes))
+  fwd-count =
+      words-length (bytes (line3 text)) (frameLattice text [] .n * frameLattice text [] .d) (spelling .fwd-line .long)
+      ∙ ap (λ (y : Sizes). y .n * y .d) (sym (r .sizes))
 
   pub perms-count : length (frameChoices text .perms) ≡ z .n * g .len
   perms-count = spelling .perms-line .long ∙ (λ i. sym (r .sizes) i .n * sym (r .group) i .len)

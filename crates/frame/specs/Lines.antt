@@ -174,7 +174,11 @@ module _ (tag m : ℕ) (t : List ℕ) (a : ℕ) (small : tag < 256) (f : Frame t
   line-byte k l = frame-byte tag m (drop a t) small f k l ∙ byte-dropped a t (2 * k + 2) (a + 2 * k + 2) (omega arith)
 
   pub line-two : (k : ℕ) → k < m → TwoDigits t (a + 2 * k + 2)
-  line-two k l = record { inside = omega (arith, line-fits); high = line-digit (a + 2 * k + 2) (omega arith) (omega arith); low = line-digit (a + 2 * k + 2 + 1) (omega arith) (omega arith) }
+  line-two k l = record {
+    inside = omega (arith, line-fits);
+    high = line-digit (a + 2 * k + 2) (omega arith) (omega arith);
+    low = line-digit (a + 2 * k + 2 + 1) (omega arith) (omega arith);
+  }
 
   pub line-end : (e : ℕ) → DigitsEnd t a e → e ≡ a + 2 * m + 2
   line-end e d = at (decLt e (a + 2 * m + 2)) (decLt (a + 2 * m + 2) e)
@@ -211,7 +215,8 @@ abbrev part : List ℕ → ℕ → ℕ → List ℕ
 part t a w = take w (drop a t)
 
 -- digits with a line feed behind them are a frame, if there are whole bytes, the tag first
-pub line-of : (tag m : ℕ) (t : List ℕ) (a e : ℕ) → DigitsEnd t a e → e < length t → getD t e 0 ≡ 10 → a + 2 * m + 2 ≡ e → byteAt t a ≡ tag → Frame tag m (drop a t)
+pub line-of : (tag m : ℕ) (t : List ℕ) (a e : ℕ) → DigitsEnd t a e → e < length t → getD t e 0 ≡ 10 → a + 2 * m + 2 ≡ e → byteAt t a ≡ tag
+    → Frame tag m (drop a t)
 line-of tag m t a e d l g q b = subst (λ (u : List ℕ). Frame tag m u) (sym split) (frame-of tag m (part t a (2 * suc m)) (drop (suc e) t) long digits head)
   where
     long : length (part t a (2 * suc m)) ≡ 2 * suc m
@@ -220,8 +225,11 @@ line-of tag m t a e d l g q b = subst (λ (u : List ℕ). Frame tag m u) (sym sp
     there : a + 2 * suc m ≡ e
     there = omega arith
 
+    behind : drop (2 * suc m) (drop a t) ≡ 10 ∷ drop (suc e) t
+    behind = drop-drop (2 * suc m) a t ∙ (ap (λ (k : ℕ). drop k t) there ∙ (drop-cons t e 0 l ∙ ap (λ (x : ℕ). x ∷ drop (suc e) t) g))
+
     split : drop a t ≡ part t a (2 * suc m) ++ (10 ∷ drop (suc e) t)
-    split = sym (take-append-drop (2 * suc m) (drop a t)) ∙ ap (λ (r : List ℕ). part t a (2 * suc m) ++ r) (drop-drop (2 * suc m) a t ∙ (ap (λ (k : ℕ). drop k t) there ∙ (drop-cons t e 0 l ∙ ap (λ (x : ℕ). x ∷ drop (suc e) t) g)))
+    split = sym (take-append-drop (2 * suc m) (drop a t)) ∙ ap (λ (r : List ℕ). part t a (2 * suc m) ++ r) behind
 
     at : (k p : ℕ) → k < 2 * suc m → a + k ≡ p → getD (part t a (2 * suc m)) k 0 ≡ getD t p 0
     at k p h z = getD-take (2 * suc m) (drop a t) k 0 h ∙ (getD-drop a t k 0 ∙ ap (λ (x : ℕ). getD t x 0) z)
@@ -229,5 +237,11 @@ line-of tag m t a e d l g q b = subst (λ (u : List ℕ). Frame tag m u) (sym sp
     digits : Digits (part t a (2 * suc m))
     digits k h = let h′ : k < 2 * suc m = omega (arith, long) in rw (at k (a + k) h′ refl) (d .run .digits (a + k) (omega arith) (omega arith))
 
+    first : getD (part t a (2 * suc m)) 0 0 ≡ getD t a 0
+    first = at 0 a (omega arith) (omega arith)
+
+    second : getD (part t a (2 * suc m)) 1 0 ≡ getD t (a + 1) 0
+    second = at 1 (a + 1) (omega arith) refl
+
     head : getD (unhex (part t a (2 * suc m))) 0 0 ≡ tag
-    head = unhex-at (part t a (2 * suc m)) 0 (omega (arith, long)) ∙ ((λ i. 16 * digitValue (at 0 a (omega arith) (omega arith) i) + digitValue (at 1 (a + 1) (omega arith) refl i)) ∙ b)
+    head = unhex-at (part t a (2 * suc m)) 0 (omega (arith, long)) ∙ ((λ i. 16 * digitValue (first i) + digitValue (second i)) ∙ b)

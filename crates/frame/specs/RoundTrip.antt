@@ -58,7 +58,8 @@ pub record ReadsBack (labels counts : List ℕ) (spins : List ℤ) (text : List 
   pub spins-back : map signed (bytes (next (next text))) ≡ spins
   pub end : next (next (next text)) ≡ []
 
-pub result-back : (labels counts : List ℕ) (spins : List ℤ) → TwoByte labels counts → SignedBytes spins → ReadsBack labels counts spins (resultOf labels counts spins)
+pub result-back : (labels counts : List ℕ) (spins : List ℤ) → TwoByte labels counts → SignedBytes spins
+    → ReadsBack labels counts spins (resultOf labels counts spins)
 result-back labels counts spins w h = record {
   labels-back = ap words (first .bytes-are) ∙ words-twoBytes labels;
   counts-back = ap (λ (t : List ℕ). words (bytes t)) (first .next-is) ∙ (ap words (second .bytes-are) ∙ words-twoBytes counts);
@@ -67,7 +68,8 @@ result-back labels counts spins w h = record {
 }
   where
     first : LineBack (twoBytes labels) (line 0x21 (twoBytes counts) ++ line 0x22 (map spinByte spins)) (resultOf labels counts spins)
-    first = line-back 0x20 (twoBytes labels) (line 0x21 (twoBytes counts) ++ line 0x22 (map spinByte spins)) (omega arith) (twoBytes-small labels (w .small-labels))
+    first =
+        line-back 0x20 (twoBytes labels) (line 0x21 (twoBytes counts) ++ line 0x22 (map spinByte spins)) (omega arith) (twoBytes-small labels (w .small-labels))
 
     second : LineBack (twoBytes counts) (line 0x22 (map spinByte spins)) (line 0x21 (twoBytes counts) ++ line 0x22 (map spinByte spins))
     second = line-back 0x21 (twoBytes counts) (line 0x22 (map spinByte spins)) (omega arith) (twoBytes-small counts (w .small-counts))

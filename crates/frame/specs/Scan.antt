@@ -29,7 +29,8 @@ pub record Passed (tag m : ℕ) (t : List ℕ) (a p : ℕ) : Type 0 where
 pub passed-of : {tag m m′ : ℕ} {t : List ℕ} {a p : ℕ} → m ≡ m′ → Passed tag m t a p → Passed tag m′ t a p
 passed-of e k = record { frame = record { spelt = k .frame .spelt; long = k .frame .long ∙ e }; behind = k .behind; within = k .within }
 
-pub passed-line : (tag m : ℕ) (t : List ℕ) (a e : ℕ) → tag < 256 → DigitsEnd t a e → e < length t → getD t e 0 ≡ 10 → a + 2 * m + 2 ≡ e → byteAt t a ≡ tag → Passed tag m t a (e + 1)
+pub passed-line : (tag m : ℕ) (t : List ℕ) (a e : ℕ) → tag < 256 → DigitsEnd t a e → e < length t → getD t e 0 ≡ 10 → a + 2 * m + 2 ≡ e
+    → byteAt t a ≡ tag → Passed tag m t a (e + 1)
 passed-line tag m t a e small d l g q b = record { frame = f; behind = line-next tag m t a small f ∙ ap (λ (k : ℕ). drop k t) there; within = omega arith }
   where
     f : Frame tag m (drop a t)

@@ -11,7 +11,8 @@ use Rattle.paper.specs.Law.ByTest.{every, belowTest, below-by}
 use Rattle.paper.specs.Answer.Frame.{hex, unhex, firstLine, next, bytes, Spelt, Frame}
 use Rattle.frame.specs.Spelling.{spellingRules}
 
-spelt-by : (tag : ℕ) (text : List ℕ) → text ≡ hex (tag ∷ bytes text) ++ (10 ∷ next text) → belowTest (length (bytes text)) 256 (λ k. getD (bytes text) k 0) ≡ true → Spelt tag text
+spelt-by : (tag : ℕ) (text : List ℕ) → text ≡ hex (tag ∷ bytes text) ++ (10 ∷ next text)
+    → belowTest (length (bytes text)) 256 (λ k. getD (bytes text) k 0) ≡ true → Spelt tag text
 spelt-by tag text e h = record { is = e; small = below-by (length (bytes text)) 256 (λ k. getD (bytes text) k 0) h }
 
 -- 257 sites, whatever follows: 1 at once

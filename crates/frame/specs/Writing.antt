@@ -91,7 +91,8 @@ unfolding hex
 hex-append [] ys = refl
 hex-append (x ∷ xs) ys = ap (λ (r : List ℕ). digit (x / 16) ∷ digit (x % 16) ∷ r) (hex-append xs ys)
 
-pub four-digits : (before : List ℕ) (a p q : ℕ) (ys zs : List ℕ) → ys ≡ sets before a (hex (p ∷ [])) → zs ≡ sets ys (a + 2) (hex (q ∷ [])) → zs ≡ sets before a (hex (p ∷ q ∷ []))
+pub four-digits : (before : List ℕ) (a p q : ℕ) (ys zs : List ℕ) → ys ≡ sets before a (hex (p ∷ [])) → zs ≡ sets ys (a + 2) (hex (q ∷ []))
+    → zs ≡ sets before a (hex (p ∷ q ∷ []))
 unfolding hex
 four-digits before a p q ys zs e w = w ∙ rw e (sym (sets-append (hex (p ∷ [])) (hex (q ∷ [])) before a))
 
@@ -110,16 +111,22 @@ module _ (bs before : List ℕ) (a : ℕ) where
   unfolding hex
   hexing-none = record { within = omega arith; is = refl; long = refl }
 
-  pub hexing-more : (j p b : ℕ) (ys zs : List ℕ) → Hexing bs before a j ys → j < length bs → p ≡ a + 2 * j → b ≡ getD bs j 0 → zs ≡ sets ys p (hex (b ∷ [])) → Hexing bs before a (j + 1) zs
+  pub hexing-more : (j p b : ℕ) (ys zs : List ℕ) → Hexing bs before a j ys → j < length bs → p ≡ a + 2 * j → b ≡ getD bs j 0
+      → zs ≡ sets ys p (hex (b ∷ [])) → Hexing bs before a (j + 1) zs
   hexing-more j p b ys zs h l e q w = record {
     within = omega arith;
-    is = rw (w, e, h .is, q, add-one j, take-suc bs j 0, hex-append (take j bs) (getD bs j 0 ∷ []), sets-append (hex (take j bs)) (hex (getD bs j 0 ∷ [])) before a, hex-length (take j bs), length-take-le j bs (omega arith)) refl;
+    is = rw (w, e, h .is, q, add-one j, take-suc bs j 0, hex-append (take j bs) (getD bs j 0 ∷ []), behind, hex-length (take j bs), length-take-le j bs (omega arith)) refl;
     long = rw (w, length-sets ys p (hex (b ∷ []))) (h .long);
   }
+    where
+      behind : sets before a (hex (take j bs) ++ hex (getD bs j 0 ∷ [])) ≡ sets (sets before a (hex (take j bs))) (a + length (hex (take j bs))) (hex (getD bs j 0 ∷ []))
+      behind = sets-append (hex (take j bs)) (hex (getD bs j 0 ∷ [])) before a
 
-  pub hexing-two : (j p b d : ℕ) (ys zs : List ℕ) → Hexing bs before a j ys → j + 1 < length bs → p ≡ a + 2 * j → b ≡ getD bs j 0 → d ≡ getD bs (j + 1) 0 → zs ≡ sets ys p (hex (b ∷ d ∷ [])) → Hexing bs before a (j + 2) zs
+  pub hexing-two : (j p b d : ℕ) (ys zs : List ℕ) → Hexing bs before a j ys → j + 1 < length bs → p ≡ a + 2 * j → b ≡ getD bs j 0
+      → d ≡ getD bs (j + 1) 0 → zs ≡ sets ys p (hex (b ∷ d ∷ [])) → Hexing bs before a (j + 2) zs
   unfolding hex
-  hexing-two j p b d ys zs h l e q r w = rw next (hexing-more (j + 1) (p + 2) d (sets ys p (hex (b ∷ []))) zs first l (omega arith) r (w ∙ sets-append (hex (b ∷ [])) (hex (d ∷ [])) ys p))
+  hexing-two j p b d ys zs h l e q r w =
+      rw next (hexing-more (j + 1) (p + 2) d (sets ys p (hex (b ∷ []))) zs first l (omega arith) r (w ∙ sets-append (hex (b ∷ [])) (hex (d ∷ [])) ys p))
     where
       next : j + 2 ≡ j + 1 + 1
       next = omega arith
@@ -135,7 +142,8 @@ module _ (bs before : List ℕ) (a : ℕ) where
   }
 
 -- a line: its tag, its bytes and a line feed
-pub put-line : (tag : ℕ) (bs b0 b1 b2 : List ℕ) (a r : ℕ) → b1 ≡ sets b0 a (hex (tag ∷ [])) → Put (hex bs ++ (10 ∷ [])) b1 (a + 2) r b2 → Put (line tag bs) b0 a r b2
+pub put-line : (tag : ℕ) (bs b0 b1 b2 : List ℕ) (a r : ℕ) → b1 ≡ sets b0 a (hex (tag ∷ [])) → Put (hex bs ++ (10 ∷ [])) b1 (a + 2) r b2
+    → Put (line tag bs) b0 a r b2
 unfolding hex
 put-line tag bs b0 b1 b2 a r e p = put-both (hex (tag ∷ [])) (hex bs ++ (10 ∷ [])) b0 b1 b2 a (a + 2) r (record { next = refl; is = e }) p
 
@@ -145,7 +153,8 @@ words-line-length tag xs = let e = line-length tag (twoBytes xs) in let q = twoB
 pub spins-line-length : (tag : ℕ) (zs : List ℤ) → length (line tag (map spinByte zs)) ≡ 2 * length zs + 3
 spins-line-length tag zs = let e = line-length tag (map spinByte zs) in let q = length-map zs spinByte in omega arith
 
-pub result-length : (labels counts : List ℕ) (spins : List ℤ) → length (resultOf labels counts spins) ≡ 4 * length labels + 4 * length counts + 2 * length spins + 9
+pub result-length : (labels counts : List ℕ) (spins : List ℤ)
+    → length (resultOf labels counts spins) ≡ 4 * length labels + 4 * length counts + 2 * length spins + 9
 result-length labels counts spins =
     let a = words-line-length 0x20 labels in
     let b = words-line-length 0x21 counts in

@@ -21,19 +21,22 @@ mul-fill-spins : tie.Need-mul-fill-spins
 mul-fill-spins c = omega (arith, spins-few (A c .pre .placed))
 
 fill-spins-requires : tie.Need-fill-spins-requires
-fill-spins-requires c κs = let s = A (c .before) in record { frame = spins-there (s .pre .placed); fits = omega (arith, spins-few (s .pre .placed), s .pre .rooms .spins) }
+fill-spins-requires c κs =
+    let s = A (c .before) in record { frame = spins-there (s .pre .placed); fits = omega (arith, spins-few (s .pre .placed), s .pre .rooms .spins) }
 
 mul-fill-words : tie.Need-mul-fill-words
 mul-fill-words c = omega (arith, bonds-few (B c .pre .placed))
 
 fill-words-requires : tie.Need-fill-words-requires
-fill-words-requires c κs = let s = B (c .before) in record { frame = fwd-there (s .pre .placed); fits = omega (arith, bonds-few (s .pre .placed), s .pre .rooms .fwd) }
+fill-words-requires c κs =
+    let s = B (c .before) in record { frame = fwd-there (s .pre .placed); fits = omega (arith, bonds-few (s .pre .placed), s .pre .rooms .fwd) }
 
 mul-fill-bytes : tie.Need-mul-fill-bytes
 mul-fill-bytes c = omega (arith, perms-few (D c .pre .placed))
 
 fill-bytes-requires : tie.Need-fill-bytes-requires
-fill-bytes-requires c κs = let s = D (c .before) in record { frame = perms-there (s .pre .placed); fits = omega (arith, perms-few (s .pre .placed), s .pre .rooms .perms) }
+fill-bytes-requires c κs =
+    let s = D (c .before) in record { frame = perms-there (s .pre .placed); fits = omega (arith, perms-few (s .pre .placed), s .pre .rooms .perms) }
 
 read-group-requires : tie.Need-read-group-requires
 read-group-requires c κs = let s = G c in record { frame = group-there (s .pre .placed); fits = group-high (s .pre .placed) }

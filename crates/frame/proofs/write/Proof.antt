@@ -23,13 +23,15 @@ add-words c = search needs
 add-words-2 : tie.Need-add-words-2
 add-words-2 c = search needs
 
-total : (s : tie.Start) → length (resultOf (now (s .args .labels)) (now (s .args .counts)) (now (s .args .spins))) ≡ 4 * length (now (s .args .labels)) + 4 * length (now (s .args .counts)) + 2 * length (now (s .args .spins)) + 9
+total : (s : tie.Start)
+    → length (resultOf (now (s .args .labels)) (now (s .args .counts)) (now (s .args .spins))) ≡ 4 * length (now (s .args .labels)) + 4 * length (now (s .args .counts)) + 2 * length (now (s .args .spins)) + 9
 total s = result-length (now (s .args .labels)) (now (s .args .counts)) (now (s .args .spins))
 
 abbrev S : tie.Else3 → tie.Start
 S c = c .before .before .before .before .before .before
 
-enough : (c : tie.Else3) → 4 * length (now (S c .args .labels)) + 4 * length (now (S c .args .counts)) + 2 * length (now (S c .args .spins)) + 9 ≤ length (now (S c .args .out))
+enough : (c : tie.Else3)
+    → 4 * length (now (S c .args .labels)) + 4 * length (now (S c .args .counts)) + 2 * length (now (S c .args .spins)) + 9 ≤ length (now (S c .args .out))
 enough c = omega arith
 
 -- what the lines before have written
@@ -48,10 +50,12 @@ F c = c .before .before .before .before
 first : (c : tie.After-put-words) → Put (line 0x20 (twoBytes (L (E c)))) (now (S (E c) .args .out)) 0 (c .put-words .result) (c .put-words .last .1 .1 .0)
 first c = c .put-words .ensures
 
-second : (c : tie.After-put-words2) → Put (line 0x21 (twoBytes (C (E (F c))))) (F c .put-words .last .1 .1 .0) (F c .put-words .result) (c .put-words2 .result) (c .put-words2 .last .1 .1 .0)
+second : (c : tie.After-put-words2)
+    → Put (line 0x21 (twoBytes (C (E (F c))))) (F c .put-words .last .1 .1 .0) (F c .put-words .result) (c .put-words2 .result) (c .put-words2 .last .1 .1 .0)
 second c = c .put-words2 .ensures
 
-both : (c : tie.After-put-words2) → Put (line 0x20 (twoBytes (L (E (F c)))) ++ line 0x21 (twoBytes (C (E (F c))))) (now (S (E (F c)) .args .out)) 0 (c .put-words2 .result) (c .put-words2 .last .1 .1 .0)
+both : (c : tie.After-put-words2)
+    → Put (line 0x20 (twoBytes (L (E (F c)))) ++ line 0x21 (twoBytes (C (E (F c))))) (now (S (E (F c)) .args .out)) 0 (c .put-words2 .result) (c .put-words2 .last .1 .1 .0)
 both c = put-both _ _ _ _ _ _ _ _ (first (F c)) (second c)
 
 returns : tie.Need-returns

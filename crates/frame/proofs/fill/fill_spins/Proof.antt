@@ -71,7 +71,8 @@ loop-less c = search needs
 loop-again : tie.Need-loop-again Inv-loop μ-loop
 loop-again c =
     let s = S (c .before .before) in
-    filling-more (X s) _ _ (long s) _ _ _ (pos 0) (c .before .before .before .loop .inv) (c .before .before .loop-test .taken) (s .pre .fits) (toZ-ofZ {w = w8} (record { sfits = c .spin-of .ok }) ∙ entry c)
+    filling-more (X s) _ _ (long s) _ _ _ (pos 0) (c .before .before .before .loop .inv) (c .before .before .loop-test .taken) (s .pre .fits) (toZ-ofZ {w =
+    w8} (record { sfits = c .spin-of .ok }) ∙ entry c)
 
 same-length : tie.Need-same-length Inv-loop μ-loop
 same-length c = search needs

@@ -9,7 +9,8 @@ use Rattle.frame.proofs.lines.after.Tie as tie
 abbrev S : tie.After-known-told → tie.Start
 S c = c .before .before .before .before .before
 
-there : (c : tie.After-known-told) → Passed (S c .args .tag) (c .before .count .given .0 .0) (now (S c .args .text)) (S c .args .at) (c .before .count .given .0 .1 .0)
+there : (c : tie.After-known-told)
+    → Passed (S c .args .tag) (c .before .count .given .0 .0) (now (S c .args .text)) (S c .args .at) (c .before .count .given .0 .1 .0)
 there c = subst (LineAt _ _ _) (c .before .count .given .1) (c .before .before .before .line-at .ensures)
 
 line-at-requires : tie.Need-line-at-requires

@@ -33,7 +33,8 @@ loop-less : tie.Need-loop-less Inv-loop μ-loop
 loop-less c = search needs
 
 loop-again : tie.Need-loop-again Inv-loop μ-loop
-loop-again c = one-more (c .before .before .before .before .loop .inv) (c .before .before .before .loop-test .taken) (passed (c .before .is-digit .result) (c .if1 .left) (c .before .is-digit .ensures))
+loop-again c =
+    one-more (c .before .before .before .before .loop .inv) (c .before .before .before .loop-test .taken) (passed (c .before .is-digit .result) (c .if1 .left) (c .before .is-digit .ensures))
 
 returns-2 : tie.Need-returns-2 Inv-loop μ-loop
 returns-2 c = record { run = c .before .loop .inv; stop = λ l. absurd (omega arith) }

@@ -20,7 +20,8 @@ E1 c = c .before .before
 abbrev E2 : tie.Else2 → tie.After-digits-end
 E2 c = E1 (c .before)
 
-spelt : (c : tie.After-digits-end) → Spelt (S c .args .tag) (drop (S c .args .at) (now (S c .args .text))) → LineEnd (S c .args .tag) (now (S c .args .text)) (S c .args .at) (c .digits-end .result)
+spelt : (c : tie.After-digits-end) → Spelt (S c .args .tag) (drop (S c .args .at) (now (S c .args .text)))
+    → LineEnd (S c .args .tag) (now (S c .args .text)) (S c .args .at) (c .digits-end .result)
 spelt c s = ended _ _ _ _ (search needs) (c .digits-end .ensures) s
 
 two : (c : tie.Else4) → TwoDigits (now (S (E2 (c .before .before)) .args .text)) (S (E2 (c .before .before)) .args .at)
@@ -65,7 +66,8 @@ add-t6 : tie.Need-add-t6
 add-t6 c = omega arith
 
 returns-6 : tie.Need-returns-6
-returns-6 c = passed-line _ _ _ _ _ (search needs) (E2 (c .before .before .before .before) .digits-end .ensures) (omega arith) (c .before .before .before .before .if2 .left) (omega arith) (sym (c .before .byte-at .ensures) ∙ c .if5 .left)
+returns-6 c =
+    passed-line _ _ _ _ _ (search needs) (E2 (c .before .before .before .before) .digits-end .ensures) (omega arith) (c .before .before .before .before .if2 .left) (omega arith) (sym (c .before .byte-at .ensures) ∙ c .if5 .left)
 
 pub line-at-spec : {M : Type 1} → statement M
 line-at-spec =

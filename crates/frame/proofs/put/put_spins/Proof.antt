@@ -38,7 +38,8 @@ enough s = omega (arith, s .pre .fits, line-length (s .args .tag) (map spinByte 
 
 -- at the loop's head: the buffer's length, the room, and the numbers that are passed
 long : (c : tie.At-loop Inv-loop μ-loop) → length (c .loop .out) ≡ length (now (S (P c) .args .out))
-long c = let p = P c in c .loop .inv .long ∙ (ap (length {A = ℕ}) (p .put-byte .ensures) ∙ length-sets (now (S p .args .out)) (S p .args .at) (hex (S p .args .tag ∷ [])))
+long c =
+    let p = P c in c .loop .inv .long ∙ (ap (length {A = ℕ}) (p .put-byte .ensures) ∙ length-sets (now (S p .args .out)) (S p .args .at) (hex (S p .args .tag ∷ [])))
 
 room : (c : tie.At-loop Inv-loop μ-loop) → S (P c) .args .at + 2 * length (X c) + 3 ≤ length (c .loop .out)
 room c = omega (arith, enough (S (P c)), long c)
@@ -47,7 +48,8 @@ passed : (c : tie.At-loop Inv-loop μ-loop) → c .loop .k ≤ length (X c)
 passed c = omega (arith, c .loop .inv .within, length-map (X c) spinByte)
 
 byte : (c : tie.After-spin-byte Inv-loop μ-loop) → c .spin-byte .result ≡ getD (map spinByte (X (A c))) (A c .loop .k) 0
-byte c = c .spin-byte .ensures ∙ (ap spinByte (toZ-ofZ {w = w8} {z = getD (X (A c)) (A c .loop .k) (pos 0)} (record { sfits = c .before .spin-byte-arg .given })) ∙ sym (List·getD-map spinByte (X (A c)) (A c .loop .k) (pos 0)))
+byte c =
+    c .spin-byte .ensures ∙ (ap spinByte (toZ-ofZ {w = w8} {z = getD (X (A c)) (A c .loop .k) (pos 0)} (record { sfits = c .before .spin-byte-arg .given })) ∙ sym (List·getD-map spinByte (X (A c)) (A c .loop .k) (pos 0)))
 
 put-byte-requires : tie.Need-put-byte-requires Inv-loop μ-loop
 put-byte-requires c κs = omega (arith, enough (c .before .before))

@@ -33,7 +33,8 @@ enough s = omega (arith, s .pre .fits, line-length (s .args .tag) (twoBytes (now
 
 -- at the loop's head: the buffer's length, the room, and the numbers that are passed
 long : (c : tie.At-loop Inv-loop μ-loop) → length (c .loop .out) ≡ length (now (S (P c) .args .out))
-long c = let p = P c in c .loop .inv .long ∙ (ap (length {A = ℕ}) (p .put-byte .ensures) ∙ length-sets (now (S p .args .out)) (S p .args .at) (hex (S p .args .tag ∷ [])))
+long c =
+    let p = P c in c .loop .inv .long ∙ (ap (length {A = ℕ}) (p .put-byte .ensures) ∙ length-sets (now (S p .args .out)) (S p .args .at) (hex (S p .args .tag ∷ [])))
 
 room : (c : tie.At-loop Inv-loop μ-loop) → S (P c) .args .at + 4 * length (X c) + 3 ≤ length (c .loop .out)
 room c = omega (arith, enough (S (P c)), long c)

@@ -33,13 +33,15 @@ in-range-requires : tie.Need-in-range-requires
 in-range-requires c κs = search needs
 
 scan-tables-requires : tie.Need-scan-tables-requires
-scan-tables-requires c κs = headed _ _ _ (passed-head (c .before .before .before)) (c .before .before .sizes-in .ensures) (told (c .if1 .taken) (c .before .in-range .ensures))
+scan-tables-requires c κs =
+    headed _ _ _ (passed-head (c .before .before .before)) (c .before .before .sizes-in .ensures) (told (c .if1 .taken) (c .before .in-range .ensures))
 
 returns-2 : tie.Need-returns-2
 returns-2 c = search needs
 
 returns-3 : tie.Need-returns-3
-returns-3 c = no-sizes _ _ (passed-head (c .before .before .before) .frame) (c .before .before .sizes-in .ensures) (denied (c .if1 .left) (c .before .in-range .ensures))
+returns-3 c =
+    no-sizes _ _ (passed-head (c .before .before .before) .frame) (c .before .before .sizes-in .ensures) (denied (c .if1 .left) (c .before .in-range .ensures))
 
 pub scan-spec : {M : Type 1} → statement M
 scan-spec =

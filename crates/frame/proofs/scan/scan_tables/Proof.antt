@@ -15,7 +15,8 @@ S c = c .before .before .before .before .before .before
 abbrev E : tie.After-known-told2 → tie.After-known-told
 E c = c .before .before .before .before .before
 
-k1 : (c : tie.After-known-told) → Passed 0x11 (S c .args .sizes .s * S c .args .sizes .n) (now (S c .args .text)) (S c .args .spins) (c .before .fwd .given .0 .0)
+k1 : (c : tie.After-known-told)
+    → Passed 0x11 (S c .args .sizes .s * S c .args .sizes .n) (now (S c .args .text)) (S c .args .spins) (c .before .fwd .given .0 .0)
 k1 c = subst (AfterAs _ _ _ _) (c .before .fwd .given .1) (c .before .before .before .after .ensures)
 
 mul-after : tie.Need-mul-after
@@ -49,7 +50,8 @@ enum-told-2 : tie.Need-enum-told-2
 enum-told-2 c = search needs
 
 returns-2 : tie.Need-returns-2
-returns-2 c = no-fwd (S (c .before .before .before .before) .pre) (k1 (c .before .before .before .before)) (subst (AfterAs _ _ _ _) (c .enum-told2 .given .1) (c .before .before .after2 .ensures))
+returns-2 c =
+    no-fwd (S (c .before .before .before .before) .pre) (k1 (c .before .before .before .before)) (subst (AfterAs _ _ _ _) (c .enum-told2 .given .1) (c .before .before .after2 .ensures))
 
 scan-group-requires : tie.Need-scan-group-requires
 scan-group-requires c κs = tabled (S (E c) .pre) (k1 (E c)) (subst (AfterAs _ _ _ _) (c .before .group .given .1) (c .before .before .before .after2 .ensures))
