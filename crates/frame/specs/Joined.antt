@@ -1,23 +1,29 @@
 -- Reading and writing against the whole program: what was read is the paper's call, and what was written is an answer to the text. Assumes nothing.
-use Prim.Native.Nat.{ℕ, _*_, _≤_}
+use Prim.Native.Nat.{ℕ, zero, suc, _+_, _*_, _≤_, _<_}
 use mathlib.Core.Path.{_≡_, refl, sym, _∙_, ap}
 use mathlib.Core.Logic.{inl, inr}
+use mathlib.Core.Bool.{Bool, true, false, _&&_}
 use mathlib.Core.List.{List, [], _++_, map}
-use lib.ListN.{length, take, drop, length-map}
+use native.Mathlib.Omega.{arith}
+use lib.Dec.{eqb}
+use lib.ListN.{length, getD, take, drop, length-map}
 use lib.Seq.{take-at}
 use lib.IntN.{ℤ}
 use Rattle.paper.specs.declared.Group.{Group}
 use Rattle.paper.specs.declared.Answer.{Answer}
-use Rattle.paper.specs.Panel.Input.{Lattice, Buffers}
+use Rattle.paper.specs.Panel.Input.{Lattice, Call, Buffers}
+use Rattle.paper.specs.Component.Links.{Linked.stay}
+use Rattle.paper.specs.Component.Sizes.{bit, countWhere, counted, sizeOf}
 use Rattle.paper.specs.Refusal.Rule.{Kept, Broken}
-use Rattle.paper.specs.Answer.Move.{Answers}
+use Rattle.paper.specs.Answer.Move.{Answers, Seen}
 use Rattle.paper.specs.Demand3.Step.{Accepted}
 use Rattle.paper.specs.Answer.Frame.{bytes, words, signed, frameLattice, frameCall, frameChoices, frameBuffers, HasBack, frameRules, refusal, FrameAnswers}
 use Rattle.frame.specs.declared.Sizes.{Sizes}
 use Rattle.frame.specs.Spelling.{line2, line3, line5, spellingRules, valueRules, Spelling, spelling-of, misspelt, misvalued, all-kept}
+use Rattle.frame.specs.Digits.{Below}
 use Rattle.frame.specs.Words.{words-length}
 use Rattle.frame.specs.Reading.{Held, Misread, Readout}
-use Rattle.frame.specs.Writing.{resultOf, Fitted, fitted-take}
+use Rattle.frame.specs.Writing.{resultOf, TwoByte, Fitted, fitted-take}
 
 -- ---- what was read: the used part of each buffer is the paper's, and has the exact length
 module _ {text : List ℕ} {b : Held} {z : Sizes} {g : Group} {a : Held} (r : Readout text b z g a) where
@@ -74,3 +80,29 @@ module _ (text out : List ℕ) (m : ℕ) (out′ : List ℕ) where
     answers = w;
     written = fitted-take (resultOf (after .labels) (after .counts) (after .spins)) out m out′ f;
   })
+
+-- ---- what an accepted move leaves is held by two bytes
+count-most : (f : ℕ → Bool) (m : ℕ) → countWhere f m ≤ m
+unfolding countWhere
+count-most f zero = omega arith
+count-most f (suc m) = let h = count-most f m in let one = bit-most (f m) in omega arith
+  where
+    bit-most : (t : Bool) → bit t ≤ 1
+    bit-most true = omega arith
+    bit-most false = omega arith
+
+pub seen-small : (c : Call) (b b′ : Buffers) → Seen c b b′ → c .lattice .n ≤ 4096 → TwoByte (b′ .labels) (b′ .counts)
+seen-small c b b′ v h = record { small-labels = labels; small-counts = counts }
+  where
+    few : length (b′ .labels) ≤ 4096
+    few = omega (arith, v .labels .long)
+
+    labels : Below 65536 (b′ .labels)
+    labels i l =
+        let inside : i < c .lattice .n = omega (arith, v .labels .long) in
+        omega (arith, v .labels .least i i inside inside stay)
+
+    counts : Below 65536 (b′ .counts)
+    counts s l =
+        let most : s ≤ length (b′ .labels) = omega (arith, v .counts .long) in
+        omega (arith, few, v .counts .each s most, count-most (λ r. counted (b′ .labels) r && eqb (sizeOf (b′ .labels) r) s) (length (b′ .labels)))

@@ -9,5 +9,6 @@ pub mod Reading
 pub mod Writing
 pub mod RoundTrip
 pub mod Joined
+pub mod Values
 pub mod Worked
 pub mod Determined
