@@ -10,5 +10,6 @@ pub mod Writing
 pub mod RoundTrip
 pub mod Joined
 pub mod Values
+pub mod Back
 pub mod Worked
 pub mod Determined

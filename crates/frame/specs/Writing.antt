@@ -115,7 +115,8 @@ module _ (bs before : List ℕ) (a : ℕ) where
       → zs ≡ sets ys p (hex (b ∷ [])) → Hexing bs before a (j + 1) zs
   hexing-more j p b ys zs h l e q w = record {
     within = omega arith;
-    is = rw (w, e, h .is, q, add-one j, take-suc bs j 0, hex-append (take j bs) (getD bs j 0 ∷ []), behind, hex-length (take j bs), length-take-le j bs (omega arith)) refl;
+    is =
+        rw (w, e, h .is, q, add-one j, take-suc bs j 0, hex-append (take j bs) (getD bs j 0 ∷ []), behind, hex-length (take j bs), length-take-le j bs (omega arith)) refl;
     long = rw (w, length-sets ys p (hex (b ∷ []))) (h .long);
   }
     where

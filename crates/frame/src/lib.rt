@@ -1,4 +1,5 @@
 // The frame program's text, read into numbers and written from them.
+mod back;
 mod fill;
 mod lines;
 mod put;
@@ -31,7 +32,7 @@ pub enum Found {
     Panel(Sizes),
 }
 
-// With the group; of a text that is refused, none.
+// With the group, which a refused text has not: then it is empty.
 pub struct Frames {
     pub found: Found,
     pub group: Group,
@@ -153,10 +154,10 @@ pub fn write_refusal(r: u8, out: &mut [u8]) -> Written
     if out.len() < 5 {
         return Written::NoRoom;
     }
-    out[0] = 50;
-    out[1] = 102;
-    out[2] = 48 + r / 10;
-    out[3] = 48 + r % 10;
-    out[4] = 10;
+    out[0] = b'2';
+    out[1] = b'f';
+    out[2] = b'0' + r / 10;
+    out[3] = b'0' + r % 10;
+    out[4] = b'\n';
     Written::Wrote(5)
 }

@@ -9,6 +9,7 @@ ghost use Rattle.frame.specs.Digits.{Digit, Valued};
 ghost use Rattle.frame.specs.Lines.{byteAt, wordAt, TwoDigits, FourDigits, DigitsEnd};
 ghost use Rattle.frame.specs.Scan.{LineAt, AfterAs};
 
+// 0 to 9 are the codes 48 to 57, a to f the codes 97 to 102.
 fn is_digit(a: u8) -> bool
     ensures { λ r. ⌜ Tells r (Digit a) ⌝ }
 {
@@ -73,7 +74,7 @@ pub(crate) fn line_at(text: &[u8], at: usize, tag: u8) -> Line
     if e == text.len() {
         return Line::Bad;
     }
-    if text[e] != 10 {
+    if text[e] != b'\n' {
         return Line::Bad;
     }
     let w = (e - at) / 2;

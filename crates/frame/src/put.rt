@@ -11,7 +11,7 @@ fn digit_of(x: u8) -> u8
     requires { ⌜ x < 16 ⌝ }
     ensures { λ r. ⌜ r ≡ digit x ⌝ }
 {
-    if x < 10 { 48 + x } else { 87 + x }
+    if x < 10 { b'0' + x } else { 87 + x }
 }
 
 // A byte's two digits.
@@ -43,7 +43,7 @@ pub(crate) fn put_words(tag: u8, xs: &[u32], out: &mut [u8], at: usize) -> usize
         k += 1;
     }
     let end = at + 4 * xs.len() + 2;
-    out[end] = 10;
+    out[end] = b'\n';
     end + 1
 }
 
@@ -68,6 +68,6 @@ pub(crate) fn put_spins(tag: u8, xs: &[i8], out: &mut [u8], at: usize) -> usize
         k += 1;
     }
     let end = at + 2 * xs.len() + 2;
-    out[end] = 10;
+    out[end] = b'\n';
     end + 1
 }

@@ -49,7 +49,8 @@ passed c = omega (arith, c .loop .inv .within, length-map (X c) spinByte)
 
 byte : (c : tie.After-spin-byte Inv-loop μ-loop) → c .spin-byte .result ≡ getD (map spinByte (X (A c))) (A c .loop .k) 0
 byte c =
-    c .spin-byte .ensures ∙ (ap spinByte (toZ-ofZ {w = w8} {z = getD (X (A c)) (A c .loop .k) (pos 0)} (record { sfits = c .before .spin-byte-arg .given })) ∙ sym (List·getD-map spinByte (X (A c)) (A c .loop .k) (pos 0)))
+    c .spin-byte .ensures ∙ (ap spinByte (toZ-ofZ {w =
+    w8} {z = getD (X (A c)) (A c .loop .k) (pos 0)} (record { sfits = c .before .spin-byte-arg .given })) ∙ sym (List·getD-map spinByte (X (A c)) (A c .loop .k) (pos 0)))
 
 put-byte-requires : tie.Need-put-byte-requires Inv-loop μ-loop
 put-byte-requires c κs = omega (arith, enough (c .before .before))
