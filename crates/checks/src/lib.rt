@@ -4,12 +4,17 @@ use paper::Group;
 use paper::Lengths;
 use paper::Mode;
 ghost use mathlib.Core.Path.{_≡_};
-ghost use Prim.Native.Nat.{ℕ, _≤_};
+ghost use Prim.Native.Nat.{ℕ, _≤_, _<_};
+ghost use mathlib.Core.List.{List};
+ghost use lib.ListN.{length, getD};
+ghost use lib.Ieee.{Float};
 ghost use Rattle.paper.specs.Component.Marks.{Tells};
 ghost use Rattle.paper.specs.Panel.Takes.{drawsBonds, entries};
-ghost use Rattle.paper.specs.Refusal.Rules.{When, Fits, SmallCouplings, Warm};
+ghost use Rattle.paper.specs.Refusal.Rules.{When, Fits, SmallCouplings, Warm, Cuts, Chosen, Seeded, choiceRules};
 ghost use Rattle.paper.specs.Refusal.Verdict.{Verdict};
+ghost use Rattle.moves.specs.Task.{choicesOf};
 ghost use Rattle.checks.specs.Panel.{Small, Always, Sometimes, Measures, panelRules};
+ghost use Rattle.checks.specs.Choices.{Tested, EveryCall, Long, AtMost, PermRows, RowMoves, Permuted, Sighted, Seeding, SeedActs};
 
 // A length is asked of a buffer only if it is taken.
 fn fits(taken: bool, len: usize, want: usize) -> bool
@@ -123,4 +128,106 @@ pub fn test_panel(
         return 7;
     }
     0
+}
+
+fn cuts_fit(taken: bool, cuts: &[f32]) -> bool
+    ensures { λ r. ⌜ Tells r (When taken (Cuts (now (cuts .entry)))) ⌝ }
+{
+    if taken {
+        return lattice::cuts_ok(cuts);
+    }
+    true
+}
+
+fn perms_fit(taken: bool, rows: usize, m: usize, perms: &[u8]) -> bool
+    requires { ⌜ Permuted taken rows m (now perms) ⌝ }
+    ensures { λ r. ⌜ Tells r (When taken (PermRows rows m (now (perms .entry)))) ⌝ }
+{
+    if taken {
+        return lattice::permutations_ok(rows, m, perms);
+    }
+    true
+}
+
+fn moved_fit(taken: bool, row: &[u8]) -> bool
+    ensures { λ r. ⌜ Tells r (When taken (RowMoves (now (row .entry)))) ⌝ }
+{
+    if taken {
+        return lattice::not_identity(row);
+    }
+    true
+}
+
+// Flips and grey numbers.
+fn bytes_fit(taken: bool, xs: &[u8], top: u8) -> bool
+    ensures { λ r. ⌜ Tells r (When taken (AtMost (now (xs .entry)) top)) ⌝ }
+{
+    if taken {
+        return lattice::bytes_at_most(xs, top);
+    }
+    true
+}
+
+// A single grey number that moves something.
+fn grey_fit(taken: bool, greys: &[u8]) -> bool
+    requires { ⌜ When taken (1 ≤ length (now greys)) ⌝ }
+    ensures { λ r. ⌜ Tells r (When taken (1 ≤ getD (now (greys .entry)) 0 0)) ⌝ }
+{
+    if taken {
+        return 1 <= greys[0];
+    }
+    true
+}
+
+fn reference_fit(taken: bool, reference: usize, n: usize) -> bool
+    ensures { λ r. ⌜ Tells r (When taken (reference < n)) ⌝ }
+{
+    !taken | (reference < n)
+}
+
+// Test 9: every entry of what is taken, used or not.
+fn chosen_ok(
+    mode: Mode,
+    form: Form,
+    n: usize,
+    group: Group,
+    reference: usize,
+    flips: &[u8],
+    perms: &[u8],
+    greys: &[u8],
+) -> bool
+    requires { ⌜ Long mode form n (group .len) (now flips) (now perms) (now greys) ⌝ }
+    ensures { λ r. ⌜ ((cuts : List Float) (seed : ℕ) → EveryCall mode form n group cuts reference seed
+        (λ c. Tells r (Chosen c (choicesOf (now (flips .entry)) (now (perms .entry)) (now (greys .entry)))))) ⌝ }
+{
+    let m = group.len;
+    let rows = entries_of(form, n);
+    let wolff = form.is_wolff();
+    let by_flips = form.is_sw() & !mode.is_perm();
+    let by_perms = form.moves() & mode.is_perm();
+    let by_greys = form.moves() & mode.is_cmr();
+    perms_fit(by_perms, rows, m, perms)
+        & moved_fit(by_perms & wolff, perms)
+        & bytes_fit(by_flips, flips, 1)
+        & bytes_fit(by_greys, greys, 3)
+        & grey_fit(by_greys & wolff, greys)
+        & reference_fit(mode.is_gperm(), reference, n)
+}
+
+// The seed acts, or no site does.
+fn seed_acts(
+    mode: Mode,
+    n: usize,
+    spins: &[i8],
+    group: Group,
+    reference: usize,
+    seed: usize,
+    cols: &mut [u8],
+    acts: &mut [u8],
+) -> bool
+    requires { ⌜ Seeding mode n group reference seed (now spins) (now cols) (now acts) ⌝ }
+    ensures { λ r. ⌜ Tells r (SeedActs mode n group reference seed (now (spins .entry))) ⌝ }
+{
+    let some = moves::look(mode, n, spins, group, reference, cols, acts);
+    !some | (acts[seed] == 1)
 }

@@ -1,25 +1,18 @@
 use borrow.Author.Needs.{needs}
 use denote.Ref.{now}
-use mathlib.Core.Path.{_≡_, sym, _∙_}
-use mathlib.Core.Bool.{Bool, true, false}
-use Rattle.paper.specs.Component.Marks.{Tells}
-use Rattle.paper.specs.Refusal.Rules.{When, SmallCouplings}
-use Rattle.paper.specs.Law.ByTest.{never}
+use Rattle.paper.specs.Refusal.Rules.{SmallCouplings}
+use Rattle.checks.proofs.When.{when-taken, when-not}
 use Rattle.checks.proofs.couplings_ok.Statement.{statement}
 use Rattle.checks.proofs.couplings_ok.Tie as tie
-
-when-taken : (b : Bool) {t : Bool} (P : Type 0) → t ≡ true → Tells b P → Tells b (When t P)
-when-taken true P e h = λ _. h
-when-taken false P e h = λ w. h (w e)
 
 couplings-ok-requires : tie.Need-couplings-ok-requires
 couplings-ok-requires c κs = search needs
 
 returns : tie.Need-returns
-returns c = when-taken (c .couplings-ok .result) (SmallCouplings (now (c .before .before .args .couplings))) (c .before .if1 .taken) (c .couplings-ok .ensures)
+returns c = let a = c .before .before .args in when-taken (c .couplings-ok .result) (SmallCouplings (now (a .couplings))) (c .before .if1 .taken) (c .couplings-ok .ensures)
 
 returns-2 : tie.Need-returns-2
-returns-2 c = λ e. never (sym (c .if1 .left) ∙ e)
+returns-2 c = when-not (c .if1 .left)
 
 pub couplings-ok-spec : {M : Type 1} → statement M
 couplings-ok-spec = tie.close (tie.spec couplings-ok-requires returns returns-2)

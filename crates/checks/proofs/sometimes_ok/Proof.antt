@@ -3,12 +3,11 @@ use Prim.Native.Nat.{ℕ, _*_, _≤_}
 use mathlib.Core.Path.{_≡_}
 use native.Mathlib.Nat.{mul-le-mul}
 use native.Mathlib.Omega.{arith}
-use Rattle.paper.specs.declared.Form.{Form}
-use Rattle.paper.specs.declared.Form.the-variants.{Sw, Wolff, Observe}
 use Rattle.paper.specs.Panel.Takes.{entries, drawsBonds, flipsBy, permsBy, greysBy}
 use Rattle.paper.specs.Refusal.Rules.{When}
 use Rattle.lattice.specs.Telling.{said, same, both}
 use Rattle.checks.specs.Panel.{Sometimes}
+use Rattle.checks.proofs.Chosen.{entries-few}
 use Rattle.checks.proofs.sometimes_ok.Statement.{statement}
 use Rattle.checks.proofs.sometimes_ok.Tie as tie
 
@@ -20,11 +19,6 @@ entries-of-result d = d .before .before .before .before .before .before .before 
 
 rows-of : (d : tie.After-is-cmr) → entries-of-result d ≡ entries (Began d .args .form) (Began d .args .n)
 rows-of d = d .before .before .before .before .before .before .before .entries-of .ensures
-
-few : (f : Form) (n : ℕ) → n ≤ 4096 → entries f n ≤ 4096
-few Sw n h = h
-few Wolff n h = omega arith
-few Observe n h = omega arith
 
 mul-bonds : tie.Need-mul-bonds
 mul-bonds c = omega (arith, mul-le-mul (c .pre .n-high) (c .pre .d-high))
@@ -65,7 +59,7 @@ fits-requires-3 c κs = search needs
 mul-fits : tie.Need-mul-fits
 mul-fits c =
     let d = c .before .before .before in
-    let rows : entries-of-result d ≤ 4096 = rw (rows-of d) (few (Began d .args .form) (Began d .args .n) (Began d .pre .n-high)) in
+    let rows : entries-of-result d ≤ 4096 = rw (rows-of d) (entries-few (Began d .args .form) (Began d .args .n) (Began d .pre .n-high)) in
     omega (arith, mul-le-mul rows (Began d .pre .m-high))
 
 fits-requires-4 : tie.Need-fits-requires-4

@@ -1,0 +1,3 @@
+pub mod When
+pub mod Chosen
+pub mod Seed
