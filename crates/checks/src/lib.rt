@@ -231,3 +231,39 @@ fn seed_acts(
     let some = moves::look(mode, n, spins, group, reference, cols, acts);
     !some | (acts[seed] == 1)
 }
+
+// Test 10. In CMR every site acts.
+fn seed_ok(
+    mode: Mode,
+    form: Form,
+    n: usize,
+    spins: &[i8],
+    group: Group,
+    reference: usize,
+    seed: usize,
+) -> bool
+    requires { ⌜ Sighted mode n group reference (now spins) ⌝ }
+    ensures { λ r. ⌜ ((cuts : List Float) → EveryCall mode form n group cuts reference seed (λ c. Tells r (Seeded c (now (spins .entry))))) ⌝ }
+{
+    if !form.is_wolff() {
+        return true;
+    }
+    if n <= seed {
+        return false;
+    }
+    if mode.is_cmr() {
+        return true;
+    }
+    let mut cols = [0u8; 4096];
+    let mut acts = [0u8; 4096];
+    seed_acts(
+        mode,
+        n,
+        spins,
+        group,
+        reference,
+        seed,
+        &mut cols[..n],
+        &mut acts[..n],
+    )
+}
