@@ -267,3 +267,33 @@ fn seed_ok(
         &mut acts[..n],
     )
 }
+
+// Tests 8, 9 and 10 of one task: the number of the first that fails, or 0.
+pub fn test_choices(
+    mode: Mode,
+    form: Form,
+    n: usize,
+    spins: &[i8],
+    group: Group,
+    cuts: &[f32],
+    reference: usize,
+    seed: usize,
+    flips: &[u8],
+    perms: &[u8],
+    greys: &[u8],
+) -> u8
+    requires { ⌜ Tested mode form n group (now spins) (now flips) (now perms) (now greys) ⌝ }
+    ensures { λ r. ⌜ EveryCall mode form n group (now (cuts .entry)) reference seed
+        (λ c. Verdict (choiceRules c (choicesOf (now (flips .entry)) (now (perms .entry)) (now (greys .entry))) (now (spins .entry))) r) ⌝ }
+{
+    if !cuts_fit(mode.is_drawn(), cuts) {
+        return 8;
+    }
+    if !chosen_ok(mode, form, n, group, reference, flips, perms, greys) {
+        return 9;
+    }
+    if !seed_ok(mode, form, n, spins, group, reference, seed) {
+        return 10;
+    }
+    0
+}

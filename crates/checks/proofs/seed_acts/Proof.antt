@@ -1,4 +1,8 @@
 use borrow.Author.Needs.{needs}
+use Prim.Native.Nat.{ℕ}
+use denote.Ref.{now}
+use Rattle.paper.specs.Site.Acting.{testBy}
+use Rattle.moves.specs.Looked.{seenBy}
 use Rattle.checks.proofs.Seed.{seed-told}
 use Rattle.checks.proofs.seed_acts.Statement.{statement}
 use Rattle.checks.proofs.seed_acts.Tie as tie
@@ -19,7 +23,14 @@ returns : tie.Need-returns
 returns c =
     let k = c .before .before .before .before .before in
     let s = k .before .before .before .before .before in
-    seed-told (k .look .result) (s .args .seed) (k .look .ensures .flagged) (k .look .ensures .some) (s .pre .below)
+    let a = s .args in
+    seed-told
+    {t = λ (i : ℕ). testBy (a .mode) (a .group .len) (seenBy (a .mode) (a .n) (a .group) (a .reference) (now (a .spins)) i)}
+    (k .look .result)
+    (a .seed)
+    (k .look .ensures .flagged)
+    (k .look .ensures .some)
+    (s .pre .below)
 
 pub seed-acts-spec : {M : Type 1} → statement M
 seed-acts-spec = tie.close (tie.spec look-requires slice-read-result same-length same-length-2 returns)
