@@ -23,7 +23,8 @@ use Rattle.rules.specs.Laws.{SomeSite}
 use Rattle.moves.specs.Looked.{flag-at, some-acts}
 use Rattle.checks.specs.Choices.{EveryCall, SeedActs}
 
-pub seed-told : {n : ℕ} {t : ℕ → Bool} {flags : List ℕ} (r : Bool) (seed : ℕ) → Flags n t flags → Tells r (SomeSite n t) → seed < n → Tells (not r || eqb (getD flags seed 0) 1) (SomeSite n t → t seed ≡ true)
+pub seed-told : {n : ℕ} {t : ℕ → Bool} {flags : List ℕ} (r : Bool) (seed : ℕ) → Flags n t flags → Tells r (SomeSite n t) → seed < n
+    → Tells (not r || eqb (getD flags seed 0) 1) (SomeSite n t → t seed ≡ true)
 seed-told {n} {t} {flags} r seed h some l = implies (said r (SomeSite n t) some) its .says
   where
     its : Test (eqb (getD flags seed 0) 1) (t seed ≡ true)
@@ -52,7 +53,8 @@ module _ (mode : Mode) (form : Form) (n : ℕ) (g : Group) (reference seed : ℕ
   unfolding acts
   seed-cmr l e d s fwd bwd couplings temperature = record { below = λ _. l; acting = λ _ _. cmr-acts mode (g .len) _ e }
 
-  pub seed-test : (r : Bool) → isWolff form ≡ true → seed < n → Tells r (SeedActs mode n g reference seed xs) → EveryCall mode form n g cuts reference seed (λ c. Tells r (Seeded c xs))
+  pub seed-test : (r : Bool) → isWolff form ≡ true → seed < n → Tells r (SeedActs mode n g reference seed xs)
+      → EveryCall mode form n g cuts reference seed (λ c. Tells r (Seeded c xs))
   unfolding acts
   seed-test r w l t d s fwd bwd couplings temperature =
       same (Seeded _ xs)

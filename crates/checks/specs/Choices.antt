@@ -20,7 +20,7 @@ use Rattle.moves.specs.Looked.{seenBy}
 use Rattle.moves.specs.Ready.{ready}
 use Rattle.moves.specs.Task.{callOf, Seeable}
 
--- what tests 1 to 5 established and these tests lean on: the ranges, the group's rows of spins, and the lengths of the choices that are taken
+-- what tests 1 to 5 established and these lean on: ranges, the group's rows of spins, the lengths of the choices that are taken
 pub record Tested (mode : Mode) (form : Form) (n : ℕ) (g : Group) (xs : List ℤ) (flips perms greys : List ℕ) : Type 0 where
   pub n-low : 1 ≤ n
   pub n-high : n ≤ 4096
@@ -32,7 +32,8 @@ pub record Tested (mode : Mode) (form : Form) (n : ℕ) (g : Group) (xs : List �
   pub perms-long : When (permsBy mode form) (length perms ≡ entries form n * g .len)
   pub greys-long : When (greysBy mode form) (length greys ≡ entries form n)
 
-pub tested-of : (c : Call) (p : Choices) (b : Buffers) → Sound c p b → Tested (c .mode) (c .form) (c .lattice .n) (c .group) (b .spins) (p .flips) (p .perms) (p .greys)
+pub tested-of : (c : Call) (p : Choices) (b : Buffers) → Sound c p b
+    → Tested (c .mode) (c .form) (c .lattice .n) (c .group) (b .spins) (p .flips) (p .perms) (p .greys)
 tested-of c p b s =
     let r = ready c p b s in
     record {
@@ -50,7 +51,8 @@ tested-of c p b s =
 -- of every call with these parts: the tests look at no others
 abbrev pub EveryCall : Mode → Form → ℕ → Group → List Float → ℕ → ℕ → (Call → Type 0) → Type 0
 EveryCall mode form n g cuts reference seed P =
-    (d s : ℕ) (fwd bwd : List ℕ) (couplings : List ℤ) (temperature : Float) → P (callOf mode form n d s fwd bwd couplings g temperature cuts reference seed)
+    (d s : ℕ) (fwd bwd : List ℕ) (couplings : List ℤ) (temperature : Float)
+    → P (callOf mode form n d s fwd bwd couplings g temperature cuts reference seed)
 
 -- ---- the choices: n sites, a group of m
 pub record Long (mode : Mode) (form : Form) (n m : ℕ) (flips perms greys : List ℕ) : Type 0 where

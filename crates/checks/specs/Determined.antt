@@ -18,6 +18,11 @@ pub test-panel-determined : (mode : Mode) (form : Form) (n d s : ℕ) (spins : L
 test-panel-determined mode form n d s spins fwd bwd couplings group t l = verdict-unique (panelRules mode form n d s spins fwd bwd couplings group t l)
 
 -- at any one choice of what the tests do not look at
-pub test-choices-determined : (mode : Mode) (form : Form) (n : ℕ) (spins : List ℤ) (group : Group) (cuts : List Float) (reference seed : ℕ) (flips perms greys : List ℕ) (a b : ℕ) → EveryCall mode form n group cuts reference seed (λ c. Verdict (choiceRules c (choicesOf flips perms greys) spins) a) → EveryCall mode form n group cuts reference seed (λ c. Verdict (choiceRules c (choicesOf flips perms greys) spins) b) → a ≡ b
+pub test-choices-determined : (mode : Mode) (form : Form) (n : ℕ) (spins : List ℤ) (group : Group) (cuts : List Float)
+    (reference seed : ℕ) (flips perms greys : List ℕ) (a b : ℕ)
+    → EveryCall mode form n group cuts reference seed (λ c. Verdict (choiceRules c (choicesOf flips perms greys) spins) a)
+    → EveryCall mode form n group cuts reference seed (λ c. Verdict (choiceRules c (choicesOf flips perms greys) spins) b)
+    → a ≡ b
 test-choices-determined mode form n spins group cuts reference seed flips perms greys a b p q =
-    verdict-unique (choiceRules (callOf mode form n 0 0 [] [] [] group nan cuts reference seed) (choicesOf flips perms greys) spins) a b (p 0 0 [] [] [] nan) (q 0 0 [] [] [] nan)
+    verdict-unique (choiceRules (callOf mode form n 0 0 [] [] [] group nan cuts reference seed) (choicesOf flips perms greys) spins)
+    a b (p 0 0 [] [] [] nan) (q 0 0 [] [] [] nan)

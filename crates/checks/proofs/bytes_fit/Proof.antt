@@ -9,7 +9,9 @@ bytes-at-most-requires : tie.Need-bytes-at-most-requires
 bytes-at-most-requires c κs = search needs
 
 returns : tie.Need-returns
-returns c = let a = c .before .before .before .args in when-taken (c .bytes-at-most .result) (AtMost (now (a .xs)) (a .top)) (c .before .if1 .taken) (c .bytes-at-most .ensures)
+returns c =
+    let a = c .before .before .before .args in
+    when-taken (c .bytes-at-most .result) (AtMost (now (a .xs)) (a .top)) (c .before .if1 .taken) (c .bytes-at-most .ensures)
 
 returns-2 : tie.Need-returns-2
 returns-2 c = when-not (c .if1 .left)

@@ -9,7 +9,9 @@ couplings-ok-requires : tie.Need-couplings-ok-requires
 couplings-ok-requires c κs = search needs
 
 returns : tie.Need-returns
-returns c = let a = c .before .before .args in when-taken (c .couplings-ok .result) (SmallCouplings (now (a .couplings))) (c .before .if1 .taken) (c .couplings-ok .ensures)
+returns c =
+    let a = c .before .before .args in
+    when-taken (c .couplings-ok .result) (SmallCouplings (now (a .couplings))) (c .before .if1 .taken) (c .couplings-ok .ensures)
 
 returns-2 : tie.Need-returns-2
 returns-2 c = when-not (c .if1 .left)

@@ -9,7 +9,9 @@ cuts-ok-requires : tie.Need-cuts-ok-requires
 cuts-ok-requires c κs = search needs
 
 returns : tie.Need-returns
-returns c = let a = c .before .before .before .args in when-taken (c .cuts-ok .result) (Cuts (now (a .cuts))) (c .before .if1 .taken) (c .cuts-ok .ensures)
+returns c =
+    let a = c .before .before .before .args in
+    when-taken (c .cuts-ok .result) (Cuts (now (a .cuts))) (c .before .if1 .taken) (c .cuts-ok .ensures)
 
 returns-2 : tie.Need-returns-2
 returns-2 c = when-not (c .if1 .left)

@@ -9,7 +9,9 @@ not-identity-requires : tie.Need-not-identity-requires
 not-identity-requires c κs = search needs
 
 returns : tie.Need-returns
-returns c = let a = c .before .before .before .args in when-taken (c .not-identity .result) (RowMoves (now (a .row))) (c .before .if1 .taken) (c .not-identity .ensures)
+returns c =
+    let a = c .before .before .before .args in
+    when-taken (c .not-identity .result) (RowMoves (now (a .row))) (c .before .if1 .taken) (c .not-identity .ensures)
 
 returns-2 : tie.Need-returns-2
 returns-2 c = when-not (c .if1 .left)

@@ -9,7 +9,9 @@ permutations-ok-requires : tie.Need-permutations-ok-requires
 permutations-ok-requires c κs = let p = c .before .before .pre in record { size = p .size-high; few = p .few; long = p .long (c .if1 .taken) }
 
 returns : tie.Need-returns
-returns c = let a = c .before .before .before .args in when-taken (c .permutations-ok .result) (PermRows (a .rows) (a .m) (now (a .perms))) (c .before .if1 .taken) (c .permutations-ok .ensures)
+returns c =
+    let a = c .before .before .before .args in
+    when-taken (c .permutations-ok .result) (PermRows (a .rows) (a .m) (now (a .perms))) (c .before .if1 .taken) (c .permutations-ok .ensures)
 
 returns-2 : tie.Need-returns-2
 returns-2 c = when-not (c .if1 .left)

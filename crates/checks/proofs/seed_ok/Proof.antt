@@ -38,7 +38,8 @@ returns-3 : tie.Need-returns-3
 returns-3 c = λ cuts.
     let e = c .before .before in
     let a = e .before .before .before .args in
-    seed-cmr (a .mode) (a .form) (a .n) (a .group) (a .reference) (a .seed) (now (a .spins)) cuts (e .if2 .left) (sym (c .before .is-cmr .ensures) ∙ c .if3 .taken)
+    seed-cmr (a .mode) (a .form) (a .n) (a .group) (a .reference) (a .seed) (now (a .spins)) cuts
+    (e .if2 .left) (sym (c .before .is-cmr .ensures) ∙ c .if3 .taken)
 
 array-borrow-prefix-cols : tie.Need-array-borrow-prefix-cols
 array-borrow-prefix-cols c = search needs
@@ -76,7 +77,8 @@ returns-4 c = λ cuts.
     let k = c .before .before in
     let e = k .before .before .before .before .before in
     let a = e .before .before .before .args in
-    seed-test (a .mode) (a .form) (a .n) (a .group) (a .reference) (a .seed) (now (a .spins)) cuts (k .seed-acts .result) (wolff (e .before)) (e .if2 .left) (k .seed-acts .ensures)
+    seed-test (a .mode) (a .form) (a .n) (a .group) (a .reference) (a .seed) (now (a .spins)) cuts
+    (k .seed-acts .result) (wolff (e .before)) (e .if2 .left) (k .seed-acts .ensures)
 
 pub seed-ok-spec : {M : Type 1} → statement M
 seed-ok-spec =

@@ -23,7 +23,8 @@ abbrev E1 : tie.Else2 → tie.Else1
 E1 e = e .before .before
 
 k9 : (e : tie.Else2) → let a = S (E1 e .before) .args in
-    EveryCall (a .mode) (a .form) (a .n) (a .group) (now (a .cuts)) (a .reference) (a .seed) (λ c. Chosen c (choicesOf (now (a .flips)) (now (a .perms)) (now (a .greys))))
+    EveryCall (a .mode) (a .form) (a .n) (a .group) (now (a .cuts)) (a .reference) (a .seed)
+    (λ c. Chosen c (choicesOf (now (a .flips)) (now (a .perms)) (now (a .greys))))
 k9 e d s fwd bwd couplings temperature =
     let a = S (E1 e .before) .args in
     passed (e .before .chosen-ok .result) (e .if2 .left) (e .before .chosen-ok .ensures (now (a .cuts)) (a .seed) d s fwd bwd couplings temperature)
@@ -47,7 +48,8 @@ returns-2 : tie.Need-returns-2
 returns-2 c = λ d s fwd bwd couplings temperature.
     let e = c .before .before in
     let a = S (e .before) .args in
-    inr (k8 e, inl (refused (c .before .chosen-ok .result) (c .if2 .taken) (c .before .chosen-ok .ensures (now (a .cuts)) (a .seed) d s fwd bwd couplings temperature), refl))
+    let t = c .before .chosen-ok .ensures (now (a .cuts)) (a .seed) d s fwd bwd couplings temperature in
+    inr (k8 e, inl (refused (c .before .chosen-ok .result) (c .if2 .taken) t, refl))
 
 seed-ok-requires : tie.Need-seed-ok-requires
 seed-ok-requires c κs =
@@ -65,13 +67,15 @@ returns-3 : tie.Need-returns-3
 returns-3 c = λ d s fwd bwd couplings temperature.
     let e = c .before .before in
     let a = S (E1 e .before) .args in
-    inr (k8 (E1 e), inr (k9 e d s fwd bwd couplings temperature, inl (refused (c .before .seed-ok .result) (c .if3 .taken) (c .before .seed-ok .ensures (now (a .cuts)) d s fwd bwd couplings temperature), refl)))
+    let t = c .before .seed-ok .ensures (now (a .cuts)) d s fwd bwd couplings temperature in
+    inr (k8 (E1 e), inr (k9 e d s fwd bwd couplings temperature, inl (refused (c .before .seed-ok .result) (c .if3 .taken) t, refl)))
 
 returns-4 : tie.Need-returns-4
 returns-4 c = λ d s fwd bwd couplings temperature.
     let e = c .before .before in
     let a = S (E1 e .before) .args in
-    (k8 (E1 e), (k9 e d s fwd bwd couplings temperature, (passed (c .before .seed-ok .result) (c .if3 .left) (c .before .seed-ok .ensures (now (a .cuts)) d s fwd bwd couplings temperature), tt)))
+    let t = c .before .seed-ok .ensures (now (a .cuts)) d s fwd bwd couplings temperature in
+    (k8 (E1 e), (k9 e d s fwd bwd couplings temperature, (passed (c .before .seed-ok .result) (c .if3 .left) t, tt)))
 
 pub test-choices-spec : {M : Type 1} → statement M
 test-choices-spec =
