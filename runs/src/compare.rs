@@ -9,6 +9,7 @@ use std::panic::{catch_unwind, AssertUnwindSafe};
 /// How much was compared for one mode and form.
 #[derive(Default)]
 pub struct Line {
+    pub all_small: usize,
     pub singles: usize,
     pub sweeps: usize,
     pub union_find: usize,
@@ -156,6 +157,15 @@ pub fn single(case: &Single, port: Option<&mut Box<dyn Port>>, line: &mut Line) 
         }
     }
     found(text, single_weight(case), line)
+}
+
+/// One of all small single moves; where its seed does not act the Rust has no such call.
+pub fn small(case: &Single, port: Option<&mut Box<dyn Port>>, line: &mut Line) -> Option<Found> {
+    line.all_small += 1;
+    match case.run(&mut Model).0 {
+        Answer::Refused(10) => damaged_single(case, port, line),
+        _ => single(case, port, line),
+    }
 }
 
 fn found(text: String, weight: usize, line: &mut Line) -> Option<Found> {

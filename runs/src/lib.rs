@@ -2,7 +2,10 @@
 pub mod case;
 pub mod compare;
 pub mod damage;
+pub mod exhaustive;
 pub mod make;
 pub mod model;
 pub mod port;
 pub mod rand;
+pub mod replay;
+pub mod timing;

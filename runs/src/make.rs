@@ -301,8 +301,11 @@ pub fn single(rand: &mut Rand, mode: Mode, form: Form, size: Size) -> Single {
     let mut case = Single {
         group,
         temperature,
-        reference: rand.range(0, panel.n - 1),
-        seed: 0,
+        reference: match mode {
+            Mode::Gperm => rand.range(0, panel.n - 1),
+            _ => rand.pick(&[0, panel.n, usize::MAX]),
+        },
+        seed: rand.pick(&[0, panel.n, usize::MAX]),
         choices: choices(rand, &panel, members, exact, &[temperature]),
         lent: outputs(rand, exact, spins),
         panel,
@@ -329,6 +332,37 @@ fn sweep_shape(rand: &mut Rand, members: usize, size: Size) -> (usize, usize, Ve
     let masked = rand.pick(&[0, 1, 3]);
     let mask = |_| u8::from(masked > 0 && rand.range(0, 3) < masked);
     (t, r, (0..t).map(mask).collect())
+}
+
+fn spoil<T: Copy>(buffer: &mut [T], of: Option<usize>, tasks: usize, task: usize, value: T) {
+    if let Some(all) = of {
+        let each = all / tasks;
+        buffer[task * each..(task + 1) * each].fill(value);
+    }
+}
+
+/// Faults in every area of the masked tasks, which no side may read.
+pub fn spoil_masked(case: &mut Swept) {
+    let panel = &case.panel;
+    let groups = case.r / case.members;
+    let tasks = case.t * groups;
+    let exact = lengths(
+        panel.mode,
+        panel.form,
+        panel.n,
+        panel.d,
+        case.members,
+        tasks,
+    );
+    for task in (0..tasks).filter(|task| case.masks[task / groups] == 1) {
+        let choices = &mut case.choices;
+        spoil(&mut choices.cuts, exact.cuts, tasks, task, f32::NAN);
+        spoil(&mut choices.flips, exact.flips, tasks, task, 2);
+        spoil(&mut choices.perms, exact.perms, tasks, task, 255);
+        spoil(&mut choices.greys, exact.greys, tasks, task, 4);
+        spoil(&mut case.references, exact.references, tasks, task, 0xffff);
+        spoil(&mut case.seeds, exact.seeds, tasks, task, 0xffff);
+    }
 }
 
 pub fn swept(rand: &mut Rand, mode: Mode, form: Form, size: Size) -> Swept {
@@ -370,6 +404,9 @@ pub fn swept(rand: &mut Rand, mode: Mode, form: Form, size: Size) -> Swept {
             seeds.push(seed(rand, &active) as u32);
         }
         case.seeds = seeds;
+    }
+    if rand.once_in(2) {
+        spoil_masked(&mut case);
     }
     case
 }

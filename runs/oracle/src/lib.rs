@@ -44,6 +44,9 @@ mod lent;
 #[cfg(published)]
 mod run;
 
+#[cfg(all(test, published))]
+mod differences;
+
 #[cfg(published)]
 pub(crate) use derive::Validate;
 #[cfg(published)]

@@ -19,10 +19,12 @@ pub struct Prepared {
     form: Form,
     branch: Branch,
     sources: Vec<Xoshiro256StarStar>,
-    counts: Vec<Vec<u64>>,
+    pub(crate) counts: Vec<Vec<u64>>,
     top4: Vec<[u32; 4]>,
-    labels: Vec<Vec<u32>>,
-    blue_labels: Vec<Vec<u32>>,
+    pub(crate) labels: Vec<Vec<u32>>,
+    pub(crate) blue_labels: Vec<Vec<u32>>,
+    /// Lends the blue labels even where no other output is lent.
+    pub(crate) blue_labels_alone: bool,
 }
 
 impl Prepared {
@@ -35,7 +37,7 @@ impl Prepared {
     }
 
     /// All but the all-clusters choices, whose order in the queues is not known yet.
-    fn unfilled(call: &Sweep, branch: Branch) -> Self {
+    pub(crate) fn unfilled(call: &Sweep, branch: Branch) -> Self {
         let slots = call.t * (call.r / 2);
         let order = |k: usize, j: usize| call.order[j * call.r + k] as usize;
         let mut prepared = Self {
@@ -57,6 +59,7 @@ impl Prepared {
             top4: vec![[0; 4]; slots],
             labels: vec![Vec::new(); slots],
             blue_labels: vec![Vec::new(); slots],
+            blue_labels_alone: false,
         };
         for (task, slot) in prepared.unmasked() {
             prepared.sources[slot] = by_turn(call, task);
@@ -138,10 +141,14 @@ impl Prepared {
         for source in &mut self.sources {
             source.taken = Default::default();
         }
-        let labelled = self.branch == Branch::UnionFind;
-        for counts in self.counts.iter_mut().filter(|_| labelled) {
+        for counts in &mut self.counts {
             counts.fill(0); // The published histogram adds.
         }
+        self.update(spins, sequential);
+    }
+
+    pub(crate) fn update(&mut self, spins: &mut [i8], sequential: bool) {
+        let labelled = self.branch == Branch::UnionFind;
         let build_mode = match self.mode {
             Mode::Houd => OverlapClusterBuildMode::Houdayer(self.members),
             Mode::Pair => OverlapClusterBuildMode::Pair(self.members),
@@ -174,7 +181,7 @@ impl Prepared {
             None,
             sequential,
             labelled.then_some(&mut self.labels[..]),
-            labelled.then_some(&mut self.blue_labels[..]),
+            (labelled || self.blue_labels_alone).then_some(&mut self.blue_labels[..]),
             None,
             None,
         );

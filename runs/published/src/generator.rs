@@ -16,6 +16,18 @@ impl Xoshiro256StarStar {
         }))
     }
 
+    /// A state whose next word is the given one.
+    #[cfg(test)]
+    pub fn before(word: u64) -> Self {
+        let inverse = |odd: u64| {
+            (0..6).fold(odd, |x, _| {
+                x.wrapping_mul(2u64.wrapping_sub(odd.wrapping_mul(x)))
+            })
+        };
+        let second = word.wrapping_mul(inverse(9)).rotate_right(7);
+        Self([1, second.wrapping_mul(inverse(5)), 1, 1])
+    }
+
     #[inline]
     pub fn next_u64(&mut self) -> u64 {
         let s = &mut self.0;

@@ -62,6 +62,9 @@ pub(crate) use generator::{mcmc, prelude, seq, Rng, ValidationError, Xoshiro256S
 #[cfg(published)]
 pub use run::{Labelling, Sweeper};
 
+#[cfg(all(test, published))]
+mod differences;
+
 #[cfg(not(published))]
 mod absent;
 #[cfg(not(published))]

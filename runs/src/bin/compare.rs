@@ -1,13 +1,14 @@
 //! compare [cases] [seed]: the model of document 01, the published Rust and the port on the same random calls.
 //!
-//! `cases` is the number of single moves, and of sweeps, for each mode and form (default 2000). Each is also damaged;
-//! damaged calls go to the model and the port alone, since the Rust checks nothing.
+//! `cases` is the number of random single moves, and of sweeps, for each mode and form (default 2000). Each is also
+//! damaged; damaged calls go to the model and the port alone, since the Rust checks nothing. Before them come all single
+//! moves of those small shapes that have at most 100 times as many, and no more than 200000.
 use calls::{Form, Mode, Port};
 use std::process::ExitCode;
 use tsorvenk_runs::compare::{self, keep, Found, Line};
 use tsorvenk_runs::make::{self, Size};
 use tsorvenk_runs::rand::Rand;
-use tsorvenk_runs::{damage, port};
+use tsorvenk_runs::{damage, exhaustive, port};
 
 struct Run {
     cases: u64,
@@ -20,6 +21,11 @@ impl Run {
     /// A generator for each case, so that any of them can be made again by itself.
     fn rand(&self, mode: Mode, form: Form, kind: u64, case: u64) -> Rand {
         Rand::of(&[self.seed, mode as u64, form as u64, kind, case])
+    }
+
+    /// Small shapes with more single moves than this are left to chance.
+    fn small(&self) -> usize {
+        (100 * self.cases).min(200_000) as usize
     }
 
     fn note(&mut self, found: Option<Found>) {
@@ -58,6 +64,10 @@ impl Run {
 
     fn mode_and_form(&mut self, mode: Mode, form: Form) -> Line {
         let mut line = Line::default();
+        exhaustive::each(mode, form, self.small(), |case| {
+            let found = compare::small(&case, self.port.as_mut(), &mut line);
+            self.note(found);
+        });
         for number in 0..self.cases {
             self.single(mode, form, number, &mut line);
             self.sweep(mode, form, number, &mut line);
@@ -68,10 +78,11 @@ impl Run {
 
 fn print(mode: Mode, form: Form, line: &Line) {
     println!(
-        "{:5} {:7} singles {:6} sweeps {:6} | Rust: labelled {:6} depth first {:6} acting sites {:6} | odd N {:5} idle {:6} | port {:6} | damaged {:6} refused {:?} | differences {}",
+        "{:5} {:7} singles {:6} (all small: {:6}) sweeps {:6} | Rust: labelled {:6} depth first {:6} acting sites {:6} | odd N {:5} idle {:6} | port {:6} | damaged {:6} refused {:?} | differences {}",
         mode.name(),
         form.name(),
         line.singles,
+        line.all_small,
         line.sweeps,
         line.union_find,
         line.depth_first,

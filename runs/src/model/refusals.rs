@@ -51,7 +51,7 @@ pub fn temperature_refused(temperature: f32) -> bool {
 }
 
 pub fn cut_refused(cut: f32) -> bool {
-    !(cut >= 0.0 && cut < f32::INFINITY)
+    !(0.0..f32::INFINITY).contains(&cut)
 }
 
 pub fn permutation_refused(p: &[u8]) -> bool {

@@ -1,0 +1,121 @@
+//! Every single move on a few sites: all tables of one direction, spins, couplings, cuts and choices.
+use crate::case::{Choices, Lent, Panel, Single};
+use crate::make::{backward, UNTOUCHED};
+use crate::model::lengths;
+use calls::{Form, Mode};
+
+/// All orders of 0 to len-1.
+fn orders(len: usize) -> Vec<Vec<u8>> {
+    if len == 0 {
+        return vec![vec![]];
+    }
+    let insert = |shorter: &Vec<u8>, at: usize| {
+        let mut order = shorter.clone();
+        order.insert(at, len as u8 - 1);
+        order
+    };
+    orders(len - 1)
+        .iter()
+        .flat_map(|shorter| (0..len).map(move |at| insert(shorter, at)))
+        .collect()
+}
+
+/// Draws a number's digits, each with a radix of its own; their product is how many numbers there are.
+struct Digits {
+    number: usize,
+    all: usize,
+}
+
+impl Digits {
+    fn take(&mut self, radix: usize) -> usize {
+        let digit = self.number % radix;
+        self.number /= radix;
+        self.all = self.all.saturating_mul(radix);
+        digit
+    }
+
+    fn pick<T: Copy>(&mut self, from: &[T]) -> T {
+        from[self.take(from.len())]
+    }
+}
+
+/// The case of one number and how many numbers there are. At T = 1 a bond of strength 1 is compared with 4 or 2, so
+/// the cuts are below, between and equal.
+fn case(mode: Mode, form: Form, n: usize, members: usize, number: usize) -> (Single, usize) {
+    let mut digits = Digits { number, all: 1 };
+    let exact = lengths(mode, form, n, 1, members, 1);
+    let fwd: Vec<u32> = orders(n)[digits.take(orders(n).len())]
+        .iter()
+        .map(|&site| u32::from(site))
+        .collect();
+    let permutations = orders(members);
+    let proper: Vec<Vec<u8>> = permutations
+        .iter()
+        .filter(|p| !p.is_sorted())
+        .cloned()
+        .collect();
+    let from = if form == Form::Wolff {
+        &proper
+    } else {
+        &permutations
+    };
+    let greys: &[u8] = if form == Form::Wolff {
+        &[1, 2, 3]
+    } else {
+        &[0, 1, 2, 3]
+    };
+    let several = |count: Option<usize>| 0..count.unwrap_or(0);
+    let lent = Lent {
+        spins: (0..members * n).map(|_| digits.pick(&[1, -1])).collect(),
+        labels: vec![UNTOUCHED; exact.labels],
+        grey_labels: vec![UNTOUCHED; exact.grey_labels.unwrap_or(0)],
+        counts: vec![UNTOUCHED; exact.counts],
+        sizes: vec![UNTOUCHED; exact.sizes],
+    };
+    let couplings = several(exact.couplings)
+        .map(|_| digits.pick(&[1, -1, 0]))
+        .collect();
+    let choices = Choices {
+        cuts: several(exact.cuts)
+            .map(|_| digits.pick(&[1.0, 2.0, 4.0]))
+            .collect(),
+        flips: several(exact.flips).map(|_| digits.pick(&[0, 1])).collect(),
+        perms: several(exact.perms.map(|all| all / members))
+            .flat_map(|_| from[digits.take(from.len())].clone())
+            .collect(),
+        greys: several(exact.greys).map(|_| digits.pick(greys)).collect(),
+    };
+    let single = Single {
+        panel: Panel {
+            mode,
+            form,
+            n,
+            d: 1,
+            s: members,
+            bwd: backward(n, 1, &fwd),
+            fwd,
+            couplings,
+        },
+        group: (0..members as u32).collect(),
+        temperature: 1.0,
+        reference: digits.take(if mode == Mode::Gperm { n } else { 1 }),
+        seed: digits.take(if form == Form::Wolff { n } else { 1 }),
+        choices,
+        lent,
+    };
+    (single, digits.all)
+}
+
+/// All cases of each shape of up to three sites and four members that has at most `most` of them. A seed that does
+/// not act is among them.
+pub fn each(mode: Mode, form: Form, most: usize, mut visit: impl FnMut(Single)) {
+    let members = if mode == Mode::Cmr { 2 } else { 4 };
+    for n in 1..=3 {
+        for members in 2..=members {
+            let (_, all) = case(mode, form, n, members, 0);
+            for number in (0..all).filter(|_| all <= most) {
+                visit(case(mode, form, n, members, number).0);
+            }
+        }
+    }
+}

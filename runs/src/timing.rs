@@ -1,0 +1,197 @@
+//! Calls for the benchmarks and the time they take.
+use crate::case::{Choices, Lent, Panel, Single, Swept};
+use crate::make::backward;
+use crate::model::{self, lengths};
+use crate::rand::Rand;
+use calls::{Form, Mode};
+use std::time::Instant;
+
+/// The median of single runs, in microseconds. `ready` is not timed.
+pub fn median<S>(
+    repetitions: usize,
+    state: &mut S,
+    ready: impl Fn(&mut S),
+    mut run: impl FnMut(&mut S),
+) -> f64 {
+    let mut times: Vec<f64> = (0..repetitions + 2)
+        .map(|_| {
+            ready(state);
+            let start = Instant::now();
+            run(state);
+            start.elapsed().as_secs_f64() * 1e6
+        })
+        .skip(2) // The first ones fill the caches and the Rust's pools.
+        .collect();
+    times.sort_by(f64::total_cmp);
+    times[times.len() / 2]
+}
+
+const SIDE: usize = 64;
+pub const N: usize = SIDE * SIDE;
+
+/// A square torus of 64 by 64 sites with couplings of size 1.
+pub fn panel(rand: &mut Rand, mode: Mode, form: Form, s: usize) -> Panel {
+    let fwd: Vec<u32> = (0..N)
+        .flat_map(|i| {
+            let (row, column) = (i / SIDE, i % SIDE);
+            let right = row * SIDE + (column + 1) % SIDE;
+            [right as u32, ((i + SIDE) % N) as u32]
+        })
+        .collect();
+    Panel {
+        mode,
+        form,
+        n: N,
+        d: 2,
+        s,
+        bwd: backward(N, 2, &fwd),
+        fwd,
+        couplings: (0..2 * N).map(|_| rand.pick(&[1, -1])).collect(),
+    }
+}
+
+pub fn spins(rand: &mut Rand, s: usize) -> Vec<i8> {
+    (0..s * N).map(|_| rand.pick(&[1, -1])).collect()
+}
+
+fn permutations(rand: &mut Rand, count: usize, members: usize) -> Vec<u8> {
+    let mut perms = Vec::new();
+    while perms.len() < count {
+        let p = rand.permutation(members);
+        if p.iter().enumerate().any(|(k, &v)| k != v) {
+            perms.extend(p.iter().map(|&v| v as u8));
+        }
+    }
+    perms
+}
+
+/// Choices as a caller would draw them; a one-cluster permutation is not the identity.
+fn choices(rand: &mut Rand, panel: &Panel, members: usize, tasks: usize) -> Choices {
+    let exact = lengths(panel.mode, panel.form, N, 2, members, tasks);
+    let least = usize::from(panel.form == Form::Wolff);
+    Choices {
+        cuts: (0..exact.cuts.unwrap_or(0))
+            .map(|_| -rand.unit().ln() as f32)
+            .collect(),
+        flips: (0..exact.flips.unwrap_or(0))
+            .map(|_| rand.range(0, 1) as u8)
+            .collect(),
+        perms: permutations(rand, exact.perms.unwrap_or(0), members),
+        greys: (0..exact.greys.unwrap_or(0))
+            .map(|_| rand.range(least, 3) as u8)
+            .collect(),
+    }
+}
+
+fn outputs(panel: &Panel, members: usize, tasks: usize, spins: Vec<i8>) -> Lent {
+    let exact = lengths(panel.mode, panel.form, N, 2, members, tasks);
+    Lent {
+        spins,
+        labels: vec![0; exact.labels],
+        grey_labels: vec![0; exact.grey_labels.unwrap_or(0)],
+        counts: vec![0; exact.counts],
+        sizes: vec![0; exact.sizes],
+    }
+}
+
+/// A move of one group in a panel of `s` systems.
+pub fn single(rand: &mut Rand, mode: Mode, form: Form, members: usize, s: usize) -> Single {
+    let panel = panel(rand, mode, form, s);
+    let spins = spins(rand, s);
+    let mut case = Single {
+        group: (0..members as u32).collect(),
+        temperature: 1.0,
+        reference: 0,
+        seed: 0,
+        choices: choices(rand, &panel, members, 1),
+        lent: outputs(&panel, members, 1, spins),
+        panel,
+    };
+    let active = model::active(&case.step(&mut case.lent.clone()));
+    case.seed = active.iter().position(|&acts| acts).unwrap_or(0);
+    case
+}
+
+pub fn swept(rand: &mut Rand, mode: Mode, form: Form, members: usize) -> Swept {
+    let (t, r) = (8, 8);
+    let tasks = t * (r / members);
+    let panel = panel(rand, mode, form, t * r);
+    let spins = spins(rand, t * r);
+    let mut case = Swept {
+        t,
+        r,
+        members,
+        order: rand.permutation(t * r).iter().map(|&v| v as u32).collect(),
+        masks: vec![0; t],
+        temperatures: (0..t).map(|j| 0.5 + 0.25 * j as f32).collect(),
+        references: vec![0; tasks],
+        seeds: vec![0; tasks],
+        choices: choices(rand, &panel, members, tasks),
+        lent: outputs(&panel, members, tasks, spins),
+        panel,
+    };
+    let mut lent = case.lent.clone();
+    let seed = |task| {
+        let active = model::active_in_task(&case.sweep(&mut lent), task);
+        active.iter().position(|&acts| acts).unwrap_or(0) as u32
+    };
+    case.seeds = (0..tasks).map(seed).collect();
+    case
+}
+
+/// The last entry of the last kind of choice that this mode and form take is made faulty.
+fn faulty_last(mode: Mode, form: Form, choices: &mut Choices) {
+    let Choices {
+        cuts,
+        flips,
+        perms,
+        greys,
+    } = choices;
+    match (mode, form) {
+        (Mode::Jorg | Mode::Cmr, Form::Observe) => *cuts.last_mut().unwrap() = -1.0,
+        (Mode::Cmr, _) => *greys.last_mut().unwrap() = 4,
+        (Mode::Perm | Mode::Gperm, Form::Sw | Form::Wolff) => *perms.last_mut().unwrap() = 255,
+        (_, Form::Sw) => *flips.last_mut().unwrap() = 2,
+        _ => {}
+    }
+}
+
+/// The same call refused by the last test that reads much, so that its time is that of the tests.
+pub fn refused_single(case: &Single) -> Single {
+    let mut case = case.clone();
+    let (mode, form) = (case.panel.mode, case.panel.form);
+    if form == Form::Wolff && mode != Mode::Cmr {
+        let active = model::active(&case.step(&mut case.lent.clone()));
+        case.seed = active.iter().position(|&acts| !acts).unwrap_or(N);
+    } else if form == Form::Wolff {
+        case.seed = N;
+    } else if form == Form::Observe && !mode.draws() {
+        match mode {
+            Mode::Gperm => case.reference = N,
+            _ => case.group[1] = case.group[0],
+        }
+    } else {
+        faulty_last(mode, form, &mut case.choices);
+    }
+    case
+}
+
+pub fn refused_sweep(case: &Swept) -> Swept {
+    let mut case = case.clone();
+    let (mode, form) = (case.panel.mode, case.panel.form);
+    let last = case.seeds.len() - 1;
+    if form == Form::Wolff && mode != Mode::Cmr {
+        let active = model::active_in_task(&case.sweep(&mut case.lent.clone()), last);
+        case.seeds[last] = active.iter().position(|&acts| !acts).unwrap_or(N) as u32;
+    } else if form == Form::Wolff {
+        case.seeds[last] = N as u32;
+    } else if form == Form::Observe && !mode.draws() {
+        match mode {
+            Mode::Gperm => case.references[last] = N as u32,
+            _ => case.masks[case.t - 1] = 2,
+        }
+    } else {
+        faulty_last(mode, form, &mut case.choices);
+    }
+    case
+}
