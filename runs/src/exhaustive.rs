@@ -1,6 +1,7 @@
 //! Every single move on a few sites: all tables of one direction, spins, couplings, cuts and choices.
 use crate::case::{Choices, Lent, Panel, Single};
-use crate::make::{backward, UNTOUCHED};
+use crate::lattices::backward;
+use crate::make::UNTOUCHED;
 use crate::model::lengths;
 use calls::{Form, Mode};
 

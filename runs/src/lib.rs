@@ -3,6 +3,7 @@ pub mod case;
 pub mod compare;
 pub mod damage;
 pub mod exhaustive;
+pub mod lattices;
 pub mod make;
 pub mod model;
 pub mod port;

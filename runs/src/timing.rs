@@ -1,6 +1,6 @@
 //! Calls for the benchmarks and the time they take.
 use crate::case::{Choices, Lent, Panel, Single, Swept};
-use crate::make::backward;
+use crate::lattices::backward;
 use crate::model::{self, lengths};
 use crate::rand::Rand;
 use calls::{Form, Mode};
