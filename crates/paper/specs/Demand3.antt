@@ -1,10 +1,12 @@
+pub mod Statement
 pub mod Reversible
 pub mod ActsKept
 pub mod Step
 pub mod Turns
 pub mod BondSums
 pub mod Compose
-pub mod Statement
 pub mod ChoicesAdd
+pub mod ChoiceRows
+pub mod ChoicesFit
 pub mod Chain
-pub mod ComposeChoices
+pub mod Theorem

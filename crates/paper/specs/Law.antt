@@ -1,9 +1,11 @@
+pub mod Cells
 pub mod Unique
 pub mod Determined
 pub mod ByTest
 pub mod Sums
 pub mod Patterns
 pub mod Partners
+pub mod SweepKept
 pub mod SweepDetermined
 pub mod Local
 pub mod AnswersLocal

@@ -1,76 +1,172 @@
--- After an accepted move of a reversible mode the next is accepted too, if its own choices and buffers are right. Assumes nothing.
-use Prim.Native.Nat.{ℕ, _+_, _*_, _/_, _%_, _<_, _≤_}
+-- After an accepted move of a reversible mode the next is accepted too, if its own choices and buffers are right, and it has an outcome. Assumes nothing.
+use Prim.Native.Nat.{ℕ, zero, suc, _+_, _*_, _/_, _%_, _<_, _≤_}
 use mathlib.Core.Path.{_≡_, refl, sym, _∙_, ap}
-use mathlib.Core.Logic.{_⊎_, inl, inr, _≢_}
+use mathlib.Core.Logic.{_⊎_, inl, inr}
+use mathlib.Core.Bool.{Bool, true, false}
 use mathlib.Core.List.{List}
 use native.Mathlib.Omega.{arith}
+use native.Mathlib.Decide.{ℕ-discrete}
 use native.Mathlib.Nat.{div-add-mod', mod-lt}
 use lib.ListN.{length, getD}
 use lib.IntN.{ℤ, pos}
-use Rattle.paper.specs.declared.Answer.{Answer}
-use Rattle.paper.specs.Panel.Input.{Call, Choices, Buffers, spin, size, system}
-use Rattle.paper.specs.Site.Acting.{SomeActs}
-use Rattle.paper.specs.Refusal.Rule.{Kept}
-use Rattle.paper.specs.Refusal.Rules.{Spin, Spins, Exact, Seeded, rules}
-use Rattle.paper.specs.Answer.Move.{Answers}
-use Rattle.paper.specs.Law.Unique.{Placed, place}
-use Rattle.paper.specs.Demand3.Reversible.{Reversible}
-use Rattle.paper.specs.Demand3.Step.{Accepted, Step, step}
-use Rattle.paper.specs.Demand3.Turns.{spins-kept, acts-kept}
-use Rattle.paper.specs.Law.AnswersLocal.{withSpins}
+use Rattle.paper.specs.Panel.Input.{graph, Call, Choices, Buffers, spin, size, system}
+use Rattle.paper.specs.Site.Acting.{acts, SomeActs, NoneActs}
+use Rattle.paper.specs.Site.Bonds.{holds}
+use Rattle.paper.specs.Component.Labels.{Labels}
+use Rattle.paper.specs.Component.Sizes.{Counted, Largest}
+use Rattle.paper.specs.Move.Moving.{final}
+use Rattle.paper.specs.Refusal.Rules.{Spin, Spins, Exact, Chosen, Seeded}
+use Rattle.paper.specs.Refusal.Kept.{Sound, Fit, Valid, valid-of, valid-kept}
+use Rattle.paper.specs.Answer.Move.{Seen}
+use Rattle.paper.specs.Law.ByTest.{never}
+use Rattle.paper.specs.Law.Unique.{Placed, place, Outside}
+use Rattle.paper.specs.Law.MovesExist.{write, moves-exist}
+use Rattle.paper.specs.Demand3.Statement.{Reversible, Move, Outcome}
+use Rattle.paper.specs.Demand3.Step.{Step, step, seen-of, valid-move}
+use Rattle.paper.specs.Demand3.Turns.{spins-kept, acts-kept, labels-kept}
+use Rattle.paper.specs.Demand3.ChoicesFit.{Sized, no-greys}
 
-module _ (c : Call) (v : Reversible (c .mode) (size c)) (p : Choices) (xs : List ℤ) (l : List ℕ) (ys : List ℤ) (s : Step c p xs l ys) where
+module _ {c : Call} {p : Choices} {xs : List ℤ} {l : List ℕ} {ys : List ℤ} (s : Step c p xs l ys) where
   -- every spin is +1 or -1 after the move
   spins-after : Spins xs → Spins ys
-  spins-after h x lx = rw (← div-add-mod' x (c .lattice .n)) (at (x / c .lattice .n) (x % c .lattice .n) (mod-lt x (s .some-site)) (rw (div-add-mod' x (c .lattice .n)) (omega (arith, s .long))) (place (size c) (system c) (x / c .lattice .n)))
+  spins-after h x lx = rw (← div-add-mod' x n) (cell (x / n) (x % n) (mod-lt x (s .some-site)) (rw (div-add-mod' x n) (omega (arith, s .long))))
     where
-      at : (t i : ℕ) → i < c .lattice .n → t * c .lattice .n + i < length xs → Placed (size c) (system c) t ⊎ ((k : ℕ) → k < size c → t ≢ system c k) → Spin (spin (c .lattice .n) ys t i)
-      at t i hi q (inl r) = rw (r .2) (spins-kept c v p xs l ys s i hi (r .0) (r .1))
+      n : ℕ
+      n = c .lattice .n
+
+      at : (t i : ℕ) → i < c .lattice .n → t * c .lattice .n + i < length xs → Placed (size c) (system c) t ⊎ Outside c t → Spin (spin (c .lattice .n) ys t i)
+      at t i hi q (inl r) = rw (r .2) (spins-kept s i hi (r .0) (r .1))
       at t i hi q (inr r) = rw (s .others i t hi r) (h (t * c .lattice .n + i) q)
 
+      cell : (t i : ℕ) → i < c .lattice .n → t * c .lattice .n + i < length xs → Spin (spin (c .lattice .n) ys t i)
+      cell t i hi q = at t i hi q (place (size c) (system c) t)
+
+  some-before : SomeActs c ys → SomeActs c xs
+  some-before q = record { site = q .site; below = q .below; does = sym (acts-kept s (q .site) (q .below)) ∙ q .does }
+
   seeded-after : Seeded c xs → Seeded c ys
-  seeded-after h = record { below = h .below; acting = λ t q. acts-kept c v p xs l ys s (c .seed) (h .below t) ∙ h .acting t (record { site = q .site; below = q .below; does = sym (acts-kept c v p xs l ys s (q .site) (q .below)) ∙ q .does }) }
+  seeded-after h = record { below = h .below; acting = λ t q. acts-kept s (c .seed) (h .below t) ∙ h .acting t (some-before q) }
 
--- the choices q would have been accepted before the move, so they are after it
-pub next-valid : (c : Call) (p q : Choices) (b b′ : Buffers) (a : Answer) → Reversible (c .mode) (size c) → Accepted a → Answers c p b a b′ → Kept (rules c q b) → Kept (rules c q (withSpins b (b′ .spins)))
-next-valid c p q b b′ a v acc w k = (
-  k .0,
-  (
-    exact (k .1 .0),
-    (
-      spins-after c v p (b .spins) (b′ .labels) (b′ .spins) s (k .1 .1 .0),
-      (
-        k .1 .1 .1 .0,
-        (
-          k .1 .1 .1 .1 .0,
-          (
-            k .1 .1 .1 .1 .1 .0,
-            (
-              k .1 .1 .1 .1 .1 .1 .0,
-              (k .1 .1 .1 .1 .1 .1 .1 .0, (k .1 .1 .1 .1 .1 .1 .1 .1 .0, (seeded-after c v p (b .spins) (b′ .labels) (b′ .spins) s (k .1 .1 .1 .1 .1 .1 .1 .1 .1 .0), tt))),
-            ),
-          ),
-        ),
-      ),
-    ),
-  ),
-)
+-- ---- an accepted move has an outcome, if its labels are known
+some-or-none : (f : ℕ → Bool) (m : ℕ) → ((i : ℕ) × (i < m) × (f i ≡ true)) ⊎ ((i : ℕ) → i < m → f i ≡ false)
+some-or-none f zero = inr (λ i h. absurd (omega arith))
+some-or-none f (suc m) = go (f m) refl (some-or-none f m)
   where
-    s : Step c p (b .spins) (b′ .labels) (b′ .spins)
-    s = step c p b b′ a v acc w
+    go :
+        (t : Bool)
+        → f m ≡ t
+        → ((i : ℕ) × (i < m) × (f i ≡ true)) ⊎ ((i : ℕ) → i < m → f i ≡ false)
+        → ((i : ℕ) × (i < suc m) × (f i ≡ true)) ⊎ ((i : ℕ) → i < suc m → f i ≡ false)
+    go t e (inl r) = inl (r .0, omega (arith, r .1), r .2)
+    go true e (inr r) = inl (m, omega arith, e)
+    go false e (inr r) = inr (λ i h. last i h (ℕ-discrete i m))
+      where
+        last : (i : ℕ) → i < suc m → Dec (i ≡ m) → f i ≡ false
+        last i h (yes q) = ap f q ∙ e
+        last i h (no q) = r i (omega arith)
 
-    exact : Exact c q b → Exact c q (withSpins b (b′ .spins))
-    exact e = record {
-      spins = s .long ∙ e .spins;
-      fwd = e .fwd;
-      bwd = e .bwd;
-      couplings = e .couplings;
-      cuts = e .cuts;
-      flips = e .flips;
-      perms = e .perms;
-      greys = e .greys;
-      labels = e .labels;
-      grey-labels = e .grey-labels;
-      counts = e .counts;
-      sizes = e .sizes;
-    }
+module _
+    {c : Call} {r : Choices} {d : Buffers} (v : Reversible (c .mode) (size c)) (k : Valid c r d) (l counts sizes : List ℕ)
+    (labels : Labels (graph c) (holds c (d .spins)) l) (tally : Counted l counts) (four : Largest l sizes)
+  where
+    left : List ℤ → Buffers
+    left ys = record { spins = ys; labels = l; greyLabels = d .greyLabels; counts = counts; sizes = sizes }
+
+    seen : (ys : List ℤ) → Seen c d (left ys)
+    unfolding left
+    seen ys = record { labels = labels; grey-labels = λ t. never (sym (no-greys c v) ∙ t); grey-kept = λ _. refl; counts = tally; sizes = four }
+
+    outcome-of : Outcome c r d
+    unfolding left seen
+    outcome-of = go (some-or-none (acts c (d .spins)) (c .lattice .n))
+      where
+        go : ((i : ℕ) × (i < c .lattice .n) × (acts c (d .spins) i ≡ true)) ⊎ NoneActs c (d .spins) → Outcome c r d
+        go (inl q) = record {
+          after = left (write c (d .spins) (final c r (d .spins) l (d .greyLabels)));
+          move = Move.moved (record {
+            valid = valid-kept c r d k;
+            some = record { site = q .0; below = q .1; does = q .2 };
+            moved = moves-exist c r (d .spins) l (d .greyLabels) (k .sound .grouped) (k .sound .exact .spins);
+            seen = seen _;
+          });
+        }
+        go (inr q) = record {
+          after = left (d .spins);
+          move = Move.idle (record { valid = valid-kept c r d k; none = q; still = refl; seen = seen (d .spins) });
+        }
+
+-- ---- other choices: on the buffers that a move was lent, and on any that have the spins that it left
+module _ {c : Call} {p : Choices} {b b′ : Buffers} (v : Reversible (c .mode) (size c)) (m : Move c p b b′) where
+  sound : Sound c p b
+  sound = valid-move m .sound
+
+  fit : Fit c p (b .spins)
+  fit = valid-move m .fit
+
+  pub instead : {q : Choices} → Exact c q b → Chosen c q → Outcome c q b
+  instead {q} e h = outcome-of v valid (b′ .labels) (b′ .counts) (b′ .sizes) (seen-of m .labels) (seen-of m .counts) (seen-of m .sizes)
+    where
+      valid : Valid c q b
+      valid = record {
+        sound = record {
+          ranged = sound .ranged;
+          exact = e;
+          spins = sound .spins;
+          inverse = sound .inverse;
+          grouped = sound .grouped;
+          couplings = sound .couplings;
+          warm = sound .warm;
+        };
+        fit = record { cuts = fit .cuts; chosen = h; seeded = fit .seeded };
+      }
+
+  pub next : {q : Choices} {d : Buffers} → d .spins ≡ b′ .spins → Exact c q d → Chosen c q → Outcome c q d
+  next {q} {d} same e h =
+      outcome-of v valid (b′ .labels) (b′ .counts) (b′ .sizes) (rw same (labels-kept (step v m))) (seen-of m .counts) (seen-of m .sizes)
+    where
+      valid : Valid c q d
+      valid = record {
+        sound = record {
+          ranged = sound .ranged;
+          exact = e;
+          spins = rw same (spins-after (step v m) (sound .spins));
+          inverse = sound .inverse;
+          grouped = sound .grouped;
+          couplings = sound .couplings;
+          warm = sound .warm;
+        };
+        fit = record { cuts = fit .cuts; chosen = h; seeded = rw same (seeded-after (step v m) (fit .seeded)) };
+      }
+
+  -- the lengths: of the buffers that were lent, and of what they hold now
+  pub exact-instead : {q : Choices} → Sized c q → Exact c q b
+  exact-instead z = let e = sound .exact in record {
+    spins = e .spins;
+    fwd = e .fwd;
+    bwd = e .bwd;
+    couplings = e .couplings;
+    cuts = e .cuts;
+    flips = z .flips;
+    perms = z .perms;
+    greys = λ t. never (sym (no-greys c v) ∙ t);
+    labels = e .labels;
+    grey-labels = e .grey-labels;
+    counts = e .counts;
+    sizes = e .sizes;
+  }
+
+  pub exact-next : {q : Choices} → Sized c q → Exact c q b′
+  exact-next z = let e = sound .exact in record {
+    spins = step v m .long ∙ e .spins;
+    fwd = e .fwd;
+    bwd = e .bwd;
+    couplings = e .couplings;
+    cuts = e .cuts;
+    flips = z .flips;
+    perms = z .perms;
+    greys = λ t. never (sym (no-greys c v) ∙ t);
+    labels = seen-of m .labels .long;
+    grey-labels = λ t. never (sym (no-greys c v) ∙ t);
+    counts = rw (seen-of m .labels .long) at (seen-of m .counts .long);
+    sizes = seen-of m .sizes .long;
+  }

@@ -1,4 +1,4 @@
--- The modes of demand 3, and what they share: each permutes the group's gauged patterns, and leaves those that do not act. Assumes nothing.
+-- What the modes of demand 3 share: each permutes the group's gauged patterns, and leaves those that do not act. Assumes nothing.
 use Prim.Native.Nat.{ℕ, zero, suc, _+_, _*_, _/_, _<_, _≤_}
 use mathlib.Core.Path.{_≡_, refl, sym, _∙_, ap}
 use mathlib.Core.Bool.{Bool, true, false, not, cond, _&&_}
@@ -14,22 +14,20 @@ use Rattle.paper.specs.Site.Acting.{eqZ, sum, differs, pairDiffers, gaug
 use Rattle.paper.specs.Site.Bonds.{bothAct, holdsBy}
 use Rattle.paper.specs.Move.Moving.{other, partner, flipBy, permAt, chosenBy, actBy}
 use Rattle.paper.specs.Refusal.Rules.{Spin, Permutes}
-use Rattle.paper.specs.Law.Unique.{Placed}
-use Rattle.paper.specs.Law.Sums.{sum-ext, sum-permuted, onto}
-use Rattle.paper.specs.Law.Patterns.{same-is, square, own-square, ungauge, gauge-cancel, flip-spin, times-spin, opposite, agree, differs-ext, pair-ext, differs-no, no-differs}
-use Rattle.paper.specs.Law.Partners.{pairs-fit, partner-permutes, partner-same, pair-partner}
-
--- pair, perm, gperm, and houd with two replicas
-abbrev pub Reversible : Mode → ℕ → Type 0
-Reversible Houd m = m ≡ 2
-Reversible Pair m = Unit {0}
-Reversible Perm m = Unit {0}
-Reversible Gperm m = Unit {0}
-Reversible Jorg m = ⊥
-Reversible Cmr m = ⊥
+use Rattle.paper.specs.Law.Patterns.{square, ungauge, gauge-cancel, flip-spin, times-spin, opposite, agree, differs-no}
+use Rattle.paper.specs.Law.Partners.{partner-permutes, partner-same}
+use Rattle.paper.specs.Demand3.Statement.{Reversible}
 
 abbrev pub Spinning : ℕ → Pattern → Type 0
 Spinning m f = (k : ℕ) → k < m → Spin (f k)
+
+-- the permutation chosen on the component r
+abbrev pub permOf : Call → Choices → ℕ → ℕ → ℕ
+permOf c p r = permAt (c .form) (size c) (p .perms) r
+
+-- the flip chosen there
+abbrev pub flipOf : Call → Choices → ℕ → Bool
+flipOf c p r = flipBy (c .form) (p .flips) r
 
 pub not-cmr : (m : Mode) (s : ℕ) → Reversible m s → isCmr m ≡ false
 not-cmr Houd s v = refl
@@ -48,7 +46,13 @@ holds-both Jorg s v c xs i e = absurd v
 holds-both Cmr s v c xs i e = absurd v
 
 -- ---- the gauge is undone, and changes no product of end spins
-pub gauge-back : (m : Mode) (P f g : Pattern) (k : ℕ) → (isGperm m ≡ true → Spin (P k)) → Spin (f k) → Spin (g k) → gauge m P f k ≡ gauge m P g k → f k ≡ g k
+pub gauge-back :
+    (m : Mode) (P f g : Pattern) (k : ℕ)
+    → (isGperm m ≡ true → Spin (P k))
+    → Spin (f k)
+    → Spin (g k)
+    → gauge m P f k ≡ gauge m P g k
+    → f k ≡ g k
 gauge-back Houd P f g k sp sf sg e = e
 gauge-back Pair P f g k sp sf sg e = e
 gauge-back Perm P f g k sp sf sg e = e
@@ -56,7 +60,12 @@ gauge-back Gperm P f g k sp sf sg e = sym (ungauge (P k) (f k) (sp refl) sf) ∙
 gauge-back Jorg P f g k sp sf sg e = e
 gauge-back Cmr P f g k sp sf sg e = e
 
-pub gauge-product : (m : Mode) (P f g : Pattern) (k : ℕ) → (isGperm m ≡ true → Spin (P k)) → Spin (f k) → Spin (g k) → gauge m P f k *ℤ gauge m P g k ≡ f k *ℤ g k
+pub gauge-product :
+    (m : Mode) (P f g : Pattern) (k : ℕ)
+    → (isGperm m ≡ true → Spin (P k))
+    → Spin (f k)
+    → Spin (g k)
+    → gauge m P f k *ℤ gauge m P g k ≡ f k *ℤ g k
 gauge-product Houd P f g k sp sf sg = refl
 gauge-product Pair P f g k sp sf sg = refl
 gauge-product Perm P f g k sp sf sg = refl
@@ -69,36 +78,70 @@ flip-permutes : (s : ℕ) (t : Bool) → Permutes s (λ k. cond t (partner s k) 
 flip-permutes s true = partner-permutes s
 flip-permutes s false = record { within = λ k l. l; distinct = λ a b _ _ e. e }
 
-pub chosen-permutes : (m : Mode) (c : Call) (p : Choices) (r : ℕ) → Reversible m (size c) → (isPerm m ≡ true → Permutes (size c) (permAt (c .form) (size c) (p .perms) r)) → Permutes (size c) (chosenBy m c p r)
-chosen-permutes Houd c p r v h = flip-permutes (size c) (flipBy (c .form) (p .flips) r)
-chosen-permutes Pair c p r v h = flip-permutes (size c) (flipBy (c .form) (p .flips) r)
+pub chosen-permutes :
+    (m : Mode) (c : Call) (p : Choices) (r : ℕ)
+    → Reversible m (size c)
+    → (isPerm m ≡ true → Permutes (size c) (permOf c p r))
+    → Permutes (size c) (chosenBy m c p r)
+chosen-permutes Houd c p r v h = flip-permutes (size c) (flipOf c p r)
+chosen-permutes Pair c p r v h = flip-permutes (size c) (flipOf c p r)
 chosen-permutes Perm c p r v h = h refl
 chosen-permutes Gperm c p r v h = h refl
 chosen-permutes Jorg c p r v h = absurd v
 chosen-permutes Cmr c p r v h = absurd v
 
 -- ---- what a choice makes of the gauged pattern: place k gets what place `chosen k` had
-houd-two : (t : Bool) (f : Pattern) → Spinning 2 f → eqZ (sum 2 f) (pos 0) ≡ true → (k : ℕ) → k < 2 → cond (t && ltb k (2 * (2 / 2))) (negℤ (f k)) (f k) ≡ f (cond t (partner 2 k) k)
+abbrev negated : ℕ → Bool → Pattern → Pattern
+negated m t f k = cond (t && ltb k (2 * (m / 2))) (negℤ (f k)) (f k)
+
+abbrev exchanged : ℕ → Bool → Pattern → Pattern
+exchanged m t f k = f (cond t (partner m k) k)
+
+houd-two : (t : Bool) (f : Pattern) → Spinning 2 f → eqZ (sum 2 f) (pos 0) ≡ true → (k : ℕ) → k < 2 → negated 2 t f k ≡ exchanged 2 t f k
 unfolding sum other
 houd-two false f s e k h = refl
 houd-two true f s e zero h = opposite (f 0) (f 1) (s 0 (omega arith)) (s 1 (omega arith)) e .0
 houd-two true f s e (suc zero) h = opposite (f 0) (f 1) (s 0 (omega arith)) (s 1 (omega arith)) e .1
 houd-two true f s e (suc (suc k)) h = absurd (omega arith)
 
-houd-act : (m : ℕ) → m ≡ 2 → (t : Bool) (f : Pattern) → Spinning m f → eqZ (sum m f) (pos 0) ≡ true → (k : ℕ) → k < m → cond (t && ltb k (2 * (m / 2))) (negℤ (f k)) (f k) ≡ f (cond t (partner m k) k)
+houd-act :
+    (m : ℕ)
+    → m ≡ 2
+    → (t : Bool) (f : Pattern)
+    → Spinning m f
+    → eqZ (sum m f) (pos 0) ≡ true
+    → (k : ℕ)
+    → k < m
+    → negated m t f k ≡ exchanged m t f k
 houd-act m q t f = rw q (houd-two t f)
 
-pub act-gauged : (m : Mode) (c : Call) (p : Choices) (r : ℕ) (P f : Pattern) → Reversible m (size c) → Permutes (size c) (chosenBy m c p r) → (isGperm m ≡ true → Spinning (size c) P) → Spinning (size c) f → actsBy m (size c) P f ≡ true → (k : ℕ) → k < size c → gauge m P (actBy m c p P r f) k ≡ gauge m P f (chosenBy m c p r k)
-act-gauged Houd c p r P f v h sp sf a k l = houd-act (size c) v (flipBy (c .form) (p .flips) r) f sf a k l
+pub act-gauged :
+    (m : Mode) (c : Call) (p : Choices) (r : ℕ) (P f : Pattern)
+    → Reversible m (size c)
+    → Permutes (size c) (chosenBy m c p r)
+    → (isGperm m ≡ true → Spinning (size c) P)
+    → Spinning (size c) f
+    → actsBy m (size c) P f ≡ true
+    → (k : ℕ)
+    → k < size c
+    → gauge m P (actBy m c p P r f) k ≡ gauge m P f (chosenBy m c p r k)
+act-gauged Houd c p r P f v h sp sf a k l = houd-act (size c) v (flipOf c p r) f sf a k l
 act-gauged Pair c p r P f v h sp sf a k l = refl
 act-gauged Perm c p r P f v h sp sf a k l = refl
-act-gauged Gperm c p r P f v h sp sf a k l = gauge-cancel (P k) (P (permAt (c .form) (size c) (p .perms) r k)) (f (permAt (c .form) (size c) (p .perms) r k)) (sp refl k l) (sp refl _ (h .within k l)) (sf _ (h .within k l))
+act-gauged Gperm c p r P f v h sp sf a k l =
+    gauge-cancel (P k) (P (permOf c p r k)) (f (permOf c p r k)) (sp refl k l) (sp refl _ (h .within k l)) (sf _ (h .within k l))
 act-gauged Jorg c p r P f v h sp sf a k l = absurd v
 act-gauged Cmr c p r P f v h sp sf a k l = absurd v
 
 -- a moved pattern of spins is one of spins
-pub act-spin : (m : Mode) (c : Call) (p : Choices) (r : ℕ) (P f : Pattern) → Reversible m (size c) → Permutes (size c) (chosenBy m c p r) → (isGperm m ≡ true → Spinning (size c) P) → Spinning (size c) f → (k : ℕ) → k < size c → Spin (actBy m c p P r f k)
-act-spin Houd c p r P f v h sp sf k l = flip-spin (flipBy (c .form) (p .flips) r && ltb k (2 * (size c / 2))) (f k) (sf k l)
+pub act-spin :
+    (m : Mode) (c : Call) (p : Choices) (r : ℕ) (P f : Pattern)
+    → Reversible m (size c)
+    → Permutes (size c) (chosenBy m c p r)
+    → (isGperm m ≡ true → Spinning (size c) P)
+    → Spinning (size c) f
+    → Spinning (size c) (actBy m c p P r f)
+act-spin Houd c p r P f v h sp sf k l = flip-spin (flipOf c p r && ltb k (2 * (size c / 2))) (f k) (sf k l)
 act-spin Pair c p r P f v h sp sf k l = sf _ (h .within k l)
 act-spin Perm c p r P f v h sp sf k l = sf _ (h .within k l)
 act-spin Gperm c p r P f v h sp sf k l = times-spin _ _ (times-spin _ _ (sp refl k l) (sp refl _ (h .within k l))) (sf _ (h .within k l))
@@ -109,24 +152,40 @@ act-spin Cmr c p r P f v h sp sf k l = absurd v
 all-same : (m : ℕ) (f : Pattern) (q : ℕ → ℕ) → Permutes m q → differs m f ≡ false → (k : ℕ) → k < m → f (q k) ≡ f k
 all-same m f q h e k l = differs-no m f e (q k) (h .within k l) ∙ sym (differs-no m f e k l)
 
-flip-same : (m : ℕ) (t : Bool) (f : Pattern) → pairDiffers (m / 2) f ≡ false → (k : ℕ) → f (cond t (partner m k) k) ≡ f k
+flip-same : (m : ℕ) (t : Bool) (f : Pattern) → pairDiffers (m / 2) f ≡ false → (k : ℕ) → exchanged m t f k ≡ f k
 flip-same m true f e k = partner-same m f e k
 flip-same m false f e k = refl
 
-two-same : (t : Bool) (f : Pattern) → Spinning 2 f → eqZ (sum 2 f) (pos 0) ≡ false → (k : ℕ) → k < 2 → f (cond t (partner 2 k) k) ≡ f k
+two-same : (t : Bool) (f : Pattern) → Spinning 2 f → eqZ (sum 2 f) (pos 0) ≡ false → (k : ℕ) → k < 2 → exchanged 2 t f k ≡ f k
 unfolding sum other
 two-same false f s e k h = refl
 two-same true f s e zero h = sym (agree (f 0) (f 1) (s 0 (omega arith)) (s 1 (omega arith)) e)
 two-same true f s e (suc zero) h = agree (f 0) (f 1) (s 0 (omega arith)) (s 1 (omega arith)) e
 two-same true f s e (suc (suc k)) h = absurd (omega arith)
 
-houd-same : (m : ℕ) → m ≡ 2 → (t : Bool) (f : Pattern) → Spinning m f → eqZ (sum m f) (pos 0) ≡ false → (k : ℕ) → k < m → f (cond t (partner m k) k) ≡ f k
+houd-same :
+    (m : ℕ)
+    → m ≡ 2
+    → (t : Bool) (f : Pattern)
+    → Spinning m f
+    → eqZ (sum m f) (pos 0) ≡ false
+    → (k : ℕ)
+    → k < m
+    → exchanged m t f k ≡ f k
 houd-same m q t f = rw q (two-same t f)
 
-pub still : (m : Mode) (c : Call) (p : Choices) (r : ℕ) (P f : Pattern) → Reversible m (size c) → Permutes (size c) (chosenBy m c p r) → Spinning (size c) f → actsBy m (size c) P f ≡ false → (k : ℕ) → k < size c → gauge m P f (chosenBy m c p r k) ≡ gauge m P f k
-still Houd c p r P f v h sf a k l = houd-same (size c) v (flipBy (c .form) (p .flips) r) f sf a k l
-still Pair c p r P f v h sf a k l = flip-same (size c) (flipBy (c .form) (p .flips) r) f a k
-still Perm c p r P f v h sf a k l = all-same (size c) f (permAt (c .form) (size c) (p .perms) r) h a k l
-still Gperm c p r P f v h sf a k l = all-same (size c) (λ k. P k *ℤ f k) (permAt (c .form) (size c) (p .perms) r) h a k l
+pub still :
+    (m : Mode) (c : Call) (p : Choices) (r : ℕ) (P f : Pattern)
+    → Reversible m (size c)
+    → Permutes (size c) (chosenBy m c p r)
+    → Spinning (size c) f
+    → actsBy m (size c) P f ≡ false
+    → (k : ℕ)
+    → k < size c
+    → gauge m P f (chosenBy m c p r k) ≡ gauge m P f k
+still Houd c p r P f v h sf a k l = houd-same (size c) v (flipOf c p r) f sf a k l
+still Pair c p r P f v h sf a k l = flip-same (size c) (flipOf c p r) f a k
+still Perm c p r P f v h sf a k l = all-same (size c) f (permOf c p r) h a k l
+still Gperm c p r P f v h sf a k l = all-same (size c) (λ k. P k *ℤ f k) (permOf c p r) h a k l
 still Jorg c p r P f v h sf a k l = absurd v
 still Cmr c p r P f v h sf a k l = absurd v

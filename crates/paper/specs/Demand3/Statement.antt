@@ -1,79 +1,183 @@
--- Demand 3, over `Answers`: pair, perm, gperm and two-replica houd, SW and Wolff, act as a group. What it needs of spins, systems and tables is
--- what an accepted call keeps. Assumes nothing.
-use Prim.Native.Nat.{ℕ, zero, suc, _+_, _%_, _<_, _≤_}
-use mathlib.Core.Path.{_≡_, refl, sym, _∙_, ap}
+-- Demand 3 of document 00: the pair, perm, gperm and two-replica houd moves act as a group. Each part below cites its clause. The moves are those
+-- of demand 2: `Answers` is what the public moves ensure. An accepted move has tested that spins are +1 or -1, systems distinct and neighbour
+-- tables inverse. Read from the top; Demand3/Theorem.antt proves `Demand3` for every such call, and `Boundary`. Assumes nothing.
+use Prim.Native.Nat.{ℕ, zero, suc, _+_, _*_, _/_, _%_, _<_}
+use mathlib.Core.Path.{_≡_}
 use mathlib.Core.Logic.{_≢_, _↔_}
-use mathlib.Core.Bool.{Bool, true, false}
-use mathlib.Core.List.{List}
-use lib.IntN.{ℤ}
-use Rattle.paper.specs.declared.Answer.{Answer}
+use mathlib.Core.Bool.{true, false, cond}
+use mathlib.Core.List.{List, []}
+use lib.Dec.{eqb}
+use lib.ListN.{getD}
+use lib.IntN.{ℤ, pos, negsuc}
+use Rattle.paper.specs.declared.Mode.{Mode}
+use Rattle.paper.specs.declared.Mode.the-variants.{Houd, Pair, Perm, Gperm, Jorg, Cmr}
+use Rattle.paper.specs.declared.Form.the-variants.{Sw, Wolff}
 use Rattle.paper.specs.declared.Answer.the-variants.{Idle, Moved}
-use Rattle.paper.specs.Component.Links.{bind}
 use Rattle.paper.specs.Panel.Input.{graph, Call, Choices, Buffers, pattern, spin, size, system}
+use Rattle.paper.specs.Panel.Takes.{isPerm, moves, entries}
 use Rattle.paper.specs.Site.Acting.{acts}
 use Rattle.paper.specs.Site.Bonds.{holds}
+use Rattle.paper.specs.Site.Energy.{bondSum}
 use Rattle.paper.specs.Component.Labels.{Joined, Labels}
 use Rattle.paper.specs.Component.Sizes.{labelOf}
+use Rattle.paper.specs.Move.Moving.{chosen}
+use Rattle.paper.specs.Refusal.Rules.{Exact, Chosen, NotIdentity, permRow}
 use Rattle.paper.specs.Answer.Move.{Answers}
-use Rattle.paper.specs.Site.Energy.{bondSum}
-use Rattle.paper.specs.Law.Unique.{labels-unique, same-label}
-use Rattle.paper.specs.Demand3.Reversible.{Reversible}
-use Rattle.paper.specs.Demand3.Step.{Accepted, Accepted.idle, Accepted.moved, Step, step}
-use Rattle.paper.specs.Demand3.Turns.{acts-kept, labels-kept}
-use Rattle.paper.specs.Demand3.BondSums.{sum-kept}
-use Rattle.paper.specs.Demand3.Compose.{ComposedAt, CancelsAt, Composed, Cancels, back-at, two-back, then-at, two-then}
+use Rattle.paper.specs.Answer.Task.{table}
+use Rattle.paper.specs.Rows.Cases.{houd4, noChoices, before12, after12}
 
--- from the spins xs to the spins ys nothing changes but the group's spins, and these so that
-pub record Keeps (c : Call) (xs ys : List ℤ) : Type 0 where
-  -- the same sites act
-  pub acting : (i : ℕ) → i < c .lattice .n → acts c ys i ≡ acts c xs i
-  -- the components are the same
-  pub components : (i j : ℕ) → i < c .lattice .n → j < c .lattice .n → Joined (graph c) (holds c ys) i j ↔ Joined (graph c) (holds c xs) i j
-  -- for every bond, the sum over the group of the product of its end spins is the same
-  pub sums : (i e : ℕ) → i < c .lattice .n → e < c .lattice .d → bondSum c ys i e ≡ bondSum c xs i e
-  -- other systems keep their bytes
-  pub others : (i t : ℕ) → i < c .lattice .n → ((k : ℕ) → k < size c → t ≢ system c k) → spin (c .lattice .n) ys t i ≡ spin (c .lattice .n) xs t i
+-- ---- which moves: "the pair, perm, gperm and two-replica houd moves", for any number of sites, directions and systems and any group size m
+abbrev pub Reversible : Mode → ℕ → Type 0
+Reversible Houd m = m ≡ 2
+Reversible Pair m = Unit {0}
+Reversible Perm m = Unit {0}
+Reversible Gperm m = Unit {0}
+Reversible Jorg m = ⊥
+Reversible Cmr m = ⊥
 
-pub keeps : (c : Call) (p : Choices) (b b′ : Buffers) (a : Answer) → Reversible (c .mode) (size c) → Accepted a → Answers c p b a b′ → Keeps c (b .spins) (b′ .spins)
-keeps c p b b′ a v acc w = record {
-  acting = acts-kept c v p (b .spins) (b′ .labels) (b′ .spins) s;
-  components = λ i j hi hj. (joined (holds c (b′ .spins)) (holds c (b .spins)) after (s .labels) i j hi hj, joined (holds c (b .spins)) (holds c (b′ .spins)) (s .labels) after i j hi hj);
-  sums = sum-kept c v p (b .spins) (b′ .labels) (b′ .spins) s;
-  others = s .others;
+-- a move of the call c, choosing p, that is not refused; b are the lent buffers before it and b′ after it. The call is the mode, the form (SW or
+-- Wolff), the lattice, the group, the gauge site and the seed, so two moves of one call have "the same mode, group, form, gauge site and seed"
+pub data Move (c : Call) (p : Choices) (b b′ : Buffers) : Type 0 where
+  idle : Answers c p b Idle b′ → Move c p b b′
+  moved : Answers c p b Moved b′ → Move c p b b′
+
+-- ---- "A move keeps the active sites, the components and, for every bond, the sum over the group of the product of its end spins."
+pub record Keeps (c : Call) (b b′ : Buffers) : Type 0 where
+  pub acting : (i : ℕ) → i < c .lattice .n → acts c (b′ .spins) i ≡ acts c (b .spins) i
+  -- the components: two sites are joined after the move just if they were before it; their labels, as the move wrote them, are right for both
+  pub components :
+      (i j : ℕ)
+      → i < c .lattice .n
+      → j < c .lattice .n
+      → Joined (graph c) (holds c (b′ .spins)) i j ↔ Joined (graph c) (holds c (b .spins)) i j
+  pub labels-before : Labels (graph c) (holds c (b .spins)) (b′ .labels)
+  pub labels-after : Labels (graph c) (holds c (b′ .spins)) (b′ .labels)
+  -- every bond (i, e): also one that joins a site to itself, and each of two that join one pair
+  pub sums : (i e : ℕ) → i < c .lattice .n → e < c .lattice .d → bondSum c (b′ .spins) i e ≡ bondSum c (b .spins) i e
+  -- "Other systems keep their bytes."
+  pub others :
+      (i t : ℕ)
+      → i < c .lattice .n
+      → ((k : ℕ) → k < size c → t ≢ system c k)
+      → spin (c .lattice .n) (b′ .spins) t i ≡ spin (c .lattice .n) (b .spins) t i
+
+-- ---- "choosing p and then q on a component": `chosen c p l k` is the place that p makes of the place k on the component with the label l
+
+-- r is "k to p(q(k))" there, and on every component
+abbrev pub ComposedAt : Call → Choices → Choices → Choices → ℕ → Type 0
+ComposedAt c p q r l = (k : ℕ) → k < size c → chosen c r l k ≡ chosen c p l (chosen c q l k)
+
+pub record Composed (c : Call) (p q r : Choices) : Type 0 where
+  pub is : (l : ℕ) → l < c .lattice .n → ComposedAt c p q r l
+
+-- "p(q(k)) is k for every k"
+abbrev pub CancelsAt : Call → Choices → Choices → ℕ → Type 0
+CancelsAt c p q l = (k : ℕ) → k < size c → chosen c p l (chosen c q l k) ≡ k
+
+pub record Cancels (c : Call) (p q : Choices) : Type 0 where
+  pub is : (l : ℕ) → l < c .lattice .n → CancelsAt c p q l
+
+-- two moves, choosing p and then q: the second is lent the spins that the first left, and its other buffers hold anything
+pub record Two (c : Call) (p q : Choices) (b b′ d d′ : Buffers) : Type 0 where
+  pub first : Move c p b b′
+  pub second : Move c q d d′
+  pub handed : d .spins ≡ b′ .spins
+
+-- ---- choices as buffers: permutations of which row r sends k to f r k. SW has a row for each label, Wolff one
+abbrev pub permsOf : Call → (ℕ → ℕ → ℕ) → List ℕ
+permsOf c f = table (entries (c .form) (c .lattice .n) * size c) (λ x. f (x / size c) (x % size c))
+
+-- k to p(q(k)); "Pair and houd choices add modulo 2"
+abbrev pub composite : Call → Choices → Choices → Choices
+composite c p q = record {
+  flips = table (c .lattice .n) (λ l. (getD (p .flips) l 0 + getD (q .flips) l 0) % 2);
+  perms = permsOf c (λ r k. permRow c p r (permRow c q r k));
+  greys = [];
 }
-  where
-    s : Step c p (b .spins) (b′ .labels) (b′ .spins)
-    s = step c p b b′ a v acc w
 
-    after : Labels (graph c) (holds c (b′ .spins)) (b′ .labels)
-    after = labels-kept c v p (b .spins) (b′ .labels) (b′ .spins) s
+-- a place among the first m that f sends to v
+unfoldable pub placeOf : ℕ → (ℕ → ℕ) → ℕ → ℕ
+placeOf zero f v = 0
+placeOf (suc m) f v = cond (eqb (f m) v) m (placeOf m f v)
 
-    joined : (h₁ h₂ : ℕ → ℕ → Bool) → Labels (graph c) h₁ (b′ .labels) → Labels (graph c) h₂ (b′ .labels) → (i j : ℕ) → i < c .lattice .n → j < c .lattice .n → Joined (graph c) h₁ i j → Joined (graph c) h₂ i j
-    joined h₁ h₂ l₁ l₂ i j hi hj q = same-label (graph c) h₂ (b′ .labels) l₂ i j hi hj .0 (same-label (graph c) h₁ (b′ .labels) l₁ i j hi hj .1 q)
+-- the inverses: of permutations, the other way round; of flips, the same flips
+abbrev pub inverse : Call → Choices → Choices
+inverse c p = record { flips = p .flips; perms = permsOf c (λ r k. placeOf (size c) (permRow c p r) k); greys = [] }
 
--- two accepted calls, the second lent the spins that the first left; its other buffers may hold anything
-module _ (c : Call) (v : Reversible (c .mode) (size c)) (p q : Choices) (b b′ d d′ : Buffers) (a₁ a₂ : Answer) (acc₁ : Accepted a₁) (acc₂ : Accepted a₂) (w₁ : Answers c p b a₁ b′) (w₂ : Answers c q d a₂ d′) (handed : d .spins ≡ b′ .spins) where
-  first : Step c p (b .spins) (b′ .labels) (b′ .spins)
-  first = step c p b b′ a₁ v acc₁ w₁
+-- the identity: permutations 0 to N - 1, flips 0
+abbrev pub identity : Call → Choices
+identity c = record { flips = table (c .lattice .n) (λ l. 0); perms = permsOf c (λ r k. k); greys = [] }
 
-  second : Step c q (b′ .spins) (d′ .labels) (d′ .spins)
-  second = rw handed at (step c q d d′ a₂ v acc₂ w₂)
+-- the move choosing r is accepted on the buffers b; and it leaves the spins ys
+pub record Outcome (c : Call) (r : Choices) (b : Buffers) : Type 0 where
+  pub after : Buffers
+  pub move : Move c r b after
 
-  -- the labels are the same
-  pub same-labels : d′ .labels ≡ b′ .labels
-  same-labels = labels-unique (graph c) (holds c (b′ .spins)) (d′ .labels) (b′ .labels) (second .labels) (labels-kept c v p (b .spins) (b′ .labels) (b′ .spins) first)
+pub record Leaves (c : Call) (r : Choices) (b : Buffers) (ys : List ℤ) : Type 0 where
+  pub outcome : Outcome c r b
+  pub bytes : outcome .after .spins ≡ ys
 
-  -- on one component: its sites have the group's spins of one move choosing k to p (q k); where that is k, they are restored
-  pub p-then-q-at : (r : Choices) (e e′ : Buffers) (a₃ : Answer) → Accepted a₃ → Answers c r e a₃ e′ → e .spins ≡ b .spins → (i k : ℕ) → i < c .lattice .n → k < size c → ComposedAt c p q r (labelOf (b′ .labels) i) → pattern c (d′ .spins) i k ≡ pattern c (e′ .spins) i k
-  p-then-q-at r e e′ a₃ acc₃ w₃ same = then-at c v p q (b .spins) (b′ .labels) (b′ .spins) (d′ .labels) (d′ .spins) first second r (e′ .labels) (e′ .spins) (rw same at (step c r e e′ a₃ v acc₃ w₃))
+-- ---- the demand
+pub record Demand3 (c : Call) : Type 0 where
+  pub keeps : {p : Choices} {b b′ : Buffers} → Move c p b b′ → Keeps c b b′
+  -- after a move the next is accepted, with the same gauge site and seed: only its own choices and its buffers' lengths must be right
+  pub next : {p q : Choices} {b b′ d : Buffers} → Move c p b b′ → d .spins ≡ b′ .spins → Exact c q d → Chosen c q → Outcome c q d
+  -- "Two moves .. choosing p and then q on a component, leave the spin bytes of one such move choosing k to p(q(k))": on that component
+  pub composes-at :
+      {p q r : Choices} {b b′ d d′ e e′ : Buffers}
+      → Two c p q b b′ d d′
+      → Move c r e e′
+      → e .spins ≡ b .spins
+      → (i k : ℕ)
+      → i < c .lattice .n
+      → k < size c
+      → ComposedAt c p q r (labelOf (b′ .labels) i)
+      → pattern c (d′ .spins) i k ≡ pattern c (e′ .spins) i k
+  -- on all components: all bytes
+  pub composes :
+      {p q r : Choices} {b b′ d d′ e e′ : Buffers}
+      → Two c p q b b′ d d′
+      → Move c r e e′
+      → e .spins ≡ b .spins
+      → Composed c p q r
+      → d′ .spins ≡ e′ .spins
+  -- SW: that one move is always there
+  pub one-sw : {p q : Choices} {b b′ d d′ : Buffers} → c .form ≡ Sw → Two c p q b b′ d d′ → Leaves c (composite c p q) b (d′ .spins)
+  -- Wolff "refuses the identity": it is there for every other composite of permutations
+  pub one-wolff :
+      {p q : Choices} {b b′ d d′ : Buffers}
+      → c .form ≡ Wolff
+      → isPerm (c .mode) ≡ true
+      → Two c p q b b′ d d′
+      → NotIdentity (size c) (λ k. permRow c p 0 (permRow c q 0 k))
+      → Leaves c (composite c p q) b (d′ .spins)
+  -- "where p(q(k)) is k for every k .. the two moves restore the bytes": on one component; on all
+  pub restores-at :
+      {p q : Choices} {b b′ d d′ : Buffers}
+      → Two c p q b b′ d d′
+      → (i k : ℕ)
+      → i < c .lattice .n
+      → k < size c
+      → CancelsAt c p q (labelOf (b′ .labels) i)
+      → pattern c (d′ .spins) i k ≡ pattern c (b .spins) i k
+  pub restores : {p q : Choices} {b b′ d d′ : Buffers} → Two c p q b b′ d d′ → Cancels c p q → d′ .spins ≡ b .spins
+  -- ".. or the mode takes no choice": Wolff of pair and houd
+  pub restores-wolff :
+      {p q : Choices} {b b′ d d′ : Buffers}
+      → c .form ≡ Wolff
+      → isPerm (c .mode) ≡ false
+      → Two c p q b b′ d d′
+      → d′ .spins ≡ b .spins
+  -- "inverses restore all spin bytes": where p was accepted its inverses are, on what it left, and restore; and so does any move choosing them
+  pub inverse-there : {p : Choices} {b b′ : Buffers} → moves (c .form) ≡ true → Move c p b b′ → Leaves c (inverse c p) b′ (b .spins)
+  pub inverse-restores : {p : Choices} {b b′ d d′ : Buffers} → moves (c .form) ≡ true → Two c p (inverse c p) b b′ d d′ → d′ .spins ≡ b .spins
+  -- SW has the identity: it is accepted where any choice is, and changes no byte
+  pub identity-there : {p : Choices} {b b′ : Buffers} → c .form ≡ Sw → Move c p b b′ → Leaves c (identity c) b (b .spins)
+  pub identity-still : {b b′ : Buffers} → c .form ≡ Sw → Move c (identity c) b b′ → b′ .spins ≡ b .spins
 
-  pub restored-at : (i k : ℕ) → i < c .lattice .n → k < size c → CancelsAt c p q (labelOf (b′ .labels) i) → pattern c (d′ .spins) i k ≡ pattern c (b .spins) i k
-  restored-at = back-at c v p q (b .spins) (b′ .labels) (b′ .spins) (d′ .labels) (d′ .spins) first second
-
-  -- choosing p and then q leaves the spins of one move choosing k to p (q k)
-  pub p-then-q : (r : Choices) (e e′ : Buffers) (a₃ : Answer) → Accepted a₃ → Answers c r e a₃ e′ → e .spins ≡ b .spins → Composed c p q r → d′ .spins ≡ e′ .spins
-  p-then-q r e e′ a₃ acc₃ w₃ same h = two-then c v p q (b .spins) (b′ .labels) (b′ .spins) (d′ .labels) (d′ .spins) first second r (e′ .labels) (e′ .spins) (rw same at (step c r e e′ a₃ v acc₃ w₃)) h
-
-  -- where p (q k) is k, all spins are restored
-  pub restored : Cancels c p q → d′ .spins ≡ b .spins
-  restored h = two-back c v p q (b .spins) (b′ .labels) (b′ .spins) (d′ .labels) (d′ .spins) first second h
+-- ---- the boundary: houd of four replicas is not among them. In row 12 of document 01's table it is accepted and changes a bond sum
+pub record Boundary : Type 0 where
+  pub accepted : Move houd4 noChoices before12 after12
+  pub before : bondSum houd4 (before12 .spins) 0 0 ≡ pos 2
+  pub after : bondSum houd4 (after12 .spins) 0 0 ≡ negsuc 1
+  pub not-kept : Keeps houd4 before12 after12 → ⊥

@@ -19,7 +19,7 @@ use Rattle.paper.specs.Move.Moving.{chosen, actBy, reached, reachedBy, a
 use Rattle.paper.specs.Refusal.Rules.{Spin, Permutes}
 use Rattle.paper.specs.Law.Unique.{label-lt}
 use Rattle.paper.specs.Law.ByTest.{never, and-right}
-use Rattle.paper.specs.Demand3.Reversible.{Reversible, Spinning, holds-both, chosen-permutes, act-gauged, act-spin}
+use Rattle.paper.specs.Demand3.Reversible.{Spinning, holds-both, gauge-back, chosen-permutes, act-gauged, act-spin}
 use Rattle.paper.specs.Demand3.ActsKept.{acts-same, acts-chosen, reference-rests}
 use Rattle.paper.specs.Demand3.Step.{Step, reached-no, reached-acts}
 
@@ -46,73 +46,116 @@ reference-rests-in Jorg s P e z h = never e
 reference-rests-in Cmr s P e z h = never e
 
 -- the labels depend on which bonds hold alone
-pub labels-ext : (t : Graph) (h₁ h₂ : ℕ → ℕ → Bool) (l : List ℕ) → ((i e : ℕ) → i < t .n → e < t .d → h₁ i e ≡ h₂ i e) → Labels t h₁ l → Labels t h₂ l
+abbrev HoldAlike : Graph → (ℕ → ℕ → Bool) → (ℕ → ℕ → Bool) → Type 0
+HoldAlike t g h = (i e : ℕ) → i < t .n → e < t .d → g i e ≡ h i e
+
+carry : (t : Graph) (g h : ℕ → ℕ → Bool) → HoldAlike t g h → Within (Bond t g) (Bond t h)
+carry t g h q a b e = along (record { site = e .site; dir = e .dir; dir-lt = e .dir-lt; on = on; leads = e .leads }) stay
+  where
+    on : h a (e .dir) ≡ true
+    on = sym (q a (e .dir) (e .site) (e .dir-lt)) ∙ e .on
+
+pub labels-ext : (t : Graph) (h₁ h₂ : ℕ → ℕ → Bool) (l : List ℕ) → HoldAlike t h₁ h₂ → Labels t h₁ l → Labels t h₂ l
 labels-ext t h₁ h₂ l same w = record {
   long = w .long;
-  joined = λ i hi. bind (carry h₁ h₂ same) (w .joined i hi);
-  least = λ i j hi hj q. w .least i j hi hj (bind (carry h₂ h₁ (λ i e hi he. sym (same i e hi he))) q);
+  joined = λ i hi. bind (carry t h₁ h₂ same) (w .joined i hi);
+  least = λ i j hi hj q. w .least i j hi hj (bind (carry t h₂ h₁ (λ i e hi he. sym (same i e hi he))) q);
 }
-  where
-    carry : (g h : ℕ → ℕ → Bool) → ((i e : ℕ) → i < t .n → e < t .d → g i e ≡ h i e) → Within (Bond t g) (Bond t h)
-    carry g h q a b e = along (record { site = e .site; dir = e .dir; dir-lt = e .dir-lt; on = sym (q a (e .dir) (e .site) (e .dir-lt)) ∙ e .on; leads = e .leads }) stay
 
-module _ (c : Call) (v : Reversible (c .mode) (size c)) where
-  -- the gauged pattern at a site
-  abbrev pub seenAt : List ℤ → ℕ → Pattern
-  seenAt xs i = gauge (c .mode) (pattern c xs (c .reference)) (pattern c xs i)
+-- ---- the step
+-- the gauged pattern at a site
+abbrev pub seenAt : Call → List ℤ → ℕ → Pattern
+seenAt c xs i = gauge (c .mode) (pattern c xs (c .reference)) (pattern c xs i)
 
-  module _ (p : Choices) (xs : List ℤ) (l : List ℕ) (ys : List ℤ) (s : Step c p xs l ys) where
-    -- where place k of site i takes its spin from
-    abbrev pub turn : ℕ → ℕ → ℕ
-    turn i k = cond (reached c xs l i) (chosen c p (labelOf l i) k) k
+-- where place k of site i takes its spin from
+abbrev pub turn : Call → Choices → List ℤ → List ℕ → ℕ → ℕ → ℕ
+turn c p xs l i k = cond (reached c xs l i) (chosen c p (labelOf l i) k) k
 
-    reference-spins : isGperm (c .mode) ≡ true → Spinning (size c) (pattern c xs (c .reference))
-    reference-spins e = s .spins (c .reference) (s .reference e)
+-- equal gauged patterns, by equal gauges, are equal patterns
+pub seen-back :
+    (c : Call) (ys zs : List ℤ) (i k : ℕ)
+    → (isGperm (c .mode) ≡ true → pattern c ys (c .reference) k ≡ pattern c zs (c .reference) k)
+    → (isGperm (c .mode) ≡ true → Spin (pattern c zs (c .reference) k))
+    → Spin (pattern c ys i k)
+    → Spin (pattern c zs i k)
+    → seenAt c ys i k ≡ seenAt c zs i k
+    → pattern c ys i k ≡ pattern c zs i k
+seen-back c ys zs i k same sr sy sz e =
+    gauge-back (c .mode) (pattern c zs (c .reference)) (pattern c ys i) (pattern c zs i) k sr sy sz
+    (gauge-ext (c .mode) (pattern c zs (c .reference)) (pattern c ys (c .reference)) (pattern c ys i) (pattern c ys i) k (λ q. sym (same q)) refl ∙ e)
 
-    pub permutes-at : (i : ℕ) → i < c .lattice .n → reached c xs l i ≡ true → Permutes (size c) (chosen c p (labelOf l i))
-    unfolding reached
-    permutes-at i h e = chosen-permutes (c .mode) c p (labelOf l i) v (λ q. s .perms (taken q) (labelOf l i) (label-lt (graph c) (holds c xs) l (s .labels) i h))
-      where
-        taken : isPerm (c .mode) ≡ true → (moves (c .form) && isPerm (c .mode)) ≡ true
-        taken q = rw (form-moves (c .form) c l i (and-right (acts c xs i) _ e), q)
+module _ {c : Call} {p : Choices} {xs : List ℤ} {l : List ℕ} {ys : List ℤ} (s : Step c p xs l ys) where
+  -- the pattern at the reference site
+  abbrev P : Pattern
+  P = pattern c xs (c .reference)
 
-    -- a site that is not reached keeps its pattern
-    pub unreached : (i k : ℕ) → i < c .lattice .n → k < size c → reached c xs l i ≡ false → pattern c ys i k ≡ pattern c xs i k
-    unreached i k hi hk e = s .group i k hi hk ∙ rw e refl
+  reference-spins : isGperm (c .mode) ≡ true → Spinning (size c) P
+  reference-spins e = s .spins (c .reference) (s .reference e)
 
-    pub reference-kept : isGperm (c .mode) ≡ true → (k : ℕ) → k < size c → pattern c ys (c .reference) k ≡ pattern c xs (c .reference) k
-    unfolding acts
-    reference-kept e k h =
-        unreached (c .reference) k (s .reference e) h
-        (reached-no c xs l (c .reference) (reference-rests-in (c .mode) (size c) (pattern c xs (c .reference)) e (s .some-size) (reference-spins e)))
+  pub permutes-at : (i : ℕ) → i < c .lattice .n → reached c xs l i ≡ true → Permutes (size c) (chosen c p (labelOf l i))
+  unfolding reached
+  permutes-at i h e =
+      chosen-permutes (c .mode) c p (labelOf l i) (s .reversible)
+      (λ q. s .perms (taken q) (labelOf l i) (label-lt (graph c) (holds c xs) l (s .labels) i h))
+    where
+      taken : isPerm (c .mode) ≡ true → (moves (c .form) && isPerm (c .mode)) ≡ true
+      taken q = rw (form-moves (c .form) c l i (and-right (acts c xs i) _ e), q)
 
-    -- the law of the step
-    pub turned : (i k : ℕ) → i < c .lattice .n → k < size c → seenAt ys i k ≡ seenAt xs i (turn i k)
-    unfolding acts
-    turned i k hi hk = gauge-ext (c .mode) (pattern c ys (c .reference)) (pattern c xs (c .reference)) (pattern c ys i) (after c p xs l i) k (λ e. reference-kept e k hk) (s .group i k hi hk) ∙ go (reached c xs l i) refl
-      where
-        go : (t : Bool) → reached c xs l i ≡ t → gauge (c .mode) (pattern c xs (c .reference)) (λ k. cond t (actBy (c .mode) c p (pattern c xs (c .reference)) (labelOf l i) (pattern c xs i) k) (pattern c xs i k)) k ≡ seenAt xs i (cond t (chosen c p (labelOf l i) k) k)
-        go true e = act-gauged (c .mode) c p (labelOf l i) (pattern c xs (c .reference)) (pattern c xs i) v (permutes-at i hi e) reference-spins (s .spins i hi) (reached-acts c xs l i e) k hk
-        go false e = refl
+  -- a site that is not reached keeps its pattern
+  pub unreached : (i k : ℕ) → i < c .lattice .n → k < size c → reached c xs l i ≡ false → pattern c ys i k ≡ pattern c xs i k
+  unreached i k hi hk e = s .group i k hi hk ∙ rw e refl
 
-    pub spins-kept : (i : ℕ) → i < c .lattice .n → Spinning (size c) (pattern c ys i)
-    spins-kept i hi k hk = rw (s .group i k hi hk) (go (reached c xs l i) refl)
-      where
-        go : (t : Bool) → reached c xs l i ≡ t → Spin (after c p xs l i k)
-        go true e = rw e (act-spin (c .mode) c p (labelOf l i) (pattern c xs (c .reference)) (pattern c xs i) v (permutes-at i hi e) reference-spins (s .spins i hi) k hk)
-        go false e = rw e (s .spins i hi k hk)
+  pub reference-kept : isGperm (c .mode) ≡ true → (k : ℕ) → k < size c → pattern c ys (c .reference) k ≡ pattern c xs (c .reference) k
+  unfolding acts
+  reference-kept e k h =
+      unreached (c .reference) k (s .reference e) h
+      (reached-no c xs l (c .reference) (reference-rests-in (c .mode) (size c) P e (s .some-size) (reference-spins e)))
 
-    pub acts-kept : (i : ℕ) → i < c .lattice .n → acts c ys i ≡ acts c xs i
-    unfolding acts
-    acts-kept i hi = go (reached c xs l i) refl
-      where
-        go : (t : Bool) → reached c xs l i ≡ t → actsBy (c .mode) (size c) (pattern c ys (c .reference)) (pattern c ys i) ≡ actsBy (c .mode) (size c) (pattern c xs (c .reference)) (pattern c xs i)
-        go true e = acts-chosen (c .mode) c p (labelOf l i) (pattern c ys (c .reference)) (pattern c xs (c .reference)) (pattern c ys i) (pattern c xs i) (s .some-size) v (permutes-at i hi e) (λ k hk. rw e at (turned i k hi hk))
-        go false e = acts-same (c .mode) (size c) (pattern c ys (c .reference)) (pattern c xs (c .reference)) (pattern c ys i) (pattern c xs i) (s .some-size) (λ k hk. rw e at (turned i k hi hk))
+  -- the law of the step
+  pub turned : (i k : ℕ) → i < c .lattice .n → k < size c → seenAt c ys i k ≡ seenAt c xs i (turn c p xs l i k)
+  unfolding acts
+  turned i k hi hk =
+      gauge-ext (c .mode) (pattern c ys (c .reference)) P (pattern c ys i) (after c p xs l i) k (λ e. reference-kept e k hk) (s .group i k hi hk)
+      ∙ go (reached c xs l i) refl
+    where
+      -- the pattern after, if the site is reached or not
+      new : Bool → Pattern
+      new t k = cond t (actBy (c .mode) c p P (labelOf l i) (pattern c xs i) k) (pattern c xs i k)
 
-    pub holds-kept : (i e : ℕ) → i < c .lattice .n → e < c .lattice .d → holds c ys i e ≡ holds c xs i e
-    unfolding holds
-    holds-kept i e hi he = holds-both (c .mode) (size c) v c ys i e ∙ (rw (acts-kept i hi, acts-kept (ahead c i e) (s .inside i e hi he)) refl ∙ sym (holds-both (c .mode) (size c) v c xs i e))
+      go : (t : Bool) → reached c xs l i ≡ t → gauge (c .mode) P (new t) k ≡ seenAt c xs i (cond t (chosen c p (labelOf l i) k) k)
+      go true e =
+          act-gauged (c .mode) c p (labelOf l i) P (pattern c xs i) (s .reversible) (permutes-at i hi e) reference-spins (s .spins i hi)
+          (reached-acts c xs l i e) k hk
+      go false e = refl
 
-    pub labels-kept : Labels (graph c) (holds c ys) l
-    labels-kept = labels-ext (graph c) (holds c xs) (holds c ys) l (λ i e hi he. sym (holds-kept i e hi he)) (s .labels)
+  pub spins-kept : (i : ℕ) → i < c .lattice .n → Spinning (size c) (pattern c ys i)
+  spins-kept i hi k hk = rw (s .group i k hi hk) (go (reached c xs l i) refl)
+    where
+      go : (t : Bool) → reached c xs l i ≡ t → Spin (after c p xs l i k)
+      go true e =
+          rw e
+          (act-spin (c .mode) c p (labelOf l i) P (pattern c xs i) (s .reversible) (permutes-at i hi e) reference-spins (s .spins i hi) k hk)
+      go false e = rw e (s .spins i hi k hk)
+
+  pub acts-kept : (i : ℕ) → i < c .lattice .n → acts c ys i ≡ acts c xs i
+  unfolding acts
+  acts-kept i hi = go (reached c xs l i) refl
+    where
+      Q : Pattern
+      Q = pattern c ys (c .reference)
+
+      go : (t : Bool) → reached c xs l i ≡ t → actsBy (c .mode) (size c) Q (pattern c ys i) ≡ actsBy (c .mode) (size c) P (pattern c xs i)
+      go true e =
+          acts-chosen (c .mode) c p (labelOf l i) Q P (pattern c ys i) (pattern c xs i) (s .some-size) (s .reversible) (permutes-at i hi e)
+          (λ k hk. rw e at (turned i k hi hk))
+      go false e = acts-same (c .mode) (size c) Q P (pattern c ys i) (pattern c xs i) (s .some-size) (λ k hk. rw e at (turned i k hi hk))
+
+  pub holds-kept : (i e : ℕ) → i < c .lattice .n → e < c .lattice .d → holds c ys i e ≡ holds c xs i e
+  unfolding holds
+  holds-kept i e hi he = by-ends ys ∙ (rw (acts-kept i hi, acts-kept (ahead c i e) (s .inside i e hi he)) refl ∙ sym (by-ends xs))
+    where
+      by-ends : (zs : List ℤ) → holds c zs i e ≡ bothAct c zs i e
+      by-ends zs = holds-both (c .mode) (size c) (s .reversible) c zs i e
+
+  pub labels-kept : Labels (graph c) (holds c ys) l
+  labels-kept = labels-ext (graph c) (holds c xs) (holds c ys) l (λ i e hi he. sym (holds-kept i e hi he)) (s .labels)

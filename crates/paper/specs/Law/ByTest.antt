@@ -30,6 +30,10 @@ pub and-right : (a b : Bool) → (a && b) ≡ true → b ≡ true
 and-right true b e = e
 and-right false b e = never e
 
+pub and-no : (b : Bool) → (b && false) ≡ false
+and-no true = refl
+and-no false = refl
+
 pub is-same : (a b : ℤ) → eqZ a b ≡ true → a ≡ b
 is-same (pos a) (pos b) e = ap pos (eqb-true a b e)
 is-same (pos a) (negsuc b) e = never e

@@ -20,7 +20,8 @@ use Rattle.paper.specs.Demand3.Step.{Accepted.moved}
 use Rattle.paper.specs.Law.Determined.{determined}
 use Rattle.paper.specs.Answer.Task.{table as listTable}
 use Rattle.paper.specs.Law.ByTest.{every, belowTest, below-by}
-use Rattle.paper.specs.Rows.Table.{Table, frame, framePerms, before13, after13, +, -}
+use Rattle.paper.specs.Rows.Cases.{frame, framePerms, before13, after13, +, -}
+use Rattle.paper.specs.Rows.Table.{Table}
 use Rattle.paper.specs.Rows.Worked.{answer13, table}
 use Rattle.paper.specs.Answer.Frame.{Spelt, hex, unhex, firstLine, next, bytes, words, twoBytes, frameLattice, frameCall, frameChoices, frameBuffers, HasBack, frameRules, result, refusal, FrameRefuses, FrameRuns, FrameAnswers}
 

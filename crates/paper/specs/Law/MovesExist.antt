@@ -12,7 +12,7 @@ use Rattle.paper.specs.Panel.Input.{Call, Choices, Buffers, Pattern, pat
 use Rattle.paper.specs.Move.Moving.{final, Moves}
 use Rattle.paper.specs.Refusal.Rules.{Grouped}
 use Rattle.paper.specs.Law.Unique.{Placed, place}
-use Rattle.paper.specs.Law.SweepAscending.{tabulate, length-tabulate, tabulate-at}
+use Rattle.paper.specs.Law.Cells.{row-of, column-of, cell-lt, tabulate, length-tabulate, tabulate-at}
 
 -- f k where t has the place k, else x
 abbrev pub written : {m : ℕ} {g : ℕ → ℕ} {t : ℕ} → Placed m g t ⊎ ((k : ℕ) → k < m → t ≢ g k) → (ℕ → ℤ) → ℤ → ℤ

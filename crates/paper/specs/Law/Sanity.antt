@@ -15,7 +15,7 @@ use Rattle.paper.specs.Site.Acting.{acts}
 use Rattle.paper.specs.Move.Moving.{reached, final}
 use Rattle.paper.specs.Answer.Move.{Answers}
 use Rattle.paper.specs.Law.Unique.{spins-equal}
-use Rattle.paper.specs.Law.ByTest.{never}
+use Rattle.paper.specs.Law.ByTest.{never, and-no}
 use Rattle.paper.specs.Demand3.Step.{Accepted, Accepted.idle, Accepted.moved}
 
 -- CMR is never idle
@@ -28,10 +28,6 @@ pub others-kept : (c : Call) (p : Choices) (b b′ : Buffers) (a : Answer) → A
 others-kept c p b b′ (Refused r) w i t h o = ap (λ (z : Buffers). spin (c .lattice .n) (z .spins) t i) (w .kept)
 others-kept c p b b′ Idle w i t h o = ap (λ (z : List ℤ). spin (c .lattice .n) z t i) (w .still)
 others-kept c p b b′ Moved w i t h o = w .moved .others i t h o
-
-and-no : (b : Bool) → (b && false) ≡ false
-and-no true = refl
-and-no false = refl
 
 -- to observe changes no spin
 pub observe-still : (c : Call) (p : Choices) (b b′ : Buffers) (a : Answer) → c .form ≡ Observe → Answers c p b a b′ → b′ .spins ≡ b .spins

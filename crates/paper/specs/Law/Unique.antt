@@ -14,7 +14,7 @@ use lib.ListN.{length, getD}
 use lib.Seq.{ext-getD}
 use lib.IntN.{ℤ, pos}
 use Rattle.paper.specs.Component.Links.{Linked.stay, trans, back}
-use Rattle.paper.specs.Panel.Input.{Graph, Call, Choices, spin, pattern, size, system}
+use Rattle.paper.specs.Panel.Input.{Graph, Call, Choices, Pattern, spin, pattern, size, system}
 use Rattle.paper.specs.Component.Labels.{Joined, Labels}
 use Rattle.paper.specs.Component.Sizes.{bit, countWhere, labelOf, counted, sizeOf, atLeast, Counted, Rank, Largest}
 use Rattle.paper.specs.Move.Moving.{final, Moves}
@@ -76,19 +76,23 @@ rank-le l t a b ra rb = go (ra .reached)
         at (no h) = omega (arith, lt-of-not-le h, falls l (b + 1) a (add-one-le (lt-of-not-le h)), rb .larger)
 
 pub sizes-unique : (l s₁ s₂ : List ℕ) → Largest l s₁ → Largest l s₂ → s₁ ≡ s₂
-sizes-unique l s₁ s₂ h₁ h₂ =
-    ext-getD 0 s₁ s₂ (h₁ .long ∙ sym (h₂ .long))
-    (λ t tl. let k : t < 4 = omega (arith, h₁ .long) in le-antisymm (rank-le l t _ _ (h₁ .each t k) (h₂ .each t k)) (rank-le l t _ _ (h₂ .each t k) (h₁ .each t k)))
+sizes-unique l s₁ s₂ h₁ h₂ = ext-getD 0 s₁ s₂ (h₁ .long ∙ sym (h₂ .long)) (λ t tl. same t (omega (arith, h₁ .long)))
+  where
+    same : (t : ℕ) → t < 4 → getD s₁ t 0 ≡ getD s₂ t 0
+    same t k = le-antisymm (rank-le l t _ _ (h₁ .each t k) (h₂ .each t k)) (rank-le l t _ _ (h₂ .each t k) (h₁ .each t k))
 
 -- ---- spins: a number is f of some place below m, or of none
 abbrev pub Placed : ℕ → (ℕ → ℕ) → ℕ → Type 0
 Placed m f t = (k : ℕ) × (k < m) × (t ≡ f k)
 
-pub place : (m : ℕ) (f : ℕ → ℕ) (t : ℕ) → Placed m f t ⊎ ((k : ℕ) → k < m → t ≢ f k)
+abbrev pub Unplaced : ℕ → (ℕ → ℕ) → ℕ → Type 0
+Unplaced m f t = (k : ℕ) → k < m → t ≢ f k
+
+pub place : (m : ℕ) (f : ℕ → ℕ) (t : ℕ) → Placed m f t ⊎ Unplaced m f t
 place zero f t = inr (λ k h e. omega arith)
 place (suc m) f t = go (ℕ-discrete t (f m)) (place m f t)
   where
-    go : Dec (t ≡ f m) → Placed m f t ⊎ ((k : ℕ) → k < m → t ≢ f k) → Placed (suc m) f t ⊎ ((k : ℕ) → k < suc m → t ≢ f k)
+    go : Dec (t ≡ f m) → Placed m f t ⊎ Unplaced m f t → Placed (suc m) f t ⊎ Unplaced (suc m) f t
     go (yes q) r = inl (m, omega arith, q)
     go (no q) (inl r) = inl (r .0, omega (arith, r .1), r .2)
     go (no q) (inr r) = inr (λ k h. last k h (ℕ-discrete k m))
@@ -97,14 +101,38 @@ place (suc m) f t = go (ℕ-discrete t (f m)) (place m f t)
         last k h (yes e) = λ x. q (x ∙ ap f e)
         last k h (no e) = r k (omega arith)
 
+-- the system t is not in the group
+abbrev pub Outside : Call → ℕ → Type 0
+Outside c t = Unplaced (size c) (system c) t
+
+-- ys has the group's patterns `new`; ys has the other systems' spins of xs
+abbrev pub GroupIs : Call → List ℤ → (ℕ → Pattern) → Type 0
+GroupIs c ys new = (i k : ℕ) → i < c .lattice .n → k < size c → pattern c ys i k ≡ new i k
+
+abbrev pub OthersOf : Call → List ℤ → List ℤ → Type 0
+OthersOf c xs ys = (i t : ℕ) → i < c .lattice .n → Outside c t → spin (c .lattice .n) ys t i ≡ spin (c .lattice .n) xs t i
+
 -- two lists of spins are equal if their systems' spins are, of the group and of the others
-pub spins-equal : (c : Call) (ys zs : List ℤ) → 0 < c .lattice .n → length ys ≡ length zs → ((i k : ℕ) → i < c .lattice .n → k < size c → pattern c ys i k ≡ pattern c zs i k) → ((i t : ℕ) → i < c .lattice .n → ((k : ℕ) → k < size c → t ≢ system c k) → spin (c .lattice .n) ys t i ≡ spin (c .lattice .n) zs t i) → ys ≡ zs
-spins-equal c ys zs pos-n len group others = ext-getD (pos 0) ys zs len (λ x _. rw (← div-add-mod' x (c .lattice .n)) (at (x / c .lattice .n) (x % c .lattice .n) (mod-lt x pos-n) (place (size c) (system c) (x / c .lattice .n))))
+pub spins-equal : (c : Call) (ys zs : List ℤ) → 0 < c .lattice .n → length ys ≡ length zs → GroupIs c ys (pattern c zs) → OthersOf c zs ys → ys ≡ zs
+spins-equal c ys zs pos-n len group others = ext-getD (pos 0) ys zs len (λ x _. rw (← div-add-mod' x n) (cell (x / n) (x % n) (mod-lt x pos-n)))
   where
-    at : (t i : ℕ) → i < c .lattice .n → Placed (size c) (system c) t ⊎ ((k : ℕ) → k < size c → t ≢ system c k) → spin (c .lattice .n) ys t i ≡ spin (c .lattice .n) zs t i
+    n : ℕ
+    n = c .lattice .n
+
+    at : (t i : ℕ) → i < c .lattice .n → Placed (size c) (system c) t ⊎ Outside c t → spin (c .lattice .n) ys t i ≡ spin (c .lattice .n) zs t i
     at t i h (inl r) = rw (r .2) (group i (r .0) h (r .1))
     at t i h (inr r) = others i t h r
 
-pub moves-unique : (c : Call) (p : Choices) (xs : List ℤ) (l g : List ℕ) (ys zs : List ℤ) → 0 < c .lattice .n → Moves c p xs l g ys → Moves c p xs l g zs → ys ≡ zs
+    cell : (t i : ℕ) → i < c .lattice .n → spin (c .lattice .n) ys t i ≡ spin (c .lattice .n) zs t i
+    cell t i h = at t i h (place (size c) (system c) t)
+
+pub moves-unique :
+    (c : Call) (p : Choices) (xs : List ℤ) (l g : List ℕ) (ys zs : List ℤ)
+    → 0 < c .lattice .n
+    → Moves c p xs l g ys
+    → Moves c p xs l g zs
+    → ys ≡ zs
 moves-unique c p xs l g ys zs pos-n a b =
-    spins-equal c ys zs pos-n (a .long ∙ sym (b .long)) (λ i k h q. a .group i k h q ∙ sym (b .group i k h q)) (λ i t h q. a .others i t h q ∙ sym (b .others i t h q))
+    spins-equal c ys zs pos-n (a .long ∙ sym (b .long))
+    (λ i k h q. a .group i k h q ∙ sym (b .group i k h q))
+    (λ i t h q. a .others i t h q ∙ sym (b .others i t h q))

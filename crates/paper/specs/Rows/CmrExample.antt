@@ -23,7 +23,7 @@ use Rattle.paper.specs.Move.Moving.{reached, final}
 use Rattle.paper.specs.Refusal.Rules.{isCut}
 use Rattle.paper.specs.Answer.Move.{Answers}
 use Rattle.paper.specs.Law.ByTest.{never, every, every-is, spins-by, inverse-by, below-by, distinct-by, counts-by, sizes-by, moves-by}
-use Rattle.paper.specs.Rows.Table.{+, -, line}
+use Rattle.paper.specs.Rows.Cases.{+, -, line}
 
 -- labels by a test and a path from each site to its label
 abbrev alikeTest : (t : Graph) (holding : ℕ → ℕ → Bool) (l : List ℕ) → ℕ → ℕ → Bool

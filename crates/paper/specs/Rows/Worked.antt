@@ -22,12 +22,13 @@ use Rattle.paper.specs.Refusal.Rules.{Permutes, permRow}
 use Rattle.paper.specs.Answer.Move.{Answers}
 use Rattle.paper.specs.Law.Determined.{determined}
 use Rattle.paper.specs.Law.ByTest.{never, every, every-is, spins-by, inverse-by, below-by, distinct-by, permutes-by, labels-by, counts-by, sizes-by, moves-by}
-use Rattle.paper.specs.Rows.Table.{houd4, before12, after12, frame, noChoices, framePerms, allFlips, before13, after13, row, Gives, Table, +, -}
+use Rattle.paper.specs.Rows.Cases.{houd4, before12, after12, frame, noChoices, framePerms, allFlips, before13, after13, row, +, -}
+use Rattle.paper.specs.Rows.Table.{Gives, Table}
 
 gives : (c : Call) (p : Choices) (b b′ : Buffers) → Answers c p b Moved b′ → Gives c p b b′
 gives c p b b′ h = record { gives = h; only = λ a z w. determined c p b b′ z Moved a h w }
 
-answer12 : Answers houd4 noChoices before12 Moved after12
+pub answer12 : Answers houd4 noChoices before12 Moved after12
 unfolding every holds acts sum sizeOf countWhere reached final
 answer12 = record {
   valid = (

@@ -1,0 +1,115 @@
+-- Composite, inverse and identical choices pass test 9 wherever the choices that they are made of do. Assumes nothing.
+use Prim.Native.Nat.{ℕ, zero, suc, _+_, _*_, _%_, _<_, _≤_}
+use mathlib.Core.Path.{_≡_, refl, sym, _∙_, ap}
+use mathlib.Core.Bool.{Bool, true, false, _&&_}
+use mathlib.Core.List.{List}
+use native.Mathlib.Omega.{arith}
+use native.Mathlib.Nat.{mod-lt, le-of-suc-le-suc}
+use lib.ListN.{length, getD}
+use Rattle.paper.specs.declared.Form.{Form}
+use Rattle.paper.specs.declared.Form.the-variants.{Sw, Wolff, Observe}
+use Rattle.paper.specs.Panel.Input.{Call, Choices, Buffers, size}
+use Rattle.paper.specs.Panel.Takes.{isPerm, isCmr, isSw, isWolff, moves, takesFlips, takesPerms, takesGreys, entries}
+use Rattle.paper.specs.Move.Moving.{chosen}
+use Rattle.paper.specs.Refusal.Rules.{When, Permutes, NotIdentity, permRow, Chosen}
+use Rattle.paper.specs.Law.ByTest.{never, and-left, and-right, and-no}
+use Rattle.paper.specs.Law.Cells.{table-at, length-table}
+use Rattle.paper.specs.Demand3.Statement.{Reversible, Composed, Cancels, composite, inverse, identity, placeOf}
+use Rattle.paper.specs.Demand3.Reversible.{not-cmr, flipOf}
+use Rattle.paper.specs.Demand3.ChoicesAdd.{flip-is, add-composes, same-cancels}
+use Rattle.paper.specs.Demand3.ChoiceRows.{rows-long, perm-composes, perm-cancels, perm-stays}
+use Rattle.paper.specs.Demand3.ChoiceRows.{composite-row, composite-moves, inverse-row, inverse-moves, identity-row}
+
+small : (x : ℕ) → x % 2 ≤ 1
+small x = le-of-suc-le-suc (mod-lt x (omega arith))
+
+one-entry : (f : Form) (n : ℕ) → isWolff f ≡ true → 0 < entries f n
+one-entry Sw n e = never e
+one-entry Wolff n e = omega arith
+one-entry Observe n e = never e
+
+wolff-no : (f : Form) → f ≡ Sw → (b : Bool) → (b && isWolff f) ≡ false
+wolff-no f e true = rw e refl
+wolff-no f e false = refl
+
+module _ (c : Call) (v : Reversible (c .mode) (size c)) where
+  pub no-greys : takesGreys c ≡ false
+  no-greys = rw (not-cmr (c .mode) (size c) v) (and-no (moves (c .form)))
+
+  no-greys-wolff : (takesGreys c && isWolff (c .form)) ≡ true → takesGreys c ≡ true
+  no-greys-wolff t = and-left (takesGreys c) _ t
+
+  module _ {p q : Choices} (hp : Chosen c p) (hq : Chosen c q) where
+    pub composite-chosen :
+        When (takesPerms c && isWolff (c .form)) (NotIdentity (size c) (λ k. permRow c p 0 (permRow c q 0 k)))
+        → Chosen c (composite c p q)
+    composite-chosen w = record {
+      perms = λ t r hr. composite-row c r hr p q (hp .perms t r hr) (hq .perms t r hr);
+      not-identity = λ t. composite-moves c 0 (one-entry (c .form) (c .lattice .n) (and-right (takesPerms c) _ t)) p q (w t);
+      flips = λ t r l. rw (table-at (c .lattice .n) (λ l. (getD (p .flips) l 0 + getD (q .flips) l 0) % 2) r l) (small _);
+      greys = λ t. never (sym no-greys ∙ t);
+      grey-some = λ t. never (sym no-greys ∙ no-greys-wolff t);
+      reference = hp .reference;
+    }
+
+    pub composite-is : moves (c .form) ≡ true → (isPerm (c .mode) ≡ false → c .form ≡ Sw) → Composed c p q (composite c p q)
+    composite-is f sw = go (isPerm (c .mode)) refl
+      where
+        taken : isPerm (c .mode) ≡ false → takesFlips c ≡ true
+        taken e = rw (sw e, e) refl
+
+        go : (t : Bool) → isPerm (c .mode) ≡ t → Composed c p q (composite c p q)
+        go true e = perm-composes c e f p q
+        go false e = add-composes c v e p q (composite c p q) (sw e) (hp .flips (taken e)) (hq .flips (taken e)) (table-at (c .lattice .n) _)
+
+  module _ {p : Choices} (hp : Chosen c p) where
+    pub inverse-chosen : Chosen c (inverse c p)
+    inverse-chosen = record {
+      perms = λ t r hr. inverse-row c r hr p (hp .perms t r hr);
+      not-identity = λ t.
+          let hr = one-entry (c .form) (c .lattice .n) (and-right (takesPerms c) _ t) in
+          inverse-moves c 0 hr p (hp .perms (and-left (takesPerms c) _ t) 0 hr) (hp .not-identity t);
+      flips = hp .flips;
+      greys = λ t. never (sym no-greys ∙ t);
+      grey-some = λ t. never (sym no-greys ∙ no-greys-wolff t);
+      reference = hp .reference;
+    }
+
+    pub inverse-cancels : moves (c .form) ≡ true → Cancels c p (inverse c p)
+    inverse-cancels f = go (isPerm (c .mode)) refl
+      where
+        go : (t : Bool) → isPerm (c .mode) ≡ t → Cancels c p (inverse c p)
+        go true e = perm-cancels c e f p (hp .perms (rw (f, e)))
+        go false e = same-cancels c v e p (inverse c p) (λ l. refl)
+
+    pub identity-chosen : c .form ≡ Sw → Chosen c (identity c)
+    identity-chosen sw = record {
+      perms = λ t r hr. identity-row c r hr;
+      not-identity = λ t. never (sym (wolff-no (c .form) sw (takesPerms c)) ∙ t);
+      flips = λ t r l. rw (table-at (c .lattice .n) (λ l. 0) r l) (omega arith);
+      greys = λ t. never (sym no-greys ∙ t);
+      grey-some = λ t. never (sym no-greys ∙ no-greys-wolff t);
+      reference = hp .reference;
+    }
+
+  pub identity-stays : c .form ≡ Sw → (l : ℕ) → l < c .lattice .n → (k : ℕ) → k < size c → chosen c (identity c) l k ≡ k
+  identity-stays sw l hl k hk = go (isPerm (c .mode)) refl
+    where
+      go : (t : Bool) → isPerm (c .mode) ≡ t → chosen c (identity c) l k ≡ k
+      go true e = perm-stays c e (rw sw refl) l k hl hk
+      go false e = flip-is c v e (identity c) l k ∙ rw (sw, table-at (c .lattice .n) (λ l. 0) l hl) refl
+
+-- the lengths of the choices that are taken
+pub record Sized (c : Call) (r : Choices) : Type 0 where
+  pub flips : When (takesFlips c) (length (r .flips) ≡ c .lattice .n)
+  pub perms : When (takesPerms c) (length (r .perms) ≡ entries (c .form) (c .lattice .n) * size c)
+
+module _ (c : Call) where
+  pub composite-sized : (p q : Choices) → Sized c (composite c p q)
+  composite-sized p q = record { flips = λ _. length-table (c .lattice .n) _; perms = λ _. rows-long c (λ r k. permRow c p r (permRow c q r k)) }
+
+  pub inverse-sized : (p : Choices) → When (takesFlips c) (length (p .flips) ≡ c .lattice .n) → Sized c (inverse c p)
+  inverse-sized p h = record { flips = h; perms = λ _. rows-long c (λ r k. placeOf (size c) (permRow c p r) k) }
+
+  pub identity-sized : Sized c (identity c)
+  identity-sized = record { flips = λ _. length-table (c .lattice .n) _; perms = λ _. rows-long c (λ r k. k) }

@@ -1,0 +1,135 @@
+-- Demand 3 holds for every call of its modes, and stops at row 12. Assumes nothing.
+use Prim.Native.Nat.{ℕ, _<_}
+use mathlib.Core.Path.{_≡_, refl, sym, _∙_, ap}
+use mathlib.Core.Bool.{Bool, true, false, _&&_}
+use mathlib.Core.List.{List}
+use native.Mathlib.Omega.{arith}
+use lib.IntN.{ℤ, pos, negsuc}
+use Rattle.paper.specs.declared.Form.the-variants.{Sw, Wolff}
+use Rattle.paper.specs.Panel.Input.{graph, Call, Choices, Buffers, size}
+use Rattle.paper.specs.Panel.Takes.{isPerm, isWolff, moves, takesPerms}
+use Rattle.paper.specs.Site.Bonds.{holds}
+use Rattle.paper.specs.Site.Energy.{bondSum}
+use Rattle.paper.specs.Component.Labels.{Joined, Labels}
+use Rattle.paper.specs.Refusal.Rules.{When, Chosen, NotIdentity, permRow}
+use Rattle.paper.specs.Law.ByTest.{never, and-right}
+use Rattle.paper.specs.Law.Unique.{same-label}
+use Rattle.paper.specs.Law.Patterns.{same-is}
+use Rattle.paper.specs.Rows.Cases.{houd4, before12, after12}
+use Rattle.paper.specs.Rows.Worked.{table}
+use Rattle.paper.specs.Demand3.Statement.{Reversible, Move, Keeps, Composed, Two, composite, inverse, identity, Leaves}
+use Rattle.paper.specs.Demand3.Statement.{Demand3, Boundary}
+use Rattle.paper.specs.Demand3.Step.{Step, step, valid-move}
+use Rattle.paper.specs.Demand3.Turns.{acts-kept, labels-kept}
+use Rattle.paper.specs.Demand3.BondSums.{sum-kept}
+use Rattle.paper.specs.Demand3.Compose.{none-moved, back-at, two-back, then-at, two-then}
+use Rattle.paper.specs.Demand3.ChoicesAdd.{wolff-cancels}
+use Rattle.paper.specs.Demand3.ChoicesFit.{composite-chosen, composite-is, composite-sized, inverse-chosen, inverse-cancels, inverse-sized}
+use Rattle.paper.specs.Demand3.ChoicesFit.{identity-chosen, identity-stays, identity-sized}
+use Rattle.paper.specs.Demand3.Chain.{instead, next, exact-instead, exact-next}
+
+module _ (c : Call) (v : Reversible (c .mode) (size c)) where
+  joined :
+      (l : List ℕ) (h₁ h₂ : ℕ → ℕ → Bool)
+      → Labels (graph c) h₁ l
+      → Labels (graph c) h₂ l
+      → (i j : ℕ)
+      → i < c .lattice .n
+      → j < c .lattice .n
+      → Joined (graph c) h₁ i j
+      → Joined (graph c) h₂ i j
+  joined l h₁ h₂ l₁ l₂ i j hi hj q = same-label (graph c) h₂ l l₂ i j hi hj .0 (same-label (graph c) h₁ l l₁ i j hi hj .1 q)
+
+  keeps : {p : Choices} {b b′ : Buffers} → Move c p b b′ → Keeps c b b′
+  keeps {p} {b} {b′} m = record {
+    acting = acts-kept s;
+    components = λ i j hi hj. (
+      joined (b′ .labels) (holds c (b′ .spins)) (holds c (b .spins)) (labels-kept s) (s .labels) i j hi hj,
+      joined (b′ .labels) (holds c (b .spins)) (holds c (b′ .spins)) (s .labels) (labels-kept s) i j hi hj,
+    );
+    labels-before = s .labels;
+    labels-after = labels-kept s;
+    sums = sum-kept s;
+    others = s .others;
+  }
+    where
+      s : Step c p (b .spins) (b′ .labels) (b′ .spins)
+      s = step v m
+
+  module _ {p q : Choices} {b b′ d d′ : Buffers} (w : Two c p q b b′ d d′) where
+    first : Step c p (b .spins) (b′ .labels) (b′ .spins)
+    first = step v (w .first)
+
+    second : Step c q (b′ .spins) (d′ .labels) (d′ .spins)
+    second = rw (w .handed) at (step v (w .second))
+
+    module _ {r : Choices} {e e′ : Buffers} (m : Move c r e e′) (same : e .spins ≡ b .spins) where
+      third : Step c r (b .spins) (e′ .labels) (e′ .spins)
+      third = rw same at (step v m)
+
+    composes : {r : Choices} {e e′ : Buffers} → Move c r e e′ → e .spins ≡ b .spins → Composed c p q r → d′ .spins ≡ e′ .spins
+    composes m same h = two-then first second (third m same) h
+
+    chosen-first : Chosen c p
+    chosen-first = valid-move (w .first) .fit .chosen
+
+    chosen-second : Chosen c q
+    chosen-second = valid-move (w .second) .fit .chosen
+
+    -- one move choosing the composite, where that is a choice and composes
+    one :
+        When (takesPerms c && isWolff (c .form)) (NotIdentity (size c) (λ k. permRow c p 0 (permRow c q 0 k)))
+        → moves (c .form) ≡ true
+        → (isPerm (c .mode) ≡ false → c .form ≡ Sw)
+        → Leaves c (composite c p q) b (d′ .spins)
+    one moving f sw =
+        let o = instead v (w .first) (exact-instead v (w .first) (composite-sized c p q)) (composite-chosen c v chosen-first chosen-second moving) in
+        record { outcome = o; bytes = sym (composes (o .move) refl (composite-is c v chosen-first chosen-second f sw)) }
+
+pub demand3 : (c : Call) → Reversible (c .mode) (size c) → Demand3 c
+demand3 c v = record {
+  keeps = keeps c v;
+  next = λ m. next v m;
+  composes-at = λ w m same. then-at (first c v w) (second c v w) (third c v w m same);
+  composes = λ w m same. composes c v w m same;
+  one-sw = λ sw w. one c v w (λ t. never (rw sw at (and-right (takesPerms c) (isWolff (c .form)) t))) (rw sw refl) (λ _. sw);
+  one-wolff = λ wolff perm w moving. one c v w (λ _. moving) (rw wolff refl) (λ e. never (sym e ∙ perm));
+  restores-at = λ w. back-at (first c v w) (second c v w);
+  restores = λ w. two-back (first c v w) (second c v w);
+  restores-wolff = λ wolff flips w. two-back (first c v w) (second c v w) (wolff-cancels c v flips _ _ wolff);
+  inverse-there = λ f m. undone f m;
+  inverse-restores = λ f w. two-back (first c v w) (second c v w) (inverse-cancels c v (chosen-first c v w) f);
+  identity-there = λ sw m. rest sw m;
+  identity-still = λ sw m. none-moved (step v m) (identity-stays c v sw);
+}
+  where
+    undone : {p : Choices} {b b′ : Buffers} → moves (c .form) ≡ true → Move c p b b′ → Leaves c (inverse c p) b′ (b .spins)
+    undone {p} {b} {b′} f m =
+        let h = valid-move m .fit .chosen in
+        let o = next v m refl (exact-next v m (inverse-sized c p (valid-move m .sound .exact .flips))) (inverse-chosen c v h) in
+        record {
+          outcome = o;
+          bytes = two-back (step v m) (step v (o .move)) (inverse-cancels c v h f);
+        }
+
+    rest : {p : Choices} {b b′ : Buffers} → c .form ≡ Sw → Move c p b b′ → Leaves c (identity c) b (b .spins)
+    rest {p} {b} {b′} sw m =
+        let o = instead v m (exact-instead v m (identity-sized c)) (identity-chosen c v (valid-move m .fit .chosen) sw) in
+        record { outcome = o; bytes = none-moved (step v (o .move)) (identity-stays c v sw) }
+
+pub boundary : Boundary
+boundary = record {
+  accepted = Move.moved (table .row12 .gives);
+  before = sum-before;
+  after = sum-after;
+  not-kept = λ k. apart (sym sum-after ∙ (k .sums 0 0 (omega arith) (omega arith) ∙ sum-before));
+}
+  where
+    sum-before : bondSum houd4 (before12 .spins) 0 0 ≡ pos 2
+    sum-before = table .row12-sums .0
+
+    sum-after : bondSum houd4 (after12 .spins) 0 0 ≡ negsuc 1
+    sum-after = table .row12-sums .1
+
+    apart : negsuc 1 ≡ pos 2 → ⊥
+    apart e = never (same-is (negsuc 1) (pos 2) e)

@@ -1,0 +1,78 @@
+-- The lattices, calls and buffers of document 01's rows. Assumes nothing.
+use Prim.Native.Nat.{ℕ, zero, suc, _^_}
+use mathlib.Core.Bool.{true, false}
+use mathlib.Core.List.{List, [], _∷_}
+use lib.ListN.{getD}
+use lib.IntN.{ℤ, pos, negsuc}
+use lib.Ieee.{Float, binary32, round}
+use Rattle.paper.specs.declared.Group.{Group}
+use Rattle.paper.specs.declared.Mode.{Mode}
+use Rattle.paper.specs.declared.Mode.the-variants.{Houd}
+use Rattle.paper.specs.declared.Form.{Form}
+use Rattle.paper.specs.declared.Form.the-variants.{Sw, Wolff}
+use Rattle.paper.specs.Panel.Input.{Lattice, Call, Choices, Buffers, Pattern}
+use Rattle.paper.specs.Site.Bonds.{whole}
+
+abbrev pub + : ℤ
++ = pos 1
+
+abbrev pub - : ℤ
+- = negsuc 0
+
+-- a pattern and a permutation from a list, and back
+abbrev pub of : List ℤ → Pattern
+of xs k = getD xs k (pos 0)
+
+abbrev pub perm : List ℕ → ℕ → ℕ
+perm p k = getD p k 0
+
+unfoldable pub row : ℕ → Pattern → List ℤ
+row zero f = []
+row (suc m) f = f 0 ∷ row m (λ k. f (suc k))
+
+-- the `f32` nearest to m / 10 ^ k
+abbrev pub decimal : ℕ → ℕ → Float
+decimal m k = round binary32 false m (10 ^ k)
+
+-- a lattice of D = 1, and a call on it that takes no temperature
+abbrev pub line : ℕ → ℕ → List ℕ → List ℕ → List ℤ → Lattice
+line n s fwd bwd couplings = record { n = n; d = 1; s = s; fwd = fwd; bwd = bwd; couplings = couplings }
+
+abbrev pub plain : Mode → Form → Lattice → Group → Call
+plain mode form lattice group = record { mode = mode; form = form; lattice = lattice; group = group; temperature = whole 1; cuts = []; reference = 0; seed = 0 }
+
+abbrev pub buffers : List ℤ → List ℕ → List ℕ → List ℕ → Buffers
+buffers spins labels counts sizes = record { spins = spins; labels = labels; greyLabels = []; counts = counts; sizes = sizes }
+
+-- row 11: a ring of three
+abbrev pub ring : Lattice
+ring = line 3 1 (1 ∷ 2 ∷ 0 ∷ []) (2 ∷ 0 ∷ 1 ∷ []) (pos 1 ∷ pos 2 ∷ negsuc 2 ∷ [])
+
+-- row 12: two sites and four systems, (+,+,-,-) beside (+,+,+,-)
+abbrev pub houd4 : Call
+houd4 = plain Houd Wolff (line 2 4 (1 ∷ 0 ∷ []) (1 ∷ 0 ∷ []) []) (record { len = 4; systems = 0 ∷ 1 ∷ 2 ∷ 3 ∷ 0 ∷ 0 ∷ 0 ∷ 0 ∷ [] })
+
+abbrev pub before12 : Buffers
+before12 = buffers (+ ∷ + ∷ + ∷ + ∷ - ∷ + ∷ - ∷ - ∷ []) (0 ∷ 0 ∷ []) (0 ∷ 0 ∷ 0 ∷ []) (0 ∷ 0 ∷ 0 ∷ 0 ∷ [])
+
+abbrev pub after12 : Buffers
+after12 = buffers (- ∷ + ∷ - ∷ + ∷ + ∷ + ∷ + ∷ - ∷ []) (0 ∷ 1 ∷ []) (0 ∷ 2 ∷ 0 ∷ []) (1 ∷ 1 ∷ 0 ∷ 0 ∷ [])
+
+-- row 13: the frame case
+abbrev pub frame : Mode → Call
+frame mode = plain mode Sw (line 3 2 (1 ∷ 2 ∷ 0 ∷ []) (2 ∷ 0 ∷ 1 ∷ []) []) (record { len = 2; systems = 0 ∷ 1 ∷ 0 ∷ 0 ∷ 0 ∷ 0 ∷ 0 ∷ 0 ∷ [] })
+
+abbrev pub noChoices : Choices
+noChoices = record { flips = []; perms = []; greys = [] }
+
+abbrev pub framePerms : Choices
+framePerms = record { flips = []; perms = 1 ∷ 0 ∷ 1 ∷ 0 ∷ 1 ∷ 0 ∷ []; greys = [] }
+
+abbrev pub allFlips : Choices
+allFlips = record { flips = 1 ∷ 1 ∷ 1 ∷ []; perms = []; greys = [] }
+
+abbrev pub before13 : Buffers
+before13 = buffers (+ ∷ + ∷ - ∷ + ∷ - ∷ - ∷ []) (0 ∷ 0 ∷ 0 ∷ []) (0 ∷ 0 ∷ 0 ∷ 0 ∷ []) (0 ∷ 0 ∷ 0 ∷ 0 ∷ [])
+
+abbrev pub after13 : List ℤ → Buffers
+after13 spins = buffers spins (0 ∷ 1 ∷ 2 ∷ []) (0 ∷ 3 ∷ 0 ∷ 0 ∷ []) (1 ∷ 1 ∷ 1 ∷ 0 ∷ [])
