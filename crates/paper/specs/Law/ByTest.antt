@@ -1,7 +1,7 @@
 -- Claims by computing a test, for worked examples. Assumes nothing.
 use Prim.Native.Nat.{ℕ, zero, suc, _+_, _*_, _≤_, _<_}
 use mathlib.Core.Path.{_≡_, refl, sym, _∙_, ap}
-use mathlib.Core.Logic.{_⊎_, inl, inr, _≢_}
+use mathlib.Core.Logic.{_⊎_, inl, inr}
 use mathlib.Core.Bool.{Bool, true, false, not, _&&_, _||_}
 use mathlib.Core.List.{List}
 use native.Mathlib.Omega.{arith}
@@ -18,6 +18,7 @@ use Rattle.paper.specs.Component.Labels.{Bond, Joined, Labels}
 use Rattle.paper.specs.Component.Sizes.{labelOf, ofSize, atLeast, Counted, Rank, Largest}
 use Rattle.paper.specs.Move.Moving.{final, Moves}
 use Rattle.paper.specs.Refusal.Rules.{Spin, Spins, Back, Inverse, Distinct, Grouped, Permutes}
+use Rattle.paper.specs.Law.Unique.{Outside}
 
 pub never : {P : Type 0} → false ≡ true → P
 never e = let z : _≡_ {A = ℕ} 0 1 = cc in absurd (omega arith)
@@ -54,6 +55,9 @@ every-is (suc m) f e k h = at (ℕ-discrete k m) (every-is m f (and-right (f m) 
     at (yes q) ih = rw q (and-left (f m) (every m f) e)
     at (no q) ih = ih (omega arith)
 
+pub every-two : (m n : ℕ) (f : ℕ → ℕ → Bool) → every m (λ i. every n (f i)) ≡ true → (i k : ℕ) → i < m → k < n → f i k ≡ true
+every-two m n f e i k hi hk = every-is n (f i) (every-is m (λ i. every n (f i)) e i hi) k hk
+
 pub spins-by : (xs : List ℤ) → every (length xs) (λ i. eqZ (getD xs i (pos 0)) (pos 1) || eqZ (getD xs i (pos 0)) (negsuc 0)) ≡ true → Spins xs
 spins-by xs e i h = at (getD xs i (pos 0)) (every-is (length xs) (λ i. eqZ (getD xs i (pos 0)) (pos 1) || eqZ (getD xs i (pos 0)) (negsuc 0)) e i h)
   where
@@ -78,7 +82,7 @@ table-by n d a b w i e hi he = record {
 }
   where
     ok : backTest n d a b i e ≡ true
-    ok = every-is d (backTest n d a b i) (every-is n (λ i. every d (backTest n d a b i)) w i hi) e he
+    ok = every-two n d (backTest n d a b) w i e hi he
 
 pub inverse-by : (n d : ℕ) (fwd bwd : List ℕ) → (tableTest n d fwd bwd && tableTest n d bwd fwd) ≡ true → Inverse n d fwd bwd
 inverse-by n d fwd bwd e = record {
@@ -99,11 +103,8 @@ abbrev pub distinctTest : ℕ → (ℕ → ℕ) → Bool
 distinctTest m f = every m (λ a. every m (apartTest f a))
 
 pub distinct-by : (m : ℕ) (f : ℕ → ℕ) → distinctTest m f ≡ true → Distinct m f
-distinct-by m f e a b ha hb q = at (eqb (f a) (f b)) (eq q) (every-is m (apartTest f a) (every-is m (λ a. every m (apartTest f a)) e a ha) b hb)
+distinct-by m f e a b ha hb q = at (eqb (f a) (f b)) (eq-eqb (f a) (f b) q) (every-two m m (apartTest f) e a b ha hb)
   where
-    eq : f a ≡ f b → eqb (f a) (f b) ≡ true
-    eq q = eq-eqb (f a) (f b) q
-
     at : (t : Bool) → t ≡ true → (not t || eqb a b) ≡ true → a ≡ b
     at true w r = eqb-true a b r
     at false w r = never w
@@ -117,8 +118,11 @@ alone t holding no-bond i j stay = refl
 alone t holding no-bond i j (along e r) = never (sym (no-bond _ _ (e .site) (e .dir-lt)) ∙ e .on)
 alone t holding no-bond i j (against e r) = never (sym (no-bond _ _ (e .site) (e .dir-lt)) ∙ e .on)
 
+abbrev noneTest : Graph → (ℕ → ℕ → Bool) → Bool
+noneTest t holding = every (t .n) (λ i. every (t .d) (λ e. not (holding i e)))
+
 abbrev pub aloneTest : Graph → (ℕ → ℕ → Bool) → List ℕ → Bool
-aloneTest t holding l = every (t .n) (λ i. every (t .d) (λ e. not (holding i e))) && every (t .n) (λ i. eqb (getD l i 0) i)
+aloneTest t holding l = noneTest t holding && every (t .n) (λ i. eqb (getD l i 0) i)
 
 pub labels-by : (t : Graph) (holding : ℕ → ℕ → Bool) (l : List ℕ) → length l ≡ t .n → aloneTest t holding l ≡ true → Labels t holding l
 labels-by t holding l long e = record {
@@ -128,23 +132,30 @@ labels-by t holding l long e = record {
 }
   where
     own : (i : ℕ) → i < t .n → getD l i 0 ≡ i
-    own i h = eqb-true _ _ (every-is (t .n) (λ i. eqb (getD l i 0) i) (and-right (every (t .n) (λ i. every (t .d) (λ e. not (holding i e)))) _ e) i h)
+    own i h = eqb-true _ _ (every-is (t .n) (λ i. eqb (getD l i 0) i) (and-right (noneTest t holding) _ e) i h)
 
     off : (i e : ℕ) → i < t .n → e < t .d → holding i e ≡ false
-    off i k hi hk = not-true (holding i k) (every-is (t .d) (λ e. not (holding i e)) (every-is (t .n) (λ i. every (t .d) (λ e. not (holding i e))) (and-left (every (t .n) (λ i. every (t .d) (λ e. not (holding i e)))) _ e) i hi) k hk)
+    off i k hi hk = not-true (holding i k) (every-two (t .n) (t .d) (λ i e. not (holding i e)) (and-left (noneTest t holding) _ e) i k hi hk)
 
 -- ---- counts, sizes and moved spins
 abbrev pub countsTest : List ℕ → List ℕ → Bool
 countsTest l counts = every (length l + 1) (λ s. eqb (getD counts s 0) (ofSize l s))
 
 pub counts-by : (l counts : List ℕ) → length counts ≡ length l + 1 → getD counts 0 0 ≡ 0 → countsTest l counts ≡ true → Counted l counts
-counts-by l counts long z e = record { long = long; zeroth = z; each = λ s h. eqb-true _ _ (every-is (length l + 1) (λ s. eqb (getD counts s 0) (ofSize l s)) e s (omega arith)) }
+counts-by l counts long z e = record {
+  long = long;
+  zeroth = z;
+  each = λ s h. eqb-true _ _ (every-is (length l + 1) (λ s. eqb (getD counts s 0) (ofSize l s)) e s (omega arith));
+}
 
 abbrev rankTest : List ℕ → ℕ → ℕ → Bool
 rankTest l t a = leb (atLeast l (a + 1)) t && (eqb a 0 || ltb t (atLeast l a))
 
 rank-by : (l : List ℕ) (t a : ℕ) → rankTest l t a ≡ true → Rank l t a
-rank-by l t a e = record { larger = leb-true _ _ (and-left (leb (atLeast l (a + 1)) t) _ e); reached = go (eqb a 0) refl (and-right (leb (atLeast l (a + 1)) t) _ e) }
+rank-by l t a e = record {
+  larger = leb-true _ _ (and-left (leb (atLeast l (a + 1)) t) _ e);
+  reached = go (eqb a 0) refl (and-right (leb (atLeast l (a + 1)) t) _ e);
+}
   where
     go : (b : Bool) → eqb a 0 ≡ b → (b || ltb t (atLeast l a)) ≡ true → (a ≡ 0) ⊎ (t < atLeast l a)
     go true w r = inl (eqb-true a 0 w)
@@ -160,15 +171,22 @@ abbrev pub movesTest : Call → Choices → List ℤ → List ℕ → List ℕ �
 movesTest c p xs l g ys = every (c .lattice .n) (λ i. every (size c) (λ k. eqZ (pattern c ys i k) (final c p xs l g i k)))
 
 -- a group of all systems, in their order
-pub moves-by : (c : Call) (p : Choices) (xs : List ℤ) (l g : List ℕ) (ys : List ℤ) → length ys ≡ length xs → length xs ≡ size c * c .lattice .n → ((k : ℕ) → k < size c → system c k ≡ k) → movesTest c p xs l g ys ≡ true → Moves c p xs l g ys
+pub moves-by :
+    (c : Call) (p : Choices) (xs : List ℤ) (l g : List ℕ) (ys : List ℤ)
+    → length ys ≡ length xs
+    → length xs ≡ size c * c .lattice .n
+    → every (size c) (λ k. eqb (system c k) k) ≡ true
+    → movesTest c p xs l g ys ≡ true
+    → Moves c p xs l g ys
 moves-by c p xs l g ys long sized own e = record {
   long = long;
-  group = λ i k hi hk. is-same _ _ (every-is (size c) (λ k. eqZ (pattern c ys i k) (final c p xs l g i k)) (every-is (c .lattice .n) (λ i. every (size c) (λ k. eqZ (pattern c ys i k) (final c p xs l g i k))) e i hi) k hk);
+  group = λ i k hi hk.
+      is-same _ _ (every-two (c .lattice .n) (size c) (λ i k. eqZ (pattern c ys i k) (final c p xs l g i k)) e i k hi hk);
   others = λ i t hi out. rest i t out (decLt t (size c));
 }
   where
-    rest : (i t : ℕ) → ((k : ℕ) → k < size c → t ≢ system c k) → Dec (t < size c) → spin (c .lattice .n) ys t i ≡ spin (c .lattice .n) xs t i
-    rest i t out (yes h) = absurd (out t h (sym (own t h)))
+    rest : (i t : ℕ) → Outside c t → Dec (t < size c) → spin (c .lattice .n) ys t i ≡ spin (c .lattice .n) xs t i
+    rest i t out (yes h) = absurd (out t h (sym (eqb-true _ _ (every-is (size c) (λ k. eqb (system c k) k) own t h))))
     rest i t out (no h) = List·getD-eq-default ys (pos 0) far ∙ sym (List·getD-eq-default xs (pos 0) (omega (arith, far, long)))
       where
         far : length ys ≤ t * c .lattice .n + i

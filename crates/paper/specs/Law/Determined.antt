@@ -14,7 +14,8 @@ use Rattle.paper.specs.Site.Bonds.{holds, holdsGrey}
 use Rattle.paper.specs.Component.Sizes.{Counted, Largest}
 use Rattle.paper.specs.Move.Moving.{Moves}
 use Rattle.paper.specs.Refusal.Rule.{Kept, Broken, broken-unique, broken-not-kept}
-use Rattle.paper.specs.Refusal.Rules.{Ranged, rules}
+use Rattle.paper.specs.Refusal.Rules.{rules}
+use Rattle.paper.specs.Refusal.Kept.{valid-of}
 use Rattle.paper.specs.Answer.Move.{Seen, Refuses, Rests, Goes, Answers}
 use Rattle.paper.specs.Law.Unique.{labels-unique, counts-unique, sizes-unique, moves-unique}
 
@@ -22,7 +23,14 @@ pub record Same (a₁ : Answer) (b₁ : Buffers) (a₂ : Answer) (b₂ : Buffers
   pub answer : a₁ ≡ a₂
   pub buffers : b₁ ≡ b₂
 
-pub buffers-equal : (y z : Buffers) → y .spins ≡ z .spins → y .labels ≡ z .labels → y .greyLabels ≡ z .greyLabels → y .counts ≡ z .counts → y .sizes ≡ z .sizes → y ≡ z
+pub buffers-equal :
+    (y z : Buffers)
+    → y .spins ≡ z .spins
+    → y .labels ≡ z .labels
+    → y .greyLabels ≡ z .greyLabels
+    → y .counts ≡ z .counts
+    → y .sizes ≡ z .sizes
+    → y ≡ z
 buffers-equal y z a b c d e = λ i. record { spins = a i; labels = b i; greyLabels = c i; counts = d i; sizes = e i }
 
 pub not-both : (c : Call) (xs : List ℤ) → SomeActs c xs → NoneActs c xs → ⊥
@@ -46,13 +54,19 @@ module _ (c : Call) (p : Choices) (b : Buffers) (y z : Buffers) where
       l = labels-same s t
 
   goes-same : Goes c p b y → Goes c p b z → y ≡ z
-  goes-same g h = seen-same (moves-unique c p (b .spins) (y .labels) (y .greyLabels) (y .spins) (z .spins) (g .valid .0 .lattice .n-low) (g .moved) again) (g .seen) (h .seen)
+  goes-same g h = seen-same (moves-unique c p (b .spins) (y .labels) (y .greyLabels) (y .spins) (z .spins) some (g .moved) again) (g .seen) (h .seen)
     where
+      some : 0 < c .lattice .n
+      some = valid-of c p b (g .valid) .sound .ranged .lattice .n-low
+
       again : Moves c p (b .spins) (y .labels) (y .greyLabels) (z .spins)
       again = rw (labels-same (g .seen) (h .seen), grey-same (takesGreys c) refl (g .seen) (h .seen)) (h .moved)
 
   pub determined : (a a′ : Answer) → Answers c p b a y → Answers c p b a′ z → Same a y a′ z
-  determined (Refused r) (Refused s) f g = record { answer = ap Refused (broken-unique (rules c p b) r s (f .why) (g .why)); buffers = f .kept ∙ sym (g .kept) }
+  determined (Refused r) (Refused s) f g = record {
+    answer = ap Refused (broken-unique (rules c p b) r s (f .why) (g .why));
+    buffers = f .kept ∙ sym (g .kept);
+  }
   determined (Refused r) Idle f g = absurd (broken-not-kept (rules c p b) r (f .why) (g .valid))
   determined (Refused r) Moved f g = absurd (broken-not-kept (rules c p b) r (f .why) (g .valid))
   determined Idle (Refused s) f g = absurd (broken-not-kept (rules c p b) s (g .why) (f .valid))

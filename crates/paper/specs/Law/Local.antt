@@ -12,12 +12,14 @@ use Rattle.paper.specs.declared.Mode.the-variants.{Houd, Pair, Perm, Gpe
 use Rattle.paper.specs.Panel.Input.{Call, Choices, Pattern, pattern, size, ahead}
 use Rattle.paper.specs.Panel.Takes.{moves, isPerm, isGperm, isCmr}
 use Rattle.paper.specs.Site.Acting.{eqZ, sum, acts}
-use Rattle.paper.specs.Site.Bonds.{pairTerm, bothAct, couplingAt, cutAt, kindOf, strength, jorgHolds, blueHolds, greyHolds, samplerOf, holdsBy, holds, holdsGrey}
+use Rattle.paper.specs.Site.Bonds.{pairTerm, bothAct, couplingAt, cutAt, kindOf, kindAt, strength, jorgHolds}
+use Rattle.paper.specs.Site.Bonds.{blueHolds, greyHolds, samplerOf, holdsBy, holds, holdsGrey}
 use Rattle.paper.specs.Component.Sizes.{labelOf}
-use Rattle.paper.specs.Move.Moving.{flipBy, permAt, partner, chosenBy, actBy, reached, reachedBy, final, after, afterGrey}
+use Rattle.paper.specs.Move.Moving.{partner, actBy, reached, final, after}
 use Rattle.paper.specs.Refusal.Rules.{Permutes}
 use Rattle.paper.specs.Law.Sums.{sum-ext}
 use Rattle.paper.specs.Law.Partners.{pairs-fit, partner-lt}
+use Rattle.paper.specs.Demand3.Reversible.{permOf, flipOf}
 use Rattle.paper.specs.Demand3.ActsKept.{acts-same}
 use Rattle.paper.specs.Demand3.Turns.{gauge-ext}
 
@@ -44,34 +46,62 @@ flip-at m k true f g e h = e (partner m k) (partner-lt m k h)
 flip-at m k false f g e h = e k h
 
 -- a component's choice makes the same of two patterns that agree
-act-ext : (m : Mode) (c : Call) (p : Choices) (r : ℕ) (P Q f g : Pattern) → (isPerm m ≡ true → Permutes (size c) (permAt (c .form) (size c) (p .perms) r)) → (isGperm m ≡ true → Agree (size c) P Q) → Agree (size c) f g → (k : ℕ) → k < size c → actBy m c p P r f k ≡ actBy m c p Q r g k
+act-ext :
+    (m : Mode) (c : Call) (p : Choices) (r : ℕ) (P Q f g : Pattern)
+    → (isPerm m ≡ true → Permutes (size c) (permOf c p r))
+    → (isGperm m ≡ true → Agree (size c) P Q)
+    → Agree (size c) f g
+    → Agree (size c) (actBy m c p P r f) (actBy m c p Q r g)
 act-ext Houd c p r P Q f g h u e k l = cc (e k l)
-act-ext Pair c p r P Q f g h u e k l = flip-at (size c) k (flipBy (c .form) (p .flips) r) f g e l
-act-ext Jorg c p r P Q f g h u e k l = flip-at (size c) k (flipBy (c .form) (p .flips) r) f g e l
-act-ext Perm c p r P Q f g h u e k l = e (permAt (c .form) (size c) (p .perms) r k) (h refl .within k l)
-act-ext Gperm c p r P Q f g h u e k l = cc (u refl k l, u refl (permAt (c .form) (size c) (p .perms) r k) (h refl .within k l), e (permAt (c .form) (size c) (p .perms) r k) (h refl .within k l))
+act-ext Pair c p r P Q f g h u e k l = flip-at (size c) k (flipOf c p r) f g e l
+act-ext Jorg c p r P Q f g h u e k l = flip-at (size c) k (flipOf c p r) f g e l
+act-ext Perm c p r P Q f g h u e k l = e (permOf c p r k) (h refl .within k l)
+act-ext Gperm c p r P Q f g h u e k l = let b = h refl .within k l in cc (u refl k l, u refl (permOf c p r k) b, e (permOf c p r k) b)
 act-ext Cmr c p r P Q f g h u e k l = cc (e k l)
 
 kind-ext : (j : ℤ) (f g f′ g′ : Pattern) → Agree 2 f f′ → Agree 2 g g′ → kindOf j f g ≡ kindOf j f′ g′
 kind-ext j f g f′ g′ p q = cc (p 0 (omega arith), p 1 (omega arith), q 0 (omega arith), q 1 (omega arith))
 
 module _ (c : Call) (xs ys : List ℤ) (a : Alike c xs ys) where
+  -- the patterns at the reference site
+  abbrev P : Pattern
+  P = pattern c xs (c .reference)
+
+  abbrev Q : Pattern
+  Q = pattern c ys (c .reference)
+
+  same-reference : isGperm (c .mode) ≡ true → Agree (size c) P Q
+  same-reference g = a .patterns (c .reference) (a .reference g)
+
+  same-ahead : (i e : ℕ) → i < c .lattice .n → e < c .lattice .d → Agree (size c) (pattern c xs (ahead c i e)) (pattern c ys (ahead c i e))
+  same-ahead i e hi he = a .patterns (ahead c i e) (a .inside i e hi he)
+
   pub acts-local : (i : ℕ) → i < c .lattice .n → acts c xs i ≡ acts c ys i
   unfolding acts
   acts-local i h =
-      acts-same (c .mode) (size c) (pattern c xs (c .reference)) (pattern c ys (c .reference)) (pattern c xs i) (pattern c ys i) (a .some)
-      (λ k l. gauge-ext (c .mode) (pattern c xs (c .reference)) (pattern c ys (c .reference)) (pattern c xs i) (pattern c ys i) k (λ g. a .patterns (c .reference) (a .reference g) k l) (a .patterns i h k l))
+      acts-same (c .mode) (size c) P Q (pattern c xs i) (pattern c ys i) (a .some)
+      (λ k l. gauge-ext (c .mode) P Q (pattern c xs i) (pattern c ys i) k (λ g. same-reference g k l) (a .patterns i h k l))
 
   both-local : (i e : ℕ) → i < c .lattice .n → e < c .lattice .d → bothAct c xs i e ≡ bothAct c ys i e
   both-local i e hi he = cc (acts-local i hi, acts-local (ahead c i e) (a .inside i e hi he))
 
-  strength-local : (i e : ℕ) → i < c .lattice .n → e < c .lattice .d → strength (couplingAt c i e) (size c) (pattern c xs i) (pattern c xs (ahead c i e)) ≡ strength (couplingAt c i e) (size c) (pattern c ys i) (pattern c ys (ahead c i e))
-  strength-local i e hi he =
-      ap (λ (x : ℤ). couplingAt c i e *ℤ x)
-      (sum-ext (size c / 2) _ _ (term-ext (size c) (pattern c xs i) (pattern c xs (ahead c i e)) (pattern c ys i) (pattern c ys (ahead c i e)) (a .patterns i hi) (a .patterns (ahead c i e) (a .inside i e hi he))))
+  -- the strength of a Jörg bond, by the spins zs
+  abbrev strengthAt : List ℤ → ℕ → ℕ → ℤ
+  strengthAt zs i e = strength (couplingAt c i e) (size c) (pattern c zs i) (pattern c zs (ahead c i e))
 
-  kind-local : (i e : ℕ) → i < c .lattice .n → e < c .lattice .d → isCmr (c .mode) ≡ true → kindOf (couplingAt c i e) (pattern c xs i) (pattern c xs (ahead c i e)) ≡ kindOf (couplingAt c i e) (pattern c ys i) (pattern c ys (ahead c i e))
-  kind-local i e hi he q = kind-ext (couplingAt c i e) (pattern c xs i) (pattern c xs (ahead c i e)) (pattern c ys i) (pattern c ys (ahead c i e)) (λ k l. a .patterns i hi k (omega (arith, a .two q))) (λ k l. a .patterns (ahead c i e) (a .inside i e hi he) k (omega (arith, a .two q)))
+  strength-local : (i e : ℕ) → i < c .lattice .n → e < c .lattice .d → strengthAt xs i e ≡ strengthAt ys i e
+  strength-local i e hi he = ap (λ (x : ℤ). couplingAt c i e *ℤ x) (sum-ext (size c / 2) _ _ terms)
+    where
+      terms :
+          (x : ℕ)
+          → x < size c / 2
+          → pairTerm (pattern c xs i) (pattern c xs (ahead c i e)) x ≡ pairTerm (pattern c ys i) (pattern c ys (ahead c i e)) x
+      terms = term-ext (size c) _ _ _ _ (a .patterns i hi) (same-ahead i e hi he)
+
+  kind-local : (i e : ℕ) → i < c .lattice .n → e < c .lattice .d → isCmr (c .mode) ≡ true → kindAt c xs i e ≡ kindAt c ys i e
+  kind-local i e hi he q =
+      kind-ext (couplingAt c i e) (pattern c xs i) (pattern c xs (ahead c i e)) (pattern c ys i) (pattern c ys (ahead c i e))
+      (λ k l. a .patterns i hi k (omega (arith, a .two q))) (λ k l. same-ahead i e hi he k (omega (arith, a .two q)))
 
   holds-in : (m : Mode) → (isCmr m ≡ true → isCmr (c .mode) ≡ true) → (i e : ℕ) → i < c .lattice .n → e < c .lattice .d → holdsBy m c xs i e ≡ holdsBy m c ys i e
   holds-in Houd q i e hi he = both-local i e hi he
@@ -93,10 +123,17 @@ module _ (c : Call) (xs ys : List ℤ) (a : Alike c xs ys) where
   unfolding reached
   reached-local l i h = cc (acts-local i h)
 
-  pub final-local : (p : Choices) (l g : List ℕ) (i k : ℕ) → i < c .lattice .n → k < size c → (reached c xs l i ≡ true → isPerm (c .mode) ≡ true → Permutes (size c) (permAt (c .form) (size c) (p .perms) (labelOf l i))) → final c p xs l g i k ≡ final c p ys l g i k
+  pub final-local :
+      (p : Choices) (l g : List ℕ) (i k : ℕ)
+      → i < c .lattice .n
+      → k < size c
+      → (reached c xs l i ≡ true → isPerm (c .mode) ≡ true → Permutes (size c) (permOf c p (labelOf l i)))
+      → final c p xs l g i k ≡ final c p ys l g i k
   unfolding final
   final-local p l g i k hi hk perms = cc (after-local (reached c xs l i) refl, reached-local g i hi)
     where
       after-local : (t : Bool) → reached c xs l i ≡ t → after c p xs l i k ≡ after c p ys l i k
-      after-local true e = rw (← reached-local l i hi, e) (act-ext (c .mode) c p (labelOf l i) (pattern c xs (c .reference)) (pattern c ys (c .reference)) (pattern c xs i) (pattern c ys i) (perms e) (λ q. a .patterns (c .reference) (a .reference q)) (a .patterns i hi) k hk)
+      after-local true e =
+          rw (← reached-local l i hi, e)
+          (act-ext (c .mode) c p (labelOf l i) P Q (pattern c xs i) (pattern c ys i) (perms e) same-reference (a .patterns i hi) k hk)
       after-local false e = rw (← reached-local l i hi, e) (a .patterns i hi k hk)

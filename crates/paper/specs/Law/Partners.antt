@@ -49,7 +49,12 @@ unfolding pairDiffers
 pair-no zero f e i h = absurd (omega arith)
 pair-no (suc m) f e i h = go (eqZ (f (2 * m)) (f (2 * m + 1))) refl e (pair-no m f)
   where
-    go : (b : Bool) → eqZ (f (2 * m)) (f (2 * m + 1)) ≡ b → (not b || pairDiffers m f) ≡ false → (pairDiffers m f ≡ false → (i : ℕ) → i < m → f (2 * i) ≡ f (2 * i + 1)) → f (2 * i) ≡ f (2 * i + 1)
+    go :
+        (b : Bool)
+        → eqZ (f (2 * m)) (f (2 * m + 1)) ≡ b
+        → (not b || pairDiffers m f) ≡ false
+        → (pairDiffers m f ≡ false → (i : ℕ) → i < m → f (2 * i) ≡ f (2 * i + 1))
+        → f (2 * i) ≡ f (2 * i + 1)
     go true s e′ ih = at (ℕ-discrete i m)
       where
         at : Dec (i ≡ m) → f (2 * i) ≡ f (2 * i + 1)
@@ -72,7 +77,11 @@ partner-same m f e k = go (decLt k (2 * (m / 2)))
 pub pair-partner : (m : ℕ) (f : Pattern) → pairDiffers (m / 2) (λ k. f (partner m k)) ≡ pairDiffers (m / 2) f
 pair-partner m f = go (pairDiffers (m / 2) f) (pairDiffers (m / 2) (λ k. f (partner m k))) refl refl
   where
-    go : (s t : Bool) → pairDiffers (m / 2) f ≡ s → pairDiffers (m / 2) (λ k. f (partner m k)) ≡ t → pairDiffers (m / 2) (λ k. f (partner m k)) ≡ pairDiffers (m / 2) f
+    go :
+        (s t : Bool)
+        → pairDiffers (m / 2) f ≡ s
+        → pairDiffers (m / 2) (λ k. f (partner m k)) ≡ t
+        → pairDiffers (m / 2) (λ k. f (partner m k)) ≡ pairDiffers (m / 2) f
     go false t p q = pair-ext (m / 2) (λ k. f (partner m k)) f (λ k _. partner-same m f p k)
     go true true p q = q ∙ sym p
     go true false p q =

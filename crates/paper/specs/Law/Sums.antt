@@ -120,9 +120,12 @@ sum-permuted m p f h = sym (sum-ext m (λ k. sum m (λ v. hit k v)) (λ k. f (p 
     same k v (no e) = rw (ne-eqb v (p k) e)
 
     row : (k : ℕ) → k < m → sum m (λ v. hit k v) ≡ f (p k)
-    row k l = sum-ext m (λ v. hit k v) (λ v. cond (eqb v (p k)) (f (p k)) (pos 0)) (λ v _. same k v (ℕ-discrete v (p k))) ∙ sum-one m (λ v. eqb v (p k)) (f (p k)) (p k) (h .within k l) (eq-eqb (p k) (p k) refl) (λ v _ ne. ne-eqb v (p k) ne)
+    row k l =
+        sum-ext m (λ v. hit k v) (λ v. cond (eqb v (p k)) (f (p k)) (pos 0)) (λ v _. same k v (ℕ-discrete v (p k)))
+        ∙ sum-one m (λ v. eqb v (p k)) (f (p k)) (p k) (h .within k l) (eq-eqb (p k) (p k) refl) (λ v _ ne. ne-eqb v (p k) ne)
 
     column : (v : ℕ) → v < m → sum m (λ k. hit k v) ≡ f v
     column v l =
         let r = onto m p h v l in
-        sum-one m (λ k. eqb v (p k)) (f v) (r .0) (r .1) (eq-eqb v (p (r .0)) (r .2)) (λ k lk ne. ne-eqb v (p k) (λ e. ne (h .distinct k (r .0) lk (r .1) (sym e ∙ r .2))))
+        sum-one m (λ k. eqb v (p k)) (f v) (r .0) (r .1) (eq-eqb v (p (r .0)) (r .2))
+        (λ k lk ne. ne-eqb v (p k) (λ e. ne (h .distinct k (r .0) lk (r .1) (sym e ∙ r .2))))

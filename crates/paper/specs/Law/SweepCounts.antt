@@ -11,7 +11,7 @@ use lib.IntN.{ℤ}
 use Rattle.paper.specs.declared.Answer.{Answer}
 use Rattle.paper.specs.declared.Answer.the-variants.{Refused, Idle, Moved}
 use Rattle.paper.specs.Panel.Input.{Call, Choices, Buffers}
-use Rattle.paper.specs.Site.Acting.{acts}
+use Rattle.paper.specs.Site.Acting.{acts, SomeActs}
 use Rattle.paper.specs.Component.Sizes.{bit, countWhere}
 use Rattle.paper.specs.Refusal.Rule.{Kept, broken-not-kept}
 use Rattle.paper.specs.Refusal.Rules.{rules}
@@ -40,10 +40,28 @@ SaysIdle (Refused r) t = ⊥
 SaysIdle Idle t = t ≡ true
 SaysIdle Moved t = t ≡ false
 
-says : (c : Call) (p : Choices) (b b′ : Buffers) (a : Answer) → Kept (rules c p b) → Answers c p b a b′ → SaysIdle a (eqb (countWhere (acts c (b .spins)) (c .lattice .n)) 0)
-says c p b b′ (Refused r) v w = broken-not-kept (rules c p b) r (w .why) v
-says c p b b′ Idle v w = eq-eqb _ _ (none-counts (acts c (b .spins)) (c .lattice .n) (w .none))
-says c p b b′ Moved v w = ne-eqb (countWhere (acts c (b .spins)) (c .lattice .n)) 0 (λ e. omega (arith, some-counts (acts c (b .spins)) (c .lattice .n) (w .some .site) (w .some .below) (w .some .does)))
+module _ (c : Call) (p : Choices) (b b′ : Buffers) where
+  -- how many sites act
+  acting : ℕ
+  acting = countWhere (acts c (b .spins)) (c .lattice .n)
 
-pub counted-as : (w : Sweep) (b b′ : Buffers) → Kept (sweepRules w b) → (k : ℕ) → k < tasks w → masked w k ≡ false → (d : Done w b b′ k) → SaysIdle (d .answer) (idleTask w (b .spins) k)
-counted-as w b b′ v k h e d = says (taskCall w k) (taskChoices w k) (areas w b (b .spins) k) (areas w b′ (d .spins) k) (d .answer) (task-valid w b v k h e) (d .answers)
+  says : (a : Answer) → Kept (rules c p b) → Answers c p b a b′ → SaysIdle a (eqb acting 0)
+  unfolding acting
+  says (Refused r) v w = broken-not-kept (rules c p b) r (w .why) v
+  says Idle v w = eq-eqb _ _ (none-counts (acts c (b .spins)) (c .lattice .n) (w .none))
+  says Moved v w = ne-eqb acting 0 (λ e. omega (arith, some-counts (acts c (b .spins)) (c .lattice .n) (s .site) (s .below) (s .does)))
+    where
+      s : SomeActs c (b .spins)
+      s = w .some
+
+pub counted-as :
+    (w : Sweep) (b b′ : Buffers)
+    → Kept (sweepRules w b)
+    → (k : ℕ)
+    → k < tasks w
+    → masked w k ≡ false
+    → (d : Done w b b′ k)
+    → SaysIdle (d .answer) (idleTask w (b .spins) k)
+unfolding acting
+counted-as w b b′ v k h e d =
+    says (taskCall w k) (taskChoices w k) (areas w b (b .spins) k) (areas w b′ (d .spins) k) (d .answer) (task-valid w b v k h e) (d .answers)

@@ -118,7 +118,7 @@ cmr-example = record {
     ),
   );
   some = record { site = 0; below = omega arith; does = refl };
-  moved = moves-by cmr3 cmrChoices (before .spins) (after .labels) (after .greyLabels) (after .spins) refl refl (λ k h. eqb-true _ _ (every-is 2 (λ k. eqb (system cmr3 k) k) refl k h)) refl;
+  moved = moves-by cmr3 cmrChoices (before .spins) (after .labels) (after .greyLabels) (after .spins) refl refl refl refl;
   seen = record {
     labels = labels-by-path (graph cmr3) (holds cmr3 (before .spins)) (after .labels) refl refl refl blue-path;
     grey-labels = λ _. labels-by-path (graph cmr3) (holdsGrey cmr3 (before .spins)) (after .greyLabels) refl refl refl grey-path;

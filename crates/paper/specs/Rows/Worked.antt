@@ -63,14 +63,9 @@ answer12 = record {
     ),
   );
   some = record { site = 0; below = omega arith; does = refl };
-  moved = moves-by houd4 noChoices (before12 .spins) (after12 .labels) [] (after12 .spins) refl refl (λ k h. eqb-true _ _ (every-is 4 (λ k. eqb (system houd4 k) k) refl k h)) refl;
+  moved = moves-by houd4 noChoices (before12 .spins) (after12 .labels) [] (after12 .spins) refl refl refl refl;
   seen = record { labels = labels-by (graph houd4) (holds houd4 (before12 .spins)) (after12 .labels) refl refl; grey-labels = never; grey-kept = λ _. refl; counts = counts-by (after12 .labels) (after12 .counts) refl refl refl; sizes = sizes-by (after12 .labels) (after12 .sizes) refl refl };
 }
-
--- the frame case's tests 3, 4 and 5, in either mode
-own3 : (mode : Mode) (k : ℕ) → k < 2 → system (frame mode) k ≡ k
-unfolding every
-own3 mode k h = eqb-true _ _ (every-is 2 (λ k. eqb (system (frame mode) k) k) refl k h)
 
 pub answer13 : Answers (frame Perm) framePerms before13 Moved (after13 (+ ∷ - ∷ - ∷ + ∷ + ∷ - ∷ []))
 unfolding every holds acts differs sizeOf countWhere reached final
@@ -107,7 +102,7 @@ answer13 = record {
     ),
   );
   some = record { site = 1; below = omega arith; does = refl };
-  moved = moves-by (frame Perm) framePerms (before13 .spins) (0 ∷ 1 ∷ 2 ∷ []) [] (+ ∷ - ∷ - ∷ + ∷ + ∷ - ∷ []) refl refl (own3 Perm) refl;
+  moved = moves-by (frame Perm) framePerms (before13 .spins) (0 ∷ 1 ∷ 2 ∷ []) [] (+ ∷ - ∷ - ∷ + ∷ + ∷ - ∷ []) refl refl refl refl;
   seen = record { labels = labels-by (graph (frame Perm)) (holds (frame Perm) (before13 .spins)) (0 ∷ 1 ∷ 2 ∷ []) refl refl; grey-labels = never; grey-kept = λ _. refl; counts = counts-by (0 ∷ 1 ∷ 2 ∷ []) (0 ∷ 3 ∷ 0 ∷ 0 ∷ []) refl refl refl; sizes = sizes-by (0 ∷ 1 ∷ 2 ∷ []) (1 ∷ 1 ∷ 1 ∷ 0 ∷ []) refl refl };
 }
   where
@@ -152,7 +147,7 @@ answer13-pair = record {
     ),
   );
   some = record { site = 1; below = omega arith; does = refl };
-  moved = moves-by (frame Pair) allFlips (before13 .spins) (0 ∷ 1 ∷ 2 ∷ []) [] (before13 .spins) refl refl (own3 Pair) refl;
+  moved = moves-by (frame Pair) allFlips (before13 .spins) (0 ∷ 1 ∷ 2 ∷ []) [] (before13 .spins) refl refl refl refl;
   seen = record { labels = labels-by (graph (frame Pair)) (holds (frame Pair) (before13 .spins)) (0 ∷ 1 ∷ 2 ∷ []) refl refl; grey-labels = never; grey-kept = λ _. refl; counts = counts-by (0 ∷ 1 ∷ 2 ∷ []) (0 ∷ 3 ∷ 0 ∷ 0 ∷ []) refl refl refl; sizes = sizes-by (0 ∷ 1 ∷ 2 ∷ []) (1 ∷ 1 ∷ 1 ∷ 0 ∷ []) refl refl };
 }
 
