@@ -13,6 +13,9 @@ pub mod SweepTasks
 pub mod Sanity
 pub mod SweepAscending
 pub mod MovesExist
+pub mod FrameKept
 pub mod FramesDetermined
 pub mod SweepCounts
 pub mod TypesDetermined
+pub mod Decided
+pub mod Verdicts

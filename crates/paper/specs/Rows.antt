@@ -1,4 +1,6 @@
 pub mod Cases
 pub mod Table
 pub mod Worked
+pub mod FrameCase
+pub mod Proved
 pub mod CmrExample

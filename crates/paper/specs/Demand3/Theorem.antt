@@ -16,7 +16,7 @@ use Rattle.paper.specs.Law.ByTest.{never, and-right}
 use Rattle.paper.specs.Law.Unique.{same-label}
 use Rattle.paper.specs.Law.Patterns.{same-is}
 use Rattle.paper.specs.Rows.Cases.{houd4, before12, after12}
-use Rattle.paper.specs.Rows.Worked.{table}
+use Rattle.paper.specs.Rows.Proved.{table}
 use Rattle.paper.specs.Demand3.Statement.{Reversible, Move, Keeps, Composed, Two, composite, inverse, identity, Leaves}
 use Rattle.paper.specs.Demand3.Statement.{Demand3, Boundary}
 use Rattle.paper.specs.Demand3.Step.{Step, step, valid-move}
@@ -126,10 +126,10 @@ boundary = record {
 }
   where
     sum-before : bondSum houd4 (before12 .spins) 0 0 ≡ pos 2
-    sum-before = table .row12-sums .0
+    sum-before = table .row12-before
 
     sum-after : bondSum houd4 (after12 .spins) 0 0 ≡ negsuc 1
-    sum-after = table .row12-sums .1
+    sum-after = table .row12-after
 
     apart : negsuc 1 ≡ pos 2 → ⊥
     apart e = never (same-is (negsuc 1) (pos 2) e)

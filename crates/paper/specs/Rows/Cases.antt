@@ -1,5 +1,7 @@
 -- The lattices, calls and buffers of document 01's rows. Assumes nothing.
 use Prim.Native.Nat.{ℕ, zero, suc, _^_}
+use Prim.Native.Char.{code}
+use Prim.Native.String.{String, [] as end, _∷_ as _then_}
 use mathlib.Core.Bool.{true, false}
 use mathlib.Core.List.{List, [], _∷_}
 use lib.ListN.{getD}
@@ -39,7 +41,20 @@ abbrev pub line : ℕ → ℕ → List ℕ → List ℕ → List ℤ → Lattice
 line n s fwd bwd couplings = record { n = n; d = 1; s = s; fwd = fwd; bwd = bwd; couplings = couplings }
 
 abbrev pub plain : Mode → Form → Lattice → Group → Call
-plain mode form lattice group = record { mode = mode; form = form; lattice = lattice; group = group; temperature = whole 1; cuts = []; reference = 0; seed = 0 }
+plain mode form lattice group = record {
+  mode = mode;
+  form = form;
+  lattice = lattice;
+  group = group;
+  temperature = whole 1;
+  cuts = [];
+  reference = 0;
+  seed = 0;
+}
+
+-- the group of the systems 0 to m - 1
+abbrev pub first : ℕ → Group
+first m = record { len = m; systems = 0 ∷ 1 ∷ 2 ∷ 3 ∷ 4 ∷ 5 ∷ 6 ∷ 7 ∷ [] }
 
 abbrev pub buffers : List ℤ → List ℕ → List ℕ → List ℕ → Buffers
 buffers spins labels counts sizes = record { spins = spins; labels = labels; greyLabels = []; counts = counts; sizes = sizes }
@@ -50,7 +65,7 @@ ring = line 3 1 (1 ∷ 2 ∷ 0 ∷ []) (2 ∷ 0 ∷ 1 ∷ []) (pos 1 ∷ pos 2 �
 
 -- row 12: two sites and four systems, (+,+,-,-) beside (+,+,+,-)
 abbrev pub houd4 : Call
-houd4 = plain Houd Wolff (line 2 4 (1 ∷ 0 ∷ []) (1 ∷ 0 ∷ []) []) (record { len = 4; systems = 0 ∷ 1 ∷ 2 ∷ 3 ∷ 0 ∷ 0 ∷ 0 ∷ 0 ∷ [] })
+houd4 = plain Houd Wolff (line 2 4 (1 ∷ 0 ∷ []) (1 ∷ 0 ∷ []) []) (first 4)
 
 abbrev pub before12 : Buffers
 before12 = buffers (+ ∷ + ∷ + ∷ + ∷ - ∷ + ∷ - ∷ - ∷ []) (0 ∷ 0 ∷ []) (0 ∷ 0 ∷ 0 ∷ []) (0 ∷ 0 ∷ 0 ∷ 0 ∷ [])
@@ -76,3 +91,18 @@ before13 = buffers (+ ∷ + ∷ - ∷ + ∷ - ∷ - ∷ []) (0 ∷ 0 ∷ 0 ∷ [
 
 abbrev pub after13 : List ℤ → Buffers
 after13 spins = buffers spins (0 ∷ 1 ∷ 2 ∷ []) (0 ∷ 3 ∷ 0 ∷ 0 ∷ []) (1 ∷ 1 ∷ 1 ∷ 0 ∷ [])
+
+-- the spins after its move
+abbrev pub moved13 : List ℤ
+moved13 = + ∷ - ∷ - ∷ + ∷ + ∷ - ∷ []
+
+-- the text that asks for it, and the text that answers, in the codes of their characters
+unfoldable pub codes : String → List ℕ
+codes end = []
+codes (c then s) = code c ∷ codes s
+
+abbrev pub caseText : List ℕ
+caseText = codes "1000030102\n110101ff01ffff\n12000100020000\n130001\n14010001000100\n"
+
+abbrev pub caseOut : List ℕ
+caseOut = codes "20000000010002\n210000000300000000\n2201ffff0101ff\n"
