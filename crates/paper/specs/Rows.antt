@@ -3,4 +3,6 @@ pub mod Table
 pub mod Worked
 pub mod FrameCase
 pub mod Proved
-pub mod CmrExample
+pub mod Cmr
+pub mod Refused
+pub mod Guards

@@ -1,6 +1,6 @@
 -- Each test of the table of refusals is decided, so every move, sweep and metering has a verdict, and it is computed. Assumes nothing.
 use Prim.Native.Nat.{ℕ, zero, suc, _+_, _*_, _≤_, _<_}
-use mathlib.Core.Path.{_≡_, refl, sym, _∙_, ap}
+use mathlib.Core.Path.{_≡_, refl, subst}
 use mathlib.Core.Bool.{Bool, true, false, cond, _&&_}
 use mathlib.Core.List.{List, [], _∷_, _++_}
 use lib.ListN.{length, getD}
@@ -19,6 +19,7 @@ use Rattle.paper.specs.Refusal.Rule.{Kept, Broken}
 use Rattle.paper.specs.Refusal.Rules.{Sizes, Ranged, Fits, lengthsOf, Spin, Spins, Back, Inverse, Distinct, Grouped, SmallCouplings, Warm}
 use Rattle.paper.specs.Refusal.Rules.{isCut, Cuts, Permutes, NotIdentity, permRow, Chosen, Seeded, choiceRules, rules}
 use Rattle.paper.specs.Refusal.Verdict.{Verdict}
+use Rattle.paper.specs.Answer.Meter.{MeterExact, meterRules}
 use Rattle.paper.specs.Law.Decided.{Decided, le, lt, eq, same, is, iff, both, either, implies, when, absurdity, all, some}
 use Rattle.paper.specs.Law.Decided.{DecidedAll, refusal, verdict-by}
 
@@ -173,3 +174,26 @@ refusalOf c p b = refusal (rules c p b) (decided c p b)
 
 pub verdict : (c : Call) (p : Choices) (b : Buffers) → Verdict (rules c p b) (refusalOf c p b)
 verdict c p b = verdict-by (rules c p b) (decided c p b) refl
+
+pub accepted-by : (c : Call) (p : Choices) (b : Buffers) → refusalOf c p b ≡ 0 → Kept (rules c p b)
+accepted-by c p b e = subst (Verdict (rules c p b)) e (verdict c p b)
+
+pub refused-by : (c : Call) (p : Choices) (b : Buffers) (k : ℕ) → refusalOf c p b ≡ suc k → Broken (rules c p b) (suc k)
+refused-by c p b k e = subst (Verdict (rules c p b)) e (verdict c p b)
+
+-- ---- metering
+abbrev pub meterDecided : (t : Lattice) (xs : List ℤ) (k : ℕ) → DecidedAll (meterRules t xs k)
+meterDecided t xs k = (
+  sizes (t .n) (t .d) (t .s),
+  (
+    iff (λ (a, (b, (c, d))). record { spins = a; fwd = b; bwd = c; couplings = d }) (λ r. (r .spins, (r .fwd, (r .bwd, r .couplings))))
+        (both (eq (length xs) (t .s * t .n))
+        (both (eq (length (t .fwd)) (t .n * t .d))
+        (both (eq (length (t .bwd)) (t .n * t .d))
+        (eq (length (t .couplings)) (t .n * t .d))))),
+    (spins xs, (inverse (t .n) (t .d) (t .fwd) (t .bwd), (lt k (t .s), (smallCouplings (t .couplings), tt)))),
+  ),
+)
+
+pub meter-verdict : (t : Lattice) (xs : List ℤ) (k : ℕ) → Verdict (meterRules t xs k) (refusal (meterRules t xs k) (meterDecided t xs k))
+meter-verdict t xs k = verdict-by (meterRules t xs k) (meterDecided t xs k) refl
