@@ -6,3 +6,6 @@ pub mod Proved
 pub mod Cmr
 pub mod Refused
 pub mod Guards
+pub mod Swept
+pub mod Slips
+pub mod SweepRefused

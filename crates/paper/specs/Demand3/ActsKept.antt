@@ -1,5 +1,5 @@
 -- Whether a pattern acts is not changed by a choice. Assumes nothing.
-use Prim.Native.Nat.{ℕ, zero, suc, _+_, _*_, _/_, _<_, _≤_}
+use Prim.Native.Nat.{ℕ, _/_, _<_}
 use mathlib.Core.Path.{_≡_, refl, sym, _∙_, ap}
 use mathlib.Core.Bool.{Bool, true, false, cond}
 use native.Mathlib.Omega.{arith}
@@ -7,7 +7,7 @@ use lib.IntN.{ℤ, pos, _*ℤ_}
 use Rattle.paper.specs.declared.Mode.{Mode}
 use Rattle.paper.specs.declared.Mode.the-variants.{Houd, Pair, Perm, Gperm, Jorg, Cmr}
 use Rattle.paper.specs.Panel.Input.{Call, Choices, Pattern, size}
-use Rattle.paper.specs.Site.Acting.{eqZ, sum, differs, pairDiffers, gauge, testBy, actsBy}
+use Rattle.paper.specs.Site.Acting.{eqZ, differs, pairDiffers, gauge, testBy, actsBy}
 use Rattle.paper.specs.Move.Moving.{partner, chosenBy}
 use Rattle.paper.specs.Refusal.Rules.{Permutes}
 use Rattle.paper.specs.Law.Sums.{sum-ext, sum-permuted, onto}

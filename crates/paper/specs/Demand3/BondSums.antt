@@ -1,7 +1,7 @@
 -- A step of a reversible mode turns the two ends of every bond alike, so the group's sum over the bond stays. Assumes nothing.
-use Prim.Native.Nat.{ℕ, zero, suc, _<_}
+use Prim.Native.Nat.{ℕ, _<_}
 use mathlib.Core.Path.{_≡_, refl, sym, _∙_, ap}
-use mathlib.Core.Bool.{Bool, true, false, cond, _&&_}
+use mathlib.Core.Bool.{Bool, true, false, cond}
 use mathlib.Core.List.{List}
 use lib.IntN.{ℤ, _*ℤ_}
 use Rattle.paper.specs.Component.Links.{Linked.stay, Linked.along}
@@ -18,7 +18,7 @@ use Rattle.paper.specs.Law.Unique.{same-label}
 use Rattle.paper.specs.Law.Sums.{sum-ext, sum-permuted}
 use Rattle.paper.specs.Demand3.Reversible.{Spinning, holds-both, gauge-product, still}
 use Rattle.paper.specs.Demand3.Step.{Step, reached-no}
-use Rattle.paper.specs.Demand3.Turns.{seenAt, turn, permutes-at, turned, spins-kept}
+use Rattle.paper.specs.Demand3.Turns.{seenAt, permutes-at, turned, spins-kept}
 
 same-reached :
     (f : Form) (c : Call) (l : List ℕ) (i j : ℕ)

@@ -1,5 +1,5 @@
 -- After an accepted move of a reversible mode the next is accepted too, if its own choices and buffers are right, and it has an outcome. Assumes nothing.
-use Prim.Native.Nat.{ℕ, zero, suc, _+_, _*_, _/_, _%_, _<_, _≤_}
+use Prim.Native.Nat.{ℕ, zero, suc, _+_, _*_, _/_, _%_, _<_}
 use mathlib.Core.Path.{_≡_, refl, sym, _∙_, ap}
 use mathlib.Core.Logic.{_⊎_, inl, inr}
 use mathlib.Core.Bool.{Bool, true, false}
@@ -7,8 +7,8 @@ use mathlib.Core.List.{List}
 use native.Mathlib.Omega.{arith}
 use native.Mathlib.Decide.{ℕ-discrete}
 use native.Mathlib.Nat.{div-add-mod', mod-lt}
-use lib.ListN.{length, getD}
-use lib.IntN.{ℤ, pos}
+use lib.ListN.{length}
+use lib.IntN.{ℤ}
 use Rattle.paper.specs.Panel.Input.{graph, Call, Choices, Buffers, spin, size, system}
 use Rattle.paper.specs.Site.Acting.{acts, SomeActs, NoneActs}
 use Rattle.paper.specs.Site.Bonds.{holds}
@@ -16,7 +16,7 @@ use Rattle.paper.specs.Component.Labels.{Labels}
 use Rattle.paper.specs.Component.Sizes.{Counted, Largest}
 use Rattle.paper.specs.Move.Moving.{final}
 use Rattle.paper.specs.Refusal.Rules.{Spin, Spins, Exact, Chosen, Seeded}
-use Rattle.paper.specs.Refusal.Kept.{Sound, Fit, Valid, valid-of, valid-kept}
+use Rattle.paper.specs.Refusal.Kept.{Sound, Fit, Valid, valid-kept}
 use Rattle.paper.specs.Answer.Move.{Seen}
 use Rattle.paper.specs.Law.ByTest.{never}
 use Rattle.paper.specs.Law.Unique.{Placed, place, Outside}

@@ -1,9 +1,8 @@
 -- Permutations as buffers: composites, inverses and the identity are permutations, and do what they say. Assumes nothing.
-use Prim.Native.Nat.{ℕ, zero, suc, _+_, _*_, _/_, _%_, _<_, _≤_}
+use Prim.Native.Nat.{ℕ, zero, suc, _+_, _*_, _/_, _%_, _<_}
 use mathlib.Core.Path.{_≡_, refl, sym, _∙_, ap}
 use mathlib.Core.Logic.{_≢_}
-use mathlib.Core.Bool.{Bool, true, false, cond}
-use mathlib.Core.List.{List}
+use mathlib.Core.Bool.{true, false}
 use native.Mathlib.Omega.{arith}
 use native.Mathlib.Decide.{ℕ-discrete}
 use borrow.Author.Tests.{eq-eqb, ne-eqb}
@@ -19,7 +18,7 @@ use Rattle.paper.specs.Law.ByTest.{never}
 use Rattle.paper.specs.Law.Unique.{Placed}
 use Rattle.paper.specs.Law.Sums.{onto}
 use Rattle.paper.specs.Law.Cells.{row-of, column-of, cell-lt, table-at, length-table}
-use Rattle.paper.specs.Demand3.Statement.{Reversible, Composed, Cancels, permsOf, composite, placeOf, inverse, identity}
+use Rattle.paper.specs.Demand3.Statement.{Composed, Cancels, permsOf, composite, placeOf, inverse, identity}
 use Rattle.paper.specs.Demand3.Reversible.{permOf}
 use Rattle.paper.specs.Demand3.Step.{entry-lt}
 
@@ -113,8 +112,9 @@ module _ (c : Call) (e : isPerm (c .mode) ≡ true) (f : moves (c .form) ≡ tru
   pub perm-cancels : (p : Choices) → ((r : ℕ) → r < entries (c .form) (c .lattice .n) → Permutes (size c) (permRow c p r)) → Cancels c p (inverse c p)
   perm-cancels p h = record {
     is = λ l hl k hk.
-        rw (perm-is p l (chosen c (inverse c p) l k), perm-is (inverse c p) l k, rows-at c (λ r. placeOf (size c) (permRow c p r)) (entry (c .form) l) k (here l hl) hk)
-        (there (size c) (permRow c p (entry (c .form) l)) (h (entry (c .form) l) (here l hl)) k hk .is);
+        let r = entry (c .form) l in
+        let at = rows-at c (λ r. placeOf (size c) (permRow c p r)) r k (here l hl) hk in
+        rw (perm-is p l (chosen c (inverse c p) l k), perm-is (inverse c p) l k, at) (there (size c) (permRow c p r) (h r (here l hl)) k hk .is);
   }
 
   pub perm-stays : (l k : ℕ) → l < c .lattice .n → k < size c → chosen c (identity c) l k ≡ k
@@ -122,7 +122,11 @@ module _ (c : Call) (e : isPerm (c .mode) ≡ true) (f : moves (c .form) ≡ tru
 
 -- the rows as tests see them
 module _ (c : Call) (r : ℕ) (hr : r < entries (c .form) (c .lattice .n)) where
-  pub composite-row : (p q : Choices) → Permutes (size c) (permRow c p r) → Permutes (size c) (permRow c q r) → Permutes (size c) (permRow c (composite c p q) r)
+  pub composite-row :
+      (p q : Choices)
+      → Permutes (size c) (permRow c p r)
+      → Permutes (size c) (permRow c q r)
+      → Permutes (size c) (permRow c (composite c p q) r)
   composite-row p q hp hq =
       permutes-ext (size c) (λ k. permRow c p r (permRow c q r k)) (permRow c (composite c p q) r)
       (λ k hk. rows-at c (λ r k. permRow c p r (permRow c q r k)) r k hr hk)
@@ -139,7 +143,11 @@ module _ (c : Call) (r : ℕ) (hr : r < entries (c .form) (c .lattice .n)) where
       (λ k hk. rows-at c (λ r. placeOf (size c) (permRow c p r)) r k hr hk)
       (back-permutes (size c) (permRow c p r) hp)
 
-  pub inverse-moves : (p : Choices) → Permutes (size c) (permRow c p r) → NotIdentity (size c) (permRow c p r) → NotIdentity (size c) (permRow c (inverse c p) r)
+  pub inverse-moves :
+      (p : Choices)
+      → Permutes (size c) (permRow c p r)
+      → NotIdentity (size c) (permRow c p r)
+      → NotIdentity (size c) (permRow c (inverse c p) r)
   inverse-moves p hp w =
       moves-ext (size c) (placeOf (size c) (permRow c p r)) (permRow c (inverse c p) r)
       (λ k hk. rows-at c (λ r. placeOf (size c) (permRow c p r)) r k hr hk)

@@ -1,21 +1,20 @@
 -- Composite, inverse and identical choices pass test 9 wherever the choices that they are made of do. Assumes nothing.
-use Prim.Native.Nat.{ℕ, zero, suc, _+_, _*_, _%_, _<_, _≤_}
-use mathlib.Core.Path.{_≡_, refl, sym, _∙_, ap}
+use Prim.Native.Nat.{ℕ, _+_, _*_, _%_, _<_, _≤_}
+use mathlib.Core.Path.{_≡_, refl, sym, _∙_}
 use mathlib.Core.Bool.{Bool, true, false, _&&_}
-use mathlib.Core.List.{List}
 use native.Mathlib.Omega.{arith}
 use native.Mathlib.Nat.{mod-lt, le-of-suc-le-suc}
 use lib.ListN.{length, getD}
 use Rattle.paper.specs.declared.Form.{Form}
 use Rattle.paper.specs.declared.Form.the-variants.{Sw, Wolff, Observe}
-use Rattle.paper.specs.Panel.Input.{Call, Choices, Buffers, size}
-use Rattle.paper.specs.Panel.Takes.{isPerm, isCmr, isSw, isWolff, moves, takesFlips, takesPerms, takesGreys, entries}
+use Rattle.paper.specs.Panel.Input.{Call, Choices, size}
+use Rattle.paper.specs.Panel.Takes.{isPerm, isWolff, moves, takesFlips, takesPerms, takesGreys, entries}
 use Rattle.paper.specs.Move.Moving.{chosen}
-use Rattle.paper.specs.Refusal.Rules.{When, Permutes, NotIdentity, permRow, Chosen}
+use Rattle.paper.specs.Refusal.Rules.{When, NotIdentity, permRow, Chosen}
 use Rattle.paper.specs.Law.ByTest.{never, and-left, and-right, and-no}
 use Rattle.paper.specs.Law.Cells.{table-at, length-table}
 use Rattle.paper.specs.Demand3.Statement.{Reversible, Composed, Cancels, composite, inverse, identity, placeOf}
-use Rattle.paper.specs.Demand3.Reversible.{not-cmr, flipOf}
+use Rattle.paper.specs.Demand3.Reversible.{not-cmr}
 use Rattle.paper.specs.Demand3.ChoicesAdd.{flip-is, add-composes, same-cancels}
 use Rattle.paper.specs.Demand3.ChoiceRows.{rows-long, perm-composes, perm-cancels, perm-stays}
 use Rattle.paper.specs.Demand3.ChoiceRows.{composite-row, composite-moves, inverse-row, inverse-moves, identity-row}

@@ -1,15 +1,13 @@
 -- Two steps of a reversible mode, one after the other. Assumes nothing.
-use Prim.Native.Nat.{ℕ, zero, suc, _<_}
+use Prim.Native.Nat.{ℕ, _<_}
 use mathlib.Core.Path.{_≡_, refl, sym, _∙_, ap}
-use mathlib.Core.Bool.{Bool, true, false, cond, _&&_}
+use mathlib.Core.Bool.{Bool, true, false, cond}
 use mathlib.Core.List.{List}
-use lib.ListN.{length}
 use lib.IntN.{ℤ}
 use Rattle.paper.specs.Panel.Input.{graph, Call, Choices, pattern, size}
-use Rattle.paper.specs.Site.Acting.{acts}
 use Rattle.paper.specs.Site.Bonds.{holds}
 use Rattle.paper.specs.Component.Sizes.{labelOf}
-use Rattle.paper.specs.Move.Moving.{chosen, reached, reachedBy}
+use Rattle.paper.specs.Move.Moving.{chosen, reached}
 use Rattle.paper.specs.Law.Unique.{labels-unique, label-lt, spins-equal}
 use Rattle.paper.specs.Demand3.Statement.{ComposedAt, CancelsAt, Composed, Cancels}
 use Rattle.paper.specs.Demand3.Step.{Step}

@@ -1,11 +1,11 @@
 -- Demand 3 holds for every call of its modes, and stops at row 12. Assumes nothing.
 use Prim.Native.Nat.{ℕ, _<_}
-use mathlib.Core.Path.{_≡_, refl, sym, _∙_, ap}
+use mathlib.Core.Path.{_≡_, refl, sym, _∙_}
 use mathlib.Core.Bool.{Bool, true, false, _&&_}
 use mathlib.Core.List.{List}
 use native.Mathlib.Omega.{arith}
-use lib.IntN.{ℤ, pos, negsuc}
-use Rattle.paper.specs.declared.Form.the-variants.{Sw, Wolff}
+use lib.IntN.{pos, negsuc}
+use Rattle.paper.specs.declared.Form.the-variants.{Sw}
 use Rattle.paper.specs.Panel.Input.{graph, Call, Choices, Buffers, size}
 use Rattle.paper.specs.Panel.Takes.{isPerm, isWolff, moves, takesPerms}
 use Rattle.paper.specs.Site.Bonds.{holds}

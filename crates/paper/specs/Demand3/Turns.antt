@@ -1,9 +1,9 @@
 -- What one step of a reversible mode does: each site's gauged pattern is permuted, and the sites that act and the labels stay. Assumes nothing.
-use Prim.Native.Nat.{ℕ, zero, suc, _<_}
-use mathlib.Core.Path.{_≡_, refl, sym, _∙_, ap}
+use Prim.Native.Nat.{ℕ, _<_}
+use mathlib.Core.Path.{_≡_, refl, sym, _∙_}
 use mathlib.Core.Bool.{Bool, true, false, cond, _&&_}
 use mathlib.Core.List.{List}
-use lib.IntN.{ℤ, _*ℤ_}
+use lib.IntN.{ℤ}
 use Rattle.paper.specs.Component.Links.{Linked.stay, Linked.along, Within, bind}
 use Rattle.paper.specs.declared.Mode.{Mode}
 use Rattle.paper.specs.declared.Mode.the-variants.{Houd, Pair, Perm, Gperm, Jorg, Cmr}

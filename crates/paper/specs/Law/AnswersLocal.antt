@@ -1,20 +1,20 @@
 -- A move's answer on one list of spins is its answer on another with the same rows of its group. Assumes nothing.
-use Prim.Native.Nat.{ℕ, _+_, _*_, _<_, _≤_}
-use mathlib.Core.Path.{_≡_, refl, sym, _∙_, ap}
-use mathlib.Core.Bool.{Bool, true, false, _&&_}
+use Prim.Native.Nat.{ℕ, _<_}
+use mathlib.Core.Path.{_≡_, sym, _∙_, ap}
+use mathlib.Core.Bool.{true}
 use mathlib.Core.List.{List}
 use native.Mathlib.Omega.{arith}
 use lib.ListN.{length}
 use lib.IntN.{ℤ}
 use Rattle.paper.specs.declared.Answer.{Answer}
-use Rattle.paper.specs.declared.Answer.the-variants.{Refused, Idle, Moved}
+use Rattle.paper.specs.declared.Answer.the-variants.{Idle, Moved}
 use Rattle.paper.specs.Panel.Input.{graph, Call, Choices, Buffers, pattern, size}
-use Rattle.paper.specs.Panel.Takes.{moves, isPerm, isCmr, takesGreys}
+use Rattle.paper.specs.Panel.Takes.{moves, isPerm, takesGreys}
 use Rattle.paper.specs.Site.Acting.{acts, SomeActs}
 use Rattle.paper.specs.Site.Bonds.{holds, holdsGrey}
 use Rattle.paper.specs.Component.Labels.{Labels}
 use Rattle.paper.specs.Component.Sizes.{labelOf}
-use Rattle.paper.specs.Move.Moving.{reached, reachedBy, final, Moves}
+use Rattle.paper.specs.Move.Moving.{reached, final, Moves}
 use Rattle.paper.specs.Refusal.Rules.{Spins, Exact, Seeded, Permutes}
 use Rattle.paper.specs.Refusal.Kept.{Valid, valid-of, valid-kept}
 use Rattle.paper.specs.Answer.Move.{Seen, Goes, Answers}

@@ -12,18 +12,18 @@ use lib.IntN.{ℤ, pos}
 use Rattle.paper.specs.declared.Answer.the-variants.{Idle, Moved}
 use Rattle.paper.specs.Panel.Input.{Graph, leadsTo, graph, Call, Choices, Buffers, spin, pattern, size, system}
 use Rattle.paper.specs.Panel.Takes.{takesGreys}
-use Rattle.paper.specs.Site.Acting.{acts, SomeActs, NoneActs}
+use Rattle.paper.specs.Site.Acting.{acts, NoneActs}
 use Rattle.paper.specs.Site.Bonds.{holds, holdsGrey}
-use Rattle.paper.specs.Component.Links.{Linked, Linked.stay, Linked.along, Linked.against}
+use Rattle.paper.specs.Component.Links.{Linked.stay, Linked.along, Linked.against}
 use Rattle.paper.specs.Component.Labels.{Bond, Joined, Labels}
 use Rattle.paper.specs.Component.Sizes.{labelOf, ofSize, atLeast, Counted, Rank, Largest}
-use Rattle.paper.specs.Move.Moving.{final, Moves}
-use Rattle.paper.specs.Refusal.Rule.{Kept, Broken}
+use Rattle.paper.specs.Move.Moving.{final}
+use Rattle.paper.specs.Refusal.Rule.{Kept}
 use Rattle.paper.specs.Refusal.Rules.{When, rules}
 use Rattle.paper.specs.Refusal.Kept.{valid-of}
 use Rattle.paper.specs.Refusal.Verdict.{Verdict}
 use Rattle.paper.specs.Answer.Move.{Seen, Answers}
-use Rattle.paper.specs.Law.Unique.{Outside, GroupIs, OthersOf}
+use Rattle.paper.specs.Law.Unique.{OthersOf}
 use Rattle.paper.specs.Law.Decided.{Decided, denies, le, lt, eq, same, is, iff, both, either, implies, when, all, some}
 use Rattle.paper.specs.Law.Verdicts.{someActs, refusalOf, verdict}
 
@@ -144,52 +144,55 @@ worked c p b b′ blue grey =
     (both (counted (b′ .labels) (b′ .counts))
     (largest (b′ .labels) (b′ .sizes)))))))))
 
-module _ (c : Call) (p : Choices) (b b′ : Buffers) (blue grey : List ℕ) (test : worked c p b b′ blue grey .test ≡ true) (grey-kept : takesGreys c ≡ false → b′ .greyLabels ≡ b .greyLabels) where
-  w : Worked c p b b′ blue grey
-  w = worked c p b b′ blue grey .holds test
+module _
+    (c : Call) (p : Choices) (b b′ : Buffers) (blue grey : List ℕ)
+    (test : worked c p b b′ blue grey .test ≡ true) (grey-kept : takesGreys c ≡ false → b′ .greyLabels ≡ b .greyLabels)
+  where
+    w : Worked c p b b′ blue grey
+    w = worked c p b b′ blue grey .holds test
 
-  kept : Kept (rules c p b)
-  kept = subst (Verdict (rules c p b)) (w .accepted) (verdict c p b)
+    kept : Kept (rules c p b)
+    kept = subst (Verdict (rules c p b)) (w .accepted) (verdict c p b)
 
-  seen : Seen c b b′
-  seen = record {
-    labels = labels-by (w .labels);
-    grey-labels = λ t. labels-by (w .grey-labels t);
-    grey-kept = grey-kept;
-    counts = w .counts;
-    sizes = w .sizes;
-  }
+    seen : Seen c b b′
+    seen = record {
+      labels = labels-by (w .labels);
+      grey-labels = λ t. labels-by (w .grey-labels t);
+      grey-kept = grey-kept;
+      counts = w .counts;
+      sizes = w .sizes;
+    }
 
-  others : OthersOf c (b .spins) (b′ .spins)
-  others i t hi out = go (decLt t (c .lattice .s))
-    where
-      at : InGroup c t ⊎ Untouched c (b .spins) (b′ .spins) t → spin (c .lattice .n) (b′ .spins) t i ≡ spin (c .lattice .n) (b .spins) t i
-      at (inl r) = absurd (out (r .0) (r .1) (r .2))
-      at (inr r) = r i hi
+    others : OthersOf c (b .spins) (b′ .spins)
+    others i t hi out = go (decLt t (c .lattice .s))
+      where
+        at : InGroup c t ⊎ Untouched c (b .spins) (b′ .spins) t → spin (c .lattice .n) (b′ .spins) t i ≡ spin (c .lattice .n) (b .spins) t i
+        at (inl r) = absurd (out (r .0) (r .1) (r .2))
+        at (inr r) = r i hi
 
-      beyond : c .lattice .s ≤ t → length (b .spins) ≤ t * c .lattice .n + i
-      beyond h = omega (arith, valid-of c p b kept .sound .exact .spins, mul-le-mul-right (c .lattice .n) h)
+        beyond : c .lattice .s ≤ t → length (b .spins) ≤ t * c .lattice .n + i
+        beyond h = omega (arith, valid-of c p b kept .sound .exact .spins, mul-le-mul-right (c .lattice .n) h)
 
-      go : Dec (t < c .lattice .s) → spin (c .lattice .n) (b′ .spins) t i ≡ spin (c .lattice .n) (b .spins) t i
-      go (yes h) = at (w .others t h)
-      go (no h) =
-          let far = beyond (omega arith) in
-          List·getD-eq-default (b′ .spins) (pos 0) (omega (arith, far, w .long)) ∙ sym (List·getD-eq-default (b .spins) (pos 0) far)
+        go : Dec (t < c .lattice .s) → spin (c .lattice .n) (b′ .spins) t i ≡ spin (c .lattice .n) (b .spins) t i
+        go (yes h) = at (w .others t h)
+        go (no h) =
+            let far = beyond (omega arith) in
+            List·getD-eq-default (b′ .spins) (pos 0) (omega (arith, far, w .long)) ∙ sym (List·getD-eq-default (b .spins) (pos 0) far)
 
-  pub goes-by : someActs c (b .spins) .test ≡ true → Answers c p b Moved b′
-  goes-by e = record {
-    valid = kept;
-    some = someActs c (b .spins) .holds e;
-    moved = record { long = w .long; group = λ i k hi hk. w .group i hi k hk; others = others };
-    seen = seen;
-  }
+    pub goes-by : someActs c (b .spins) .test ≡ true → Answers c p b Moved b′
+    goes-by e = record {
+      valid = kept;
+      some = someActs c (b .spins) .holds e;
+      moved = record { long = w .long; group = λ i k hi hk. w .group i hi k hk; others = others };
+      seen = seen;
+    }
 
-  pub rests-by : someActs c (b .spins) .test ≡ false → b′ .spins ≡ b .spins → Answers c p b Idle b′
-  rests-by e still = record { valid = kept; none = none; still = still; seen = seen }
-    where
-      none : NoneActs c (b .spins)
-      none i h = off (acts c (b .spins) i) refl
-        where
-          off : (t : Bool) → acts c (b .spins) i ≡ t → acts c (b .spins) i ≡ false
-          off false q = q
-          off true q = absurd (denies (someActs c (b .spins)) e (record { site = i; below = h; does = q }))
+    pub rests-by : someActs c (b .spins) .test ≡ false → b′ .spins ≡ b .spins → Answers c p b Idle b′
+    rests-by e still = record { valid = kept; none = none; still = still; seen = seen }
+      where
+        none : NoneActs c (b .spins)
+        none i h = off (acts c (b .spins) i) refl
+          where
+            off : (t : Bool) → acts c (b .spins) i ≡ t → acts c (b .spins) i ≡ false
+            off false q = q
+            off true q = absurd (denies (someActs c (b .spins)) e (record { site = i; below = h; does = q }))

@@ -1,6 +1,6 @@
 -- Lists by their cells: the cell of row t and column i is t * n + i. Assumes nothing.
-use Prim.Native.Nat.{ℕ, zero, suc, _+_, _*_, _/_, _%_, _<_, _≤_}
-use mathlib.Core.Path.{_≡_, refl, sym, _∙_, ap}
+use Prim.Native.Nat.{ℕ, zero, suc, _+_, _*_, _/_, _%_, _<_}
+use mathlib.Core.Path.{_≡_, refl, _∙_, ap}
 use mathlib.Core.List.{List, [], _∷_}
 use native.Mathlib.Omega.{arith}
 use native.Mathlib.Nat.{div-add-mod', mul-add-div-right, div-eq-of-lt, mul-le-mul-right, suc-mul}
@@ -16,6 +16,10 @@ column-of n t i h = omega (arith, div-add-mod' (t * n + i) n, ap (λ (q : ℕ). 
 
 pub cell-lt : (m n t i : ℕ) → t < m → i < n → t * n + i < m * n
 cell-lt m n t i ht hi = omega (arith, mul-le-mul-right n ht, suc-mul t n)
+
+-- of one column
+pub only-column : (t i : ℕ) → i < 1 → t * 1 + i ≡ t
+only-column t i h = omega arith
 
 -- ---- lists of m numbers
 pub table-at : (m : ℕ) (f : ℕ → ℕ) (i : ℕ) → i < m → getD (table m f) i 0 ≡ f i

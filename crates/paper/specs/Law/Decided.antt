@@ -1,6 +1,6 @@
 -- Claims that a test decides, and the verdict on a list of them. Assumes nothing.
 use Prim.Native.Nat.{ℕ, zero, suc, _≤_, _<_}
-use mathlib.Core.Path.{_≡_, refl, sym, _∙_, ap}
+use mathlib.Core.Path.{_≡_, refl, sym, _∙_}
 use mathlib.Core.Logic.{_⊎_, inl, inr}
 use mathlib.Core.Bool.{Bool, true, false, not, cond, _&&_, _||_}
 use mathlib.Core.List.{List, [], _∷_, _++_}
@@ -10,7 +10,7 @@ use borrow.Author.Tests.{eqb-true, eq-eqb, ltb-true, lt-ltb, leb-true, le-leb}
 use lib.Dec.{eqb, ltb, leb}
 use lib.IntN.{ℤ}
 use Rattle.paper.specs.Site.Acting.{eqZ}
-use Rattle.paper.specs.Refusal.Rule.{Rule, Kept}
+use Rattle.paper.specs.Refusal.Rule.{Rule}
 use Rattle.paper.specs.Refusal.Rules.{When}
 use Rattle.paper.specs.Refusal.Verdict.{Verdict}
 use Rattle.paper.specs.Law.ByTest.{never, and-left, and-right, is-same, every, every-is}

@@ -1,6 +1,6 @@
 -- How tight the promise is: one input has one answer and one content of every lent buffer. Assumes nothing.
 use Prim.Native.Nat.{ℕ, _<_}
-use mathlib.Core.Path.{_≡_, refl, sym, _∙_, ap, subst}
+use mathlib.Core.Path.{_≡_, refl, sym, _∙_, ap}
 use mathlib.Core.Bool.{Bool, true, false}
 use mathlib.Core.List.{List}
 use native.Mathlib.Omega.{arith}
@@ -9,14 +9,13 @@ use Rattle.paper.specs.declared.Answer.{Answer}
 use Rattle.paper.specs.declared.Answer.the-variants.{Refused, Idle, Moved}
 use Rattle.paper.specs.Panel.Input.{graph, Call, Choices, Buffers}
 use Rattle.paper.specs.Panel.Takes.{takesGreys}
-use Rattle.paper.specs.Site.Acting.{acts, SomeActs, NoneActs}
+use Rattle.paper.specs.Site.Acting.{SomeActs, NoneActs}
 use Rattle.paper.specs.Site.Bonds.{holds, holdsGrey}
-use Rattle.paper.specs.Component.Sizes.{Counted, Largest}
 use Rattle.paper.specs.Move.Moving.{Moves}
 use Rattle.paper.specs.Refusal.Rule.{Kept, Broken, broken-unique, broken-not-kept}
 use Rattle.paper.specs.Refusal.Rules.{rules}
 use Rattle.paper.specs.Refusal.Kept.{valid-of}
-use Rattle.paper.specs.Answer.Move.{Seen, Refuses, Rests, Goes, Answers}
+use Rattle.paper.specs.Answer.Move.{Seen, Goes, Answers}
 use Rattle.paper.specs.Law.Unique.{labels-unique, counts-unique, sizes-unique, moves-unique}
 
 pub record Same (a₁ : Answer) (b₁ : Buffers) (a₂ : Answer) (b₂ : Buffers) : Type 0 where

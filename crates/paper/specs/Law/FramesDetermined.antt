@@ -1,17 +1,17 @@
 -- One text has one output. Assumes nothing.
 use Prim.Native.Nat.{ℕ, _+_, _*_, _/_, _%_, _<_}
-use mathlib.Core.Path.{_≡_, refl, sym, _∙_, ap, subst}
+use mathlib.Core.Path.{_≡_, sym, _∙_, ap, subst}
 use mathlib.Core.Logic.{inl, inr}
 use mathlib.Core.List.{List, []}
 use native.Mathlib.Nat.{div-add-mod', mod-lt, div-lt-iff-lt-mul}
-use lib.ListN.{length, getD}
+use lib.ListN.{getD}
 use lib.Seq.{ext-getD}
 use Rattle.paper.specs.declared.Answer.{Answer}
 use Rattle.paper.specs.Panel.Input.{Buffers}
 use Rattle.paper.specs.Refusal.Rule.{broken-unique, broken-not-kept}
 use Rattle.paper.specs.Answer.Move.{Answers}
 use Rattle.paper.specs.Answer.Frame.{frameLattice, frameCall, frameChoices, frameBuffers, HasBack, frameRules}
-use Rattle.paper.specs.Answer.Frame.{result, refusal, FrameRefuses, FrameRuns, FrameAnswers}
+use Rattle.paper.specs.Answer.Frame.{result, refusal, FrameRuns, FrameAnswers}
 use Rattle.paper.specs.Law.Determined.{determined}
 use Rattle.paper.specs.Law.FrameKept.{frame-valid-of}
 

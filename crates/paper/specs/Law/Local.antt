@@ -1,18 +1,16 @@
 -- A move depends on its own group's rows alone: with other spins in the other systems it does the same. For sweeps and for two teams. Assumes nothing.
-use Prim.Native.Nat.{ℕ, zero, suc, _+_, _*_, _/_, _<_, _≤_}
-use mathlib.Core.Path.{_≡_, refl, sym, _∙_, ap}
-use mathlib.Core.Logic.{_≢_}
-use mathlib.Core.Bool.{Bool, true, false, not, cond, _&&_}
+use Prim.Native.Nat.{ℕ, _+_, _*_, _/_, _<_}
+use mathlib.Core.Path.{_≡_, refl, ap}
+use mathlib.Core.Bool.{Bool, true, false, cond}
 use mathlib.Core.List.{List}
 use native.Mathlib.Omega.{arith}
-use lib.ListN.{length, getD}
-use lib.IntN.{ℤ, pos, negℤ, _*ℤ_}
+use lib.IntN.{ℤ, _*ℤ_}
 use Rattle.paper.specs.declared.Mode.{Mode}
 use Rattle.paper.specs.declared.Mode.the-variants.{Houd, Pair, Perm, Gperm, Jorg, Cmr}
 use Rattle.paper.specs.Panel.Input.{Call, Choices, Pattern, pattern, size, ahead}
-use Rattle.paper.specs.Panel.Takes.{moves, isPerm, isGperm, isCmr}
-use Rattle.paper.specs.Site.Acting.{eqZ, sum, acts}
-use Rattle.paper.specs.Site.Bonds.{pairTerm, bothAct, couplingAt, cutAt, kindOf, kindAt, strength, jorgHolds}
+use Rattle.paper.specs.Panel.Takes.{isPerm, isGperm, isCmr}
+use Rattle.paper.specs.Site.Acting.{acts}
+use Rattle.paper.specs.Site.Bonds.{pairTerm, bothAct, couplingAt, cutAt, kindOf, kindAt, strength}
 use Rattle.paper.specs.Site.Bonds.{blueHolds, greyHolds, samplerOf, holdsBy, holds, holdsGrey}
 use Rattle.paper.specs.Component.Sizes.{labelOf}
 use Rattle.paper.specs.Move.Moving.{partner, actBy, reached, final, after}
@@ -103,7 +101,13 @@ module _ (c : Call) (xs ys : List ℤ) (a : Alike c xs ys) where
       kind-ext (couplingAt c i e) (pattern c xs i) (pattern c xs (ahead c i e)) (pattern c ys i) (pattern c ys (ahead c i e))
       (λ k l. a .patterns i hi k (omega (arith, a .two q))) (λ k l. same-ahead i e hi he k (omega (arith, a .two q)))
 
-  holds-in : (m : Mode) → (isCmr m ≡ true → isCmr (c .mode) ≡ true) → (i e : ℕ) → i < c .lattice .n → e < c .lattice .d → holdsBy m c xs i e ≡ holdsBy m c ys i e
+  holds-in :
+      (m : Mode)
+      → (isCmr m ≡ true → isCmr (c .mode) ≡ true)
+      → (i e : ℕ)
+      → i < c .lattice .n
+      → e < c .lattice .d
+      → holdsBy m c xs i e ≡ holdsBy m c ys i e
   holds-in Houd q i e hi he = both-local i e hi he
   holds-in Pair q i e hi he = both-local i e hi he
   holds-in Perm q i e hi he = both-local i e hi he

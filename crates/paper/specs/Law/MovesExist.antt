@@ -1,5 +1,5 @@
 -- For a group of distinct systems the moved spins exist, whatever the labels: `Moves` asks for nothing contradictory. Assumes nothing.
-use Prim.Native.Nat.{ℕ, zero, suc, _+_, _*_, _/_, _%_, _<_, _≤_}
+use Prim.Native.Nat.{ℕ, _+_, _*_, _/_, _%_, _<_, _≤_}
 use mathlib.Core.Path.{_≡_, refl, sym, _∙_, ap}
 use mathlib.Core.Logic.{_⊎_, inl, inr}
 use mathlib.Core.List.{List}
@@ -7,7 +7,7 @@ use native.Mathlib.Omega.{arith}
 use native.Mathlib.Decide.{decLt}
 use lib.ListN.{length, getD, List·getD-eq-default}
 use lib.IntN.{ℤ, pos}
-use Rattle.paper.specs.Panel.Input.{Call, Choices, Buffers, Pattern, pattern, spin, size, system}
+use Rattle.paper.specs.Panel.Input.{Call, Choices, Pattern, pattern, spin, size, system}
 use Rattle.paper.specs.Move.Moving.{final, Moves}
 use Rattle.paper.specs.Refusal.Rules.{Grouped}
 use Rattle.paper.specs.Law.Unique.{Placed, Unplaced, place, Outside, GroupIs, OthersOf}

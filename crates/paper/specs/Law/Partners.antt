@@ -1,20 +1,17 @@
 -- Laws of the exchange of partners, and of patterns whose pairs agree. Assumes nothing.
 use Prim.Native.Nat.{ℕ, zero, suc, _+_, _*_, _/_, _<_, _≤_}
 use mathlib.Core.Path.{_≡_, refl, sym, _∙_, ap}
-use mathlib.Core.Logic.{_⊎_, inl, inr}
-use mathlib.Core.Bool.{Bool, true, false, not, cond, _||_}
+use mathlib.Core.Bool.{Bool, true, false, not, _||_}
 use native.Mathlib.Omega.{arith}
 use native.Mathlib.Decide.{ℕ-discrete, decLt}
 use native.Mathlib.Nat.{div-add-mod'}
-use borrow.Author.Tests.{ltb-true, ltb-false, lt-ltb, le-ltb}
-use lib.Dec.{ltb}
-use lib.IntN.{ℤ}
+use borrow.Author.Tests.{lt-ltb, le-ltb}
 use Rattle.paper.specs.Panel.Input.{Pattern}
 use Rattle.paper.specs.Site.Acting.{eqZ, pairDiffers}
 use Rattle.paper.specs.Move.Moving.{other, partner}
-use Rattle.paper.specs.Refusal.Rules.{Distinct, Permutes}
+use Rattle.paper.specs.Refusal.Rules.{Permutes}
 use Rattle.paper.specs.Law.ByTest.{never, is-same}
-use Rattle.paper.specs.Law.Patterns.{same-is, pair-ext, other-other, other-lt, Half, Half.first, Half.second, half, other-first, other-second}
+use Rattle.paper.specs.Law.Patterns.{pair-ext, other-other, other-lt, Half, Half.first, Half.second, half, other-first, other-second}
 
 pub pairs-fit : (m : ℕ) → 2 * (m / 2) ≤ m
 pairs-fit m = omega (arith, div-add-mod' m 2)

@@ -1,18 +1,17 @@
 -- Laws of patterns of spins: what the tests say, partners, and gauges. Assumes nothing.
-use Prim.Native.Nat.{ℕ, zero, suc, _+_, _*_, _/_, _<_, _≤_}
-use mathlib.Core.Path.{_≡_, refl, sym, _∙_, ap}
-use mathlib.Core.Logic.{_⊎_, inl, inr}
-use mathlib.Core.Bool.{Bool, true, false, not, cond, _&&_, _||_}
+use Prim.Native.Nat.{ℕ, zero, suc, _+_, _*_, _<_}
+use mathlib.Core.Path.{_≡_, refl, sym, ap}
+use mathlib.Core.Logic.{inl, inr}
+use mathlib.Core.Bool.{Bool, true, false, not, cond, _||_}
 use native.Mathlib.Omega.{arith}
-use native.Mathlib.Decide.{ℕ-discrete, decLt}
+use native.Mathlib.Decide.{ℕ-discrete}
 use native.Mathlib.Numerals.{add-one}
-use borrow.Author.Tests.{eq-eqb, ltb-true, lt-ltb, le-ltb}
-use lib.Dec.{eqb, ltb}
+use borrow.Author.Tests.{eq-eqb}
 use lib.IntN.{ℤ, pos, negsuc, negℤ, _+ℤ_, _*ℤ_}
 use Rattle.paper.specs.Panel.Input.{Pattern}
-use Rattle.paper.specs.Site.Acting.{eqZ, sum, differs, pairDiffers}
-use Rattle.paper.specs.Move.Moving.{other, partner}
-use Rattle.paper.specs.Refusal.Rules.{Spin, Distinct, Permutes}
+use Rattle.paper.specs.Site.Acting.{eqZ, differs, pairDiffers}
+use Rattle.paper.specs.Move.Moving.{other}
+use Rattle.paper.specs.Refusal.Rules.{Spin}
 use Rattle.paper.specs.Law.ByTest.{never, is-same}
 
 -- ---- spins

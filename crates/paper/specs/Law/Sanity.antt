@@ -1,10 +1,7 @@
 -- Small consequences of the definitions, for all modes. Assumes nothing.
-use Prim.Native.Nat.{ℕ, _<_}
 use mathlib.Core.Path.{_≡_, refl, sym, _∙_, ap}
-use mathlib.Core.Bool.{Bool, true, false, _&&_}
 use mathlib.Core.List.{List}
 use lib.IntN.{ℤ}
-use Rattle.paper.specs.declared.Mode.{Mode}
 use Rattle.paper.specs.declared.Mode.the-variants.{Cmr}
 use Rattle.paper.specs.declared.Form.the-variants.{Observe}
 use Rattle.paper.specs.declared.Answer.{Answer}
@@ -16,7 +13,7 @@ use Rattle.paper.specs.Refusal.Kept.{valid-of}
 use Rattle.paper.specs.Answer.Move.{Answers}
 use Rattle.paper.specs.Law.Unique.{OthersOf, spins-equal}
 use Rattle.paper.specs.Law.ByTest.{never, and-no}
-use Rattle.paper.specs.Demand3.Step.{Accepted, Accepted.idle, Accepted.moved}
+use Rattle.paper.specs.Demand3.Step.{Accepted.moved}
 
 -- CMR is never idle
 pub cmr-never-idle : (c : Call) (p : Choices) (b b′ : Buffers) → c .mode ≡ Cmr → Answers c p b Idle b′ → ⊥

@@ -1,8 +1,7 @@
 -- Tasks run one after another: a task that meets its own rows and areas as they were before the sweep does what it would do alone. Assumes nothing.
-use Prim.Native.Nat.{ℕ, zero, suc, _+_, _*_, _/_, _%_, _<_, _≤_}
+use Prim.Native.Nat.{ℕ, suc, _+_, _*_, _/_, _%_, _<_, _≤_}
 use mathlib.Core.Path.{_≡_, refl, sym, _∙_, ap}
 use mathlib.Core.Logic.{_⊎_, inl, inr}
-use mathlib.Core.Bool.{Bool, true, false}
 use mathlib.Core.List.{List}
 use native.Mathlib.Omega.{arith}
 use native.Mathlib.Decide.{decLt, decLe}
@@ -10,16 +9,16 @@ use native.Mathlib.Nat.{div-add-mod', mod-lt, mul-le-mul-right, suc-mul, le-anti
 use lib.ListN.{length, getD, List·getD-eq-default}
 use lib.IntN.{ℤ, pos}
 use Rattle.paper.specs.declared.Answer.{Answer}
-use Rattle.paper.specs.Panel.Input.{Call, Choices, Buffers, pattern, spin, size, system}
+use Rattle.paper.specs.Panel.Input.{Call, Buffers, pattern, spin, size, system}
 use Rattle.paper.specs.Refusal.Rule.{Kept}
-use Rattle.paper.specs.Refusal.Rules.{Spins, rules}
+use Rattle.paper.specs.Refusal.Rules.{Spins}
 use Rattle.paper.specs.Answer.Move.{Answers}
 use Rattle.paper.specs.Law.Unique.{Placed, place, Outside}
 use Rattle.paper.specs.Law.Cells.{row-of, tabulate, length-tabulate, tabulate-at}
 use Rattle.paper.specs.Demand3.Step.{Accepted}
 use Rattle.paper.specs.Law.Local.{Agree}
-use Rattle.paper.specs.Law.AnswersLocal.{Rows, withSpins, local}
-use Rattle.paper.specs.Answer.Task.{Sweep, groups, tasks, temperatureOf, orderAt, masked, taskCall, taskChoices, areas}
+use Rattle.paper.specs.Law.AnswersLocal.{Rows, local}
+use Rattle.paper.specs.Answer.Task.{Sweep, groups, tasks, temperatureOf, taskCall, taskChoices, areas}
 use Rattle.paper.specs.Answer.Sweep.{sweepRules, Done}
 use Rattle.paper.specs.Law.SweepKept.{sweep-valid-of}
 use Rattle.paper.specs.Law.SweepTasks.{system-is, entry-lt, some-group}

@@ -1,5 +1,5 @@
 -- One sweep has one answer and one content of every buffer. Assumes nothing.
-use Prim.Native.Nat.{ℕ, zero, suc, _+_, _*_, _/_, _%_, _≤_, _<_}
+use Prim.Native.Nat.{ℕ, zero, suc, _+_, _*_, _/_, _%_, _<_}
 use mathlib.Core.Path.{_≡_, refl, sym, _∙_, ap}
 use mathlib.Core.Logic.{_⊎_, inl, inr, _≢_}
 use mathlib.Core.Bool.{Bool, true, false}
@@ -7,20 +7,20 @@ use mathlib.Core.List.{List}
 use native.Mathlib.Omega.{arith}
 use native.Mathlib.Nat.{div-add-mod', mod-lt, div-lt-iff-lt-mul}
 use native.Mathlib.Decide.{ℕ-discrete}
-use lib.ListN.{length, getD, take, drop}
+use lib.ListN.{length, getD, drop}
 use lib.Seq.{ext-getD, getD-take, getD-drop}
 use lib.IntN.{ℤ, pos}
 use Rattle.paper.specs.declared.SweepAnswer.{SweepAnswer}
 use Rattle.paper.specs.declared.SweepAnswer.the-variants.{Fault, Swept}
-use Rattle.paper.specs.Panel.Input.{Call, Buffers, spin, pattern, system}
+use Rattle.paper.specs.Panel.Input.{Buffers, spin, pattern, system}
 use Rattle.paper.specs.Panel.Takes.{takesGreys}
-use Rattle.paper.specs.Refusal.Rule.{Kept, Broken, broken-unique, broken-not-kept}
+use Rattle.paper.specs.Refusal.Rule.{broken-unique, broken-not-kept}
 use Rattle.paper.specs.Law.ByTest.{never}
 use Rattle.paper.specs.Law.Unique.{Placed, Unplaced, place}
 use Rattle.paper.specs.Law.SweepKept.{SweepValid, sweep-valid-of}
 use Rattle.paper.specs.Law.Determined.{buffers-equal, determined}
 use Rattle.paper.specs.Answer.Task.{Sweep, tasks, masked, part, taskCall, taskChoices, areas}
-use Rattle.paper.specs.Answer.Sweep.{common, sweepRules, Done, Unmoved, SameLengths, Sweeps, SweepAnswers}
+use Rattle.paper.specs.Answer.Sweep.{common, sweepRules, Sweeps, SweepAnswers}
 
 -- ---- a list is its parts
 part-at : (k m : ℕ) (xs : List ℕ) (o : ℕ) → o < m → getD (part k m xs) o 0 ≡ getD xs (k * m + o) 0
@@ -105,12 +105,18 @@ module _ (w : Sweep) (b y z : Buffers) (i₁ m₁ i₂ m₂ : ℕ) (p : Sweeps w
   some = valid .ranged .ranged .lattice .n-low
 
   spins-same : y .spins ≡ z .spins
-  spins-same = ext-getD (pos 0) (y .spins) (z .spins) (p .lengths .spins ∙ sym (q .lengths .spins)) (λ x _. rw (← div-add-mod' x n) (cell (x / n) (x % n) (mod-lt x some)))
+  spins-same =
+      ext-getD (pos 0) (y .spins) (z .spins) (p .lengths .spins ∙ sym (q .lengths .spins))
+      (λ x _. rw (← div-add-mod' x n) (cell (x / n) (x % n) (mod-lt x some)))
     where
       n : ℕ
       n = w .lattice .n
 
-      at : (t i : ℕ) → i < w .lattice .n → Located w (tasks w) t ⊎ Nowhere w (tasks w) t → spin (w .lattice .n) (y .spins) t i ≡ spin (w .lattice .n) (z .spins) t i
+      at :
+          (t i : ℕ)
+          → i < w .lattice .n
+          → Located w (tasks w) t ⊎ Nowhere w (tasks w) t
+          → spin (w .lattice .n) (y .spins) t i ≡ spin (w .lattice .n) (z .spins) t i
       at t i h (inl r) =
           rw (r .is)
           (p .each (r .task) (r .below) (r .open′) .rows i (r .place) h (r .inside)

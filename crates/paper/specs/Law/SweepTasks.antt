@@ -1,17 +1,17 @@
 -- In a sweep that is accepted each unmasked task keeps all the rules of a move, so it is one. Assumes nothing.
-use Prim.Native.Nat.{ℕ, zero, suc, _+_, _*_, _/_, _%_, _<_, _≤_}
-use mathlib.Core.Path.{_≡_, refl, sym, _∙_, ap}
-use mathlib.Core.Bool.{Bool, true, false, cond}
+use Prim.Native.Nat.{ℕ, zero, suc, _+_, _*_, _%_, _<_}
+use mathlib.Core.Path.{_≡_, refl, sym, _∙_}
+use mathlib.Core.Bool.{false, cond}
 use mathlib.Core.List.{List}
 use native.Mathlib.Omega.{arith}
 use native.Mathlib.Nat.{div-add-mod', mod-lt, div-lt-iff-lt-mul, mul-le-mul-right, suc-mul}
 use borrow.Author.Tests.{lt-ltb}
 use lib.Dec.{ltb}
-use lib.ListN.{length, getD, take, drop, length-take, length-drop}
-use Rattle.paper.specs.Panel.Input.{Call, Buffers, size, system}
+use lib.ListN.{length, length-take, length-drop}
+use Rattle.paper.specs.Panel.Input.{Buffers, system}
 use Rattle.paper.specs.Panel.Takes.{entries}
 use Rattle.paper.specs.Refusal.Rule.{Kept}
-use Rattle.paper.specs.Refusal.Rules.{Ranged, Exact, Grouped, rules}
+use Rattle.paper.specs.Refusal.Rules.{Exact, Grouped, rules}
 use Rattle.paper.specs.Refusal.Kept.{valid-kept}
 use Rattle.paper.specs.Answer.Task.{Sweep, groups, tasks, temperatureOf, orderAt, masked, part, groupOf, taskCall, taskChoices, areas}
 pub use Rattle.paper.specs.Law.Cells.{table-at}

@@ -1,23 +1,23 @@
 -- Labels, counts, sizes and moved spins are each determined. Assumes nothing.
-use Prim.Native.Nat.{ℕ, zero, suc, _+_, _*_, _/_, _%_, _≤_, _<_}
+use Prim.Native.Nat.{ℕ, zero, suc, _+_, _/_, _%_, _≤_, _<_}
 use mathlib.Core.Path.{_≡_, refl, sym, _∙_, ap}
-use mathlib.Core.Logic.{_⊎_, inl, inr, ⊎-elim, _≢_, _↔_}
+use mathlib.Core.Logic.{_⊎_, inl, inr, _≢_, _↔_}
 use mathlib.Core.Bool.{Bool, true, false, _&&_}
 use mathlib.Core.List.{List}
 use native.Mathlib.Nat.{le-antisymm, lt-of-le-of-lt, lt-of-not-le, div-add-mod', mod-lt, le-refl}
 use native.Mathlib.Decide.{decLe, ℕ-discrete}
 use native.Mathlib.Numerals.{add-one-le}
 use native.Mathlib.Omega.{arith}
-use borrow.Author.Tests.{leb-true, leb-false, le-leb}
-use lib.Dec.{eqb, leb}
+use borrow.Author.Tests.{leb-true, le-leb}
+use lib.Dec.{leb}
 use lib.ListN.{length, getD}
 use lib.Seq.{ext-getD}
 use lib.IntN.{ℤ, pos}
 use Rattle.paper.specs.Component.Links.{Linked.stay, trans, back}
 use Rattle.paper.specs.Panel.Input.{Graph, Call, Choices, Pattern, spin, pattern, size, system}
 use Rattle.paper.specs.Component.Labels.{Joined, Labels}
-use Rattle.paper.specs.Component.Sizes.{bit, countWhere, labelOf, counted, sizeOf, atLeast, Counted, Rank, Largest}
-use Rattle.paper.specs.Move.Moving.{final, Moves}
+use Rattle.paper.specs.Component.Sizes.{bit, countWhere, counted, sizeOf, atLeast, Counted, Rank, Largest}
+use Rattle.paper.specs.Move.Moving.{Moves}
 
 -- ---- labels
 module _ (t : Graph) (holding : ℕ → ℕ → Bool) where

@@ -1,8 +1,8 @@
 -- Each test of the table of refusals is decided, so every move, sweep and metering has a verdict, and it is computed. Assumes nothing.
-use Prim.Native.Nat.{ℕ, zero, suc, _+_, _*_, _≤_, _<_}
+use Prim.Native.Nat.{ℕ, suc, _+_, _*_, _<_}
 use mathlib.Core.Path.{_≡_, refl, subst}
-use mathlib.Core.Bool.{Bool, true, false, cond, _&&_}
-use mathlib.Core.List.{List, [], _∷_, _++_}
+use mathlib.Core.Bool.{_&&_}
+use mathlib.Core.List.{List}
 use lib.ListN.{length, getD}
 use lib.IntN.{ℤ, pos, negsuc, natAbs}
 use lib.Ieee.{Float, nan, binary32, div, le as le32}
@@ -16,10 +16,10 @@ use Rattle.paper.specs.Panel.Takes.{takesCuts, takesFlips, takesPerms, t
 use Rattle.paper.specs.Site.Acting.{acts, SomeActs}
 use Rattle.paper.specs.Site.Bonds.{whole}
 use Rattle.paper.specs.Refusal.Rule.{Kept, Broken}
-use Rattle.paper.specs.Refusal.Rules.{Sizes, Ranged, Fits, lengthsOf, Spin, Spins, Back, Inverse, Distinct, Grouped, SmallCouplings, Warm}
+use Rattle.paper.specs.Refusal.Rules.{Sizes, Ranged, Fits, lengthsOf, Spins, Back, Inverse, Distinct, Grouped, SmallCouplings, Warm}
 use Rattle.paper.specs.Refusal.Rules.{isCut, Cuts, Permutes, NotIdentity, permRow, Chosen, Seeded, choiceRules, rules}
 use Rattle.paper.specs.Refusal.Verdict.{Verdict}
-use Rattle.paper.specs.Answer.Meter.{MeterExact, meterRules}
+use Rattle.paper.specs.Answer.Meter.{meterRules}
 use Rattle.paper.specs.Law.Decided.{Decided, le, lt, eq, same, is, iff, both, either, implies, when, absurdity, all, some}
 use Rattle.paper.specs.Law.Decided.{DecidedAll, refusal, verdict-by}
 

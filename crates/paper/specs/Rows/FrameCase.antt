@@ -10,7 +10,7 @@ use Rattle.paper.specs.declared.Mode.the-variants.{Perm}
 use Rattle.paper.specs.declared.Answer.the-variants.{Moved}
 use Rattle.paper.specs.Refusal.Kept.{Valid, valid-of}
 use Rattle.paper.specs.Answer.Task.{table}
-use Rattle.paper.specs.Answer.Frame.{Spelt, Frame, hex, unhex, firstLine, next, bytes, words, twoBytes, HasBack, FrameAnswers}
+use Rattle.paper.specs.Answer.Frame.{Spelt, hex, unhex, firstLine, next, bytes, words, twoBytes, HasBack, FrameAnswers}
 use Rattle.paper.specs.Law.ByTest.{every}
 use Rattle.paper.specs.Law.Decided.{Decided, lt, all}
 use Rattle.paper.specs.Law.FrameKept.{frame-valid-kept}

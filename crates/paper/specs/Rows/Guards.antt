@@ -1,12 +1,11 @@
 -- Values that no row of document 01 pins. Assumes nothing.
 use Prim.Native.Nat.{ℕ, _^_}
-use mathlib.Core.Path.{_≡_, refl, sym}
+use mathlib.Core.Path.{_≡_, refl}
 use mathlib.Core.Bool.{true, false}
-use mathlib.Core.List.{List, [], _∷_}
-use lib.IntN.{ℤ, pos}
+use mathlib.Core.List.{[], _∷_}
+use lib.IntN.{pos}
 use lib.Ieee.{Float, nan, inf, binary32, round, mul, div, lt, le, ofInt}
 use Rattle.paper.specs.declared.BondKind.the-variants.{Red}
-use Rattle.paper.specs.Panel.Input.{Pattern}
 use Rattle.paper.specs.Site.Acting.{sum}
 use Rattle.paper.specs.Site.Bonds.{whole, samplerOf, jorgHolds, greyHolds}
 use Rattle.paper.specs.Move.Moving.{other, partner, permute}

@@ -1,11 +1,11 @@
 -- Worked refusals: one input with a fault for each number 1 to 10. Assumes nothing.
-use Prim.Native.Nat.{ℕ, zero, suc, _<_}
-use mathlib.Core.Path.{_≡_, refl}
-use mathlib.Core.Bool.{Bool, true, false, not, cond}
-use mathlib.Core.List.{List, [], _∷_}
+use Prim.Native.Nat.{ℕ, suc, _<_}
+use mathlib.Core.Path.{refl}
+use mathlib.Core.Bool.{Bool, true, not, cond}
+use mathlib.Core.List.{[], _∷_}
 use lib.Dec.{eqb, ltb}
-use lib.IntN.{ℤ, pos}
-use lib.Ieee.{Float, nan, div, le, ofInt}
+use lib.IntN.{pos}
+use lib.Ieee.{nan, div, le, ofInt}
 use Rattle.paper.specs.declared.Mode.the-variants.{Cmr}
 use Rattle.paper.specs.declared.Form.the-variants.{Wolff}
 use Rattle.paper.specs.Panel.Input.{Call, Choices, Buffers}

@@ -1,6 +1,6 @@
 -- The moves of rows 12 and 13, by computing. Assumes nothing.
 use mathlib.Core.Path.{refl}
-use mathlib.Core.List.{List, []}
+use mathlib.Core.List.{[]}
 use Rattle.paper.specs.declared.Mode.the-variants.{Pair, Perm}
 use Rattle.paper.specs.declared.Answer.the-variants.{Moved}
 use Rattle.paper.specs.Site.Acting.{sum, differs, pairDiffers, acts}
