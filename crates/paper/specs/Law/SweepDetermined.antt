@@ -175,5 +175,5 @@ sweep-determined w b y z (Fault r) (Swept i m) f g = absurd (broken-not-kept (sw
 sweep-determined w b y z (Swept i m) (Fault s) f g = absurd (broken-not-kept (sweepRules w b) s (g .why) (f .valid))
 sweep-determined w b y z (Swept i m) (Swept j o) f g = record {
   answer = cc (f .idles, f .moveds, g .idles, g .moveds);
-  buffers = buffers-same w b y z i m j o f g;
+  buffers = buffers-same w b y z _ _ _ _ f g;
 }

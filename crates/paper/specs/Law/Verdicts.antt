@@ -5,7 +5,7 @@ use mathlib.Core.Bool.{_&&_}
 use mathlib.Core.List.{List}
 use lib.ListN.{length, getD}
 use lib.IntN.{ℤ, pos, negsuc, natAbs}
-use lib.Ieee.{Float, nan, binary32, div, le as le32}
+use lib.Ieee.{Float, nan}
 use Rattle.paper.specs.declared.Group.{Group}
 use Rattle.paper.specs.declared.Mode.{Mode}
 use Rattle.paper.specs.declared.Form.{Form}
@@ -14,7 +14,6 @@ use Rattle.paper.specs.Panel.Input.{Lattice, Call, Choices, Buffers, siz
 use Rattle.paper.specs.Panel.Takes.{isCmr, isWolff, drawsBonds, flipsBy, permsBy, greysBy, entries}
 use Rattle.paper.specs.Panel.Takes.{takesCuts, takesFlips, takesPerms, takesGreys, takesReference, takesSeed}
 use Rattle.paper.specs.Site.Acting.{acts, SomeActs}
-use Rattle.paper.specs.Site.Bonds.{whole}
 use Rattle.paper.specs.Refusal.Rule.{Kept, Broken}
 use Rattle.paper.specs.Refusal.Rules.{Sizes, Ranged, Fits, lengthsOf, Spins, Back, Inverse, Distinct, Grouped, SmallCouplings, Warm}
 use Rattle.paper.specs.Refusal.Rules.{isCut, Cuts, Permutes, NotIdentity, permRow, Chosen, Seeded, choiceRules, rules}
@@ -105,7 +104,7 @@ abbrev pub smallCouplings : (js : List ℤ) → Decided (SmallCouplings js)
 smallCouplings js = all (length js) (λ k. le (natAbs (getD js k (pos 0))) 1000000)
 
 abbrev pub warm : (t : Float) → Decided (Warm t)
-warm t = is (le32 (div binary32 (whole 1) (whole 1024)) t && le32 t (whole 1048576))
+warm t = is _
 
 -- ---- 8 to 10
 abbrev pub cuts : (xs : List Float) → Decided (Cuts xs)

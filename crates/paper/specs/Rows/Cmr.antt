@@ -93,7 +93,7 @@ pub second-alone : Answers (alone Wolff) (choosing [] (1 ∷ [])) (single (+ ∷
 unfolding every any holds holdsGrey acts sizeOf countWhere reached final mul div lt le ofInt
 second-alone = goes-by (alone Wolff) (choosing [] (1 ∷ [])) (single (+ ∷ + ∷ [])) (single (+ ∷ - ∷ [])) (0 ∷ []) (0 ∷ []) refl (λ e. never (sym e)) refl
 
-pub sw-leaves-single : Answers (alone Sw) (choosing (1 ∷ []) (3 ∷ [])) (single (+ ∷ + ∷ [])) Moved (single (+ ∷ + ∷ []))
+pub sw-leaves-single : Answers (alone Sw) (choosing (1 ∷ []) (1 ∷ [])) (single (+ ∷ + ∷ [])) Moved (single (+ ∷ + ∷ []))
 unfolding every any holds holdsGrey acts sizeOf countWhere reached final mul div lt le ofInt
 sw-leaves-single =
-    goes-by (alone Sw) (choosing (1 ∷ []) (3 ∷ [])) (single (+ ∷ + ∷ [])) (single (+ ∷ + ∷ [])) (0 ∷ []) (0 ∷ []) refl (λ e. never (sym e)) refl
+    goes-by (alone Sw) (choosing (1 ∷ []) (1 ∷ [])) (single (+ ∷ + ∷ [])) (single (+ ∷ + ∷ [])) (0 ∷ []) (0 ∷ []) refl (λ e. never (sym e)) refl

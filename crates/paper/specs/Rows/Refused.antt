@@ -2,21 +2,21 @@
 use Prim.Native.Nat.{ℕ, suc, _<_}
 use mathlib.Core.Path.{refl}
 use mathlib.Core.Bool.{Bool, true, not, cond}
-use mathlib.Core.List.{[], _∷_}
+use mathlib.Core.List.{List, [], _∷_}
 use lib.Dec.{eqb, ltb}
-use lib.IntN.{pos}
+use lib.IntN.{ℤ, pos}
 use lib.Ieee.{nan, div, le, ofInt}
-use Rattle.paper.specs.declared.Mode.the-variants.{Cmr}
+use Rattle.paper.specs.declared.Mode.the-variants.{Perm, Cmr}
 use Rattle.paper.specs.declared.Form.the-variants.{Wolff}
 use Rattle.paper.specs.Panel.Input.{Call, Choices, Buffers}
-use Rattle.paper.specs.Site.Acting.{acts}
+use Rattle.paper.specs.Site.Acting.{differs, acts}
 use Rattle.paper.specs.Site.Bonds.{whole}
 use Rattle.paper.specs.Refusal.Rule.{Kept, Broken}
 use Rattle.paper.specs.Refusal.Rules.{rules}
 use Rattle.paper.specs.Law.ByTest.{every}
 use Rattle.paper.specs.Law.Decided.{eq, all, any}
 use Rattle.paper.specs.Law.Verdicts.{refusalOf, accepted-by, refused-by}
-use Rattle.paper.specs.Rows.Cases.{+, -}
+use Rattle.paper.specs.Rows.Cases.{+, -, line, first}
 
 -- a CMR Wolff move of two sites, which takes an input for each test. Where `ok j` is false it has the fault j: three systems (1), a short buffer of
 -- counts (2), a spin 0 (3), two sites with one forward neighbour (4), a system twice (5), a coupling of 1,000,001 (6), the temperature 0 (7), a
@@ -80,3 +80,41 @@ unfolding every any acts div le ofInt
 in-order k h =
     refused-by (call (onwards k)) (choices (onwards k)) (buffers (onwards k)) k
     (all 10 (λ k. eq (refusalOf (call (onwards k)) (choices (onwards k)) (buffers (onwards k))) (suc k)) .holds refl k h)
+
+-- ---- seeds, in perm Wolff with the permutation p on two sites with two bonds between them
+abbrev seeding : ℕ → Call
+seeding seed = record {
+  mode = Perm;
+  form = Wolff;
+  lattice = line 2 2 (1 ∷ 0 ∷ []) (1 ∷ 0 ∷ []) [];
+  group = first 2;
+  temperature = nan;
+  cuts = [];
+  reference = 9;
+  seed = seed;
+}
+
+abbrev permuting : List ℕ → Choices
+permuting p = record { flips = []; perms = p; greys = [] }
+
+abbrev lent : List ℤ → Buffers
+lent spins = record { spins = spins; labels = 0 ∷ 0 ∷ []; greyLabels = []; counts = 0 ∷ 0 ∷ 0 ∷ []; sizes = 0 ∷ 0 ∷ 0 ∷ 0 ∷ [] }
+
+pub record Seeds : Type 0 where
+  -- site 0 acts and site 1 does not
+  pub acting : Kept (rules (seeding 0) (permuting (1 ∷ 0 ∷ [])) (lent (+ ∷ + ∷ - ∷ + ∷ [])))
+  pub resting : Broken (rules (seeding 1) (permuting (1 ∷ 0 ∷ [])) (lent (+ ∷ + ∷ - ∷ + ∷ []))) 10
+  -- where no site acts any seed that is a site will do; but the identity is refused all the same
+  pub idle : Kept (rules (seeding 1) (permuting (1 ∷ 0 ∷ [])) (lent (+ ∷ + ∷ + ∷ + ∷ [])))
+  pub no-site : Broken (rules (seeding 2) (permuting (1 ∷ 0 ∷ [])) (lent (+ ∷ + ∷ + ∷ + ∷ []))) 10
+  pub identity : Broken (rules (seeding 2) (permuting (0 ∷ 1 ∷ [])) (lent (+ ∷ + ∷ + ∷ + ∷ []))) 9
+
+pub seeds : Seeds
+unfolding every any acts differs
+seeds = record {
+  acting = accepted-by (seeding 0) (permuting (1 ∷ 0 ∷ [])) (lent (+ ∷ + ∷ - ∷ + ∷ [])) refl;
+  resting = refused-by (seeding 1) (permuting (1 ∷ 0 ∷ [])) (lent (+ ∷ + ∷ - ∷ + ∷ [])) 9 refl;
+  idle = accepted-by (seeding 1) (permuting (1 ∷ 0 ∷ [])) (lent (+ ∷ + ∷ + ∷ + ∷ [])) refl;
+  no-site = refused-by (seeding 2) (permuting (1 ∷ 0 ∷ [])) (lent (+ ∷ + ∷ + ∷ + ∷ [])) 9 refl;
+  identity = refused-by (seeding 2) (permuting (0 ∷ 1 ∷ [])) (lent (+ ∷ + ∷ + ∷ + ∷ [])) 8 refl;
+}

@@ -4,9 +4,10 @@ use mathlib.Core.Path.{refl}
 use mathlib.Core.List.{List, [], _∷_}
 use lib.IntN.{ℤ, pos}
 use lib.Ieee.{mul, div, lt, le, ofInt, round}
-use Rattle.paper.specs.declared.Mode.the-variants.{Perm, Gperm, Jorg}
-use Rattle.paper.specs.declared.Form.the-variants.{Sw}
-use Rattle.paper.specs.declared.Answer.the-variants.{Moved}
+use Rattle.paper.specs.declared.Mode.the-variants.{Pair, Perm, Gperm, Jorg}
+use Rattle.paper.specs.declared.Form.{Form}
+use Rattle.paper.specs.declared.Form.the-variants.{Sw, Wolff}
+use Rattle.paper.specs.declared.Answer.the-variants.{Idle, Moved}
 use Rattle.paper.specs.Panel.Input.{Lattice, Call, Choices, Buffers}
 use Rattle.paper.specs.Site.Acting.{sum, differs, pairDiffers, acts}
 use Rattle.paper.specs.Site.Bonds.{whole, holds}
@@ -15,7 +16,7 @@ use Rattle.paper.specs.Move.Moving.{other, reached, final}
 use Rattle.paper.specs.Answer.Move.{Answers}
 use Rattle.paper.specs.Law.ByTest.{every}
 use Rattle.paper.specs.Law.Decided.{any}
-use Rattle.paper.specs.Law.ByAnswer.{goes-by}
+use Rattle.paper.specs.Law.ByAnswer.{goes-by, rests-by}
 use Rattle.paper.specs.Rows.Cases.{+, -, decimal, line, plain, first, buffers}
 
 abbrev ring : Lattice
@@ -76,6 +77,31 @@ pub gauge-kept : Answers gaugedBy0 (permuting (1 ∷ 0 ∷ 1 ∷ 0 ∷ [])) (bef
 unfolding every any holds acts differs sizeOf countWhere reached final
 gauge-kept = goes-by gaugedBy0 (permuting (1 ∷ 0 ∷ 1 ∷ 0 ∷ [])) (before2 (+ ∷ + ∷ - ∷ + ∷ [])) gaugedAfter [] [] refl (λ _. refl) refl
 
+-- one site joined to itself is single: pair moves it in the Wolff form, and not in SW, where the answer is "moved" all the same
+abbrev single : Form → Call
+single form = plain Pair form (line 1 2 (0 ∷ []) (0 ∷ []) []) (first 2)
+
+abbrev single1 : List ℤ → Buffers
+single1 spins = buffers spins (0 ∷ []) (0 ∷ 1 ∷ []) (1 ∷ 0 ∷ 0 ∷ 0 ∷ [])
+
+abbrev flipping : List ℕ → Choices
+flipping flips = record { flips = flips; perms = []; greys = [] }
+
+pub wolff-single : Answers (single Wolff) (flipping []) (single1 (+ ∷ - ∷ [])) Moved (single1 (- ∷ + ∷ []))
+unfolding every any holds acts pairDiffers sizeOf countWhere other reached final
+wolff-single = goes-by (single Wolff) (flipping []) (single1 (+ ∷ - ∷ [])) (single1 (- ∷ + ∷ [])) [] [] refl (λ _. refl) refl
+
+pub sw-single : Answers (single Sw) (flipping (1 ∷ [])) (single1 (+ ∷ - ∷ [])) Moved (single1 (+ ∷ - ∷ []))
+unfolding every any holds acts pairDiffers sizeOf countWhere other reached final
+sw-single = goes-by (single Sw) (flipping (1 ∷ [])) (single1 (+ ∷ - ∷ [])) (single1 (+ ∷ - ∷ [])) [] [] refl (λ _. refl) refl
+
+-- no site acts: idle, and the outputs are written
+pub idle-written : Answers (single Wolff) (flipping []) (buffers (+ ∷ + ∷ []) (9 ∷ []) (9 ∷ 9 ∷ []) (9 ∷ 9 ∷ 9 ∷ 9 ∷ [])) Idle (single1 (+ ∷ + ∷ []))
+unfolding every any holds acts pairDiffers sizeOf countWhere other reached final
+idle-written =
+    rests-by (single Wolff) (flipping []) (buffers (+ ∷ + ∷ []) (9 ∷ []) (9 ∷ 9 ∷ []) (9 ∷ 9 ∷ 9 ∷ 9 ∷ [])) (single1 (+ ∷ + ∷ []))
+    [] [] refl (λ _. refl) refl refl
+
 -- two bonds of one pair have a cut each: the second joins where the first does not
 abbrev doubled : Call
 doubled = record {
@@ -92,8 +118,7 @@ doubled = record {
 abbrev doubledAfter : Buffers
 doubledAfter = buffers (- ∷ - ∷ + ∷ + ∷ []) (0 ∷ 0 ∷ []) (0 ∷ 0 ∷ 1 ∷ []) (2 ∷ 0 ∷ 0 ∷ 0 ∷ [])
 
-pub either-bond : Answers doubled (record { flips = 1 ∷ 0 ∷ []; perms = []; greys = [] }) (before2 (+ ∷ + ∷ - ∷ - ∷ [])) Moved doubledAfter
+pub either-bond : Answers doubled (flipping (1 ∷ 0 ∷ [])) (before2 (+ ∷ + ∷ - ∷ - ∷ [])) Moved doubledAfter
 unfolding every any holds acts sum pairDiffers sizeOf countWhere other reached final mul div lt le ofInt round
 either-bond =
-    goes-by doubled (record { flips = 1 ∷ 0 ∷ []; perms = []; greys = [] }) (before2 (+ ∷ + ∷ - ∷ - ∷ [])) doubledAfter
-    (0 ∷ 0 ∷ []) [] refl (λ _. refl) refl
+    goes-by doubled (flipping (1 ∷ 0 ∷ [])) (before2 (+ ∷ + ∷ - ∷ - ∷ [])) doubledAfter (0 ∷ 0 ∷ []) [] refl (λ _. refl) refl
