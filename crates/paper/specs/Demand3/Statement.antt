@@ -61,7 +61,8 @@ pub record Keeps (c : Call) (b b′ : Buffers) : Type 0 where
       → ((k : ℕ) → k < size c → t ≢ system c k)
       → spin (c .lattice .n) (b′ .spins) t i ≡ spin (c .lattice .n) (b .spins) t i
 
--- ---- "choosing p and then q on a component": `chosen c p l k` is the place that p makes of the place k on the component with the label l
+-- ---- "choosing p and then q on a component": `chosen c p l k` is the place that p makes of the place k on the component with the label l. A flip
+-- makes of each place its partner; with two replicas of opposite spins that is what houd's negation does
 
 -- r is "k to p(q(k))" there, and on every component
 abbrev pub ComposedAt : Call → Choices → Choices → Choices → ℕ → Type 0
@@ -82,6 +83,12 @@ pub record Two (c : Call) (p q : Choices) (b b′ d d′ : Buffers) : Type 0 whe
   pub first : Move c p b b′
   pub second : Move c q d d′
   pub handed : d .spins ≡ b′ .spins
+
+-- labels, counts and sizes
+pub record SameOutputs (b′ d′ : Buffers) : Type 0 where
+  pub labels : d′ .labels ≡ b′ .labels
+  pub counts : d′ .counts ≡ b′ .counts
+  pub sizes : d′ .sizes ≡ b′ .sizes
 
 -- ---- choices as buffers: permutations of which row r sends k to f r k. SW has a row for each label, Wolff one
 abbrev pub permsOf : Call → (ℕ → ℕ → ℕ) → List ℕ
@@ -122,6 +129,8 @@ pub record Demand3 (c : Call) : Type 0 where
   pub keeps : {p : Choices} {b b′ : Buffers} → Move c p b b′ → Keeps c b b′
   -- after a move the next is accepted, with the same gauge site and seed: only its own choices and its buffers' lengths must be right
   pub next : {p q : Choices} {b b′ d : Buffers} → Move c p b b′ → d .spins ≡ b′ .spins → Exact c q d → Chosen c q → Outcome c q d
+  -- and it writes the same labels, counts and sizes
+  pub outputs : {p q : Choices} {b b′ d d′ : Buffers} → Two c p q b b′ d d′ → SameOutputs b′ d′
   -- "Two moves .. choosing p and then q on a component, leave the spin bytes of one such move choosing k to p(q(k))": on that component
   pub composes-at :
       {p q r : Choices} {b b′ d d′ e e′ : Buffers}

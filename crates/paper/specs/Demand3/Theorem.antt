@@ -13,16 +13,16 @@ use Rattle.paper.specs.Site.Energy.{bondSum}
 use Rattle.paper.specs.Component.Labels.{Joined, Labels}
 use Rattle.paper.specs.Refusal.Rules.{When, Chosen, NotIdentity, permRow}
 use Rattle.paper.specs.Law.ByTest.{never, and-right}
-use Rattle.paper.specs.Law.Unique.{same-label}
+use Rattle.paper.specs.Law.Unique.{same-label, counts-unique, sizes-unique}
 use Rattle.paper.specs.Law.Patterns.{same-is}
 use Rattle.paper.specs.Rows.Cases.{houd4, before12, after12}
 use Rattle.paper.specs.Rows.Proved.{table}
-use Rattle.paper.specs.Demand3.Statement.{Reversible, Move, Keeps, Composed, Two, composite, inverse, identity, Leaves}
+use Rattle.paper.specs.Demand3.Statement.{Reversible, Move, Keeps, Composed, Two, SameOutputs, composite, inverse, identity, Leaves}
 use Rattle.paper.specs.Demand3.Statement.{Demand3, Boundary}
-use Rattle.paper.specs.Demand3.Step.{Step, step, valid-move}
+use Rattle.paper.specs.Demand3.Step.{Step, step, seen-of, valid-move}
 use Rattle.paper.specs.Demand3.Turns.{acts-kept, labels-kept}
 use Rattle.paper.specs.Demand3.BondSums.{sum-kept}
-use Rattle.paper.specs.Demand3.Compose.{none-moved, back-at, two-back, then-at, two-then}
+use Rattle.paper.specs.Demand3.Compose.{none-moved, same-labels, back-at, two-back, then-at, two-then}
 use Rattle.paper.specs.Demand3.ChoicesAdd.{wolff-cancels}
 use Rattle.paper.specs.Demand3.ChoicesFit.{composite-chosen, composite-is, composite-sized, inverse-chosen, inverse-cancels, inverse-sized}
 use Rattle.paper.specs.Demand3.ChoicesFit.{identity-chosen, identity-stays, identity-sized}
@@ -67,6 +67,16 @@ module _ (c : Call) (v : Reversible (c .mode) (size c)) where
       third : Step c r (b .spins) (e′ .labels) (e′ .spins)
       third = rw same at (step v m)
 
+    outputs : SameOutputs b′ d′
+    outputs = record {
+      labels = labels;
+      counts = counts-unique (d′ .labels) (d′ .counts) (b′ .counts) (seen-of (w .second) .counts) (rw labels (seen-of (w .first) .counts));
+      sizes = sizes-unique (d′ .labels) (d′ .sizes) (b′ .sizes) (seen-of (w .second) .sizes) (rw labels (seen-of (w .first) .sizes));
+    }
+      where
+        labels : d′ .labels ≡ b′ .labels
+        labels = same-labels first second
+
     composes : {r : Choices} {e e′ : Buffers} → Move c r e e′ → e .spins ≡ b .spins → Composed c p q r → d′ .spins ≡ e′ .spins
     composes m same h = two-then first second (third m same) h
 
@@ -90,6 +100,7 @@ pub demand3 : (c : Call) → Reversible (c .mode) (size c) → Demand3 c
 demand3 c v = record {
   keeps = keeps c v;
   next = λ m. next v m;
+  outputs = outputs c v;
   composes-at = λ w m same. then-at (first c v w) (second c v w) (third c v w m same);
   composes = λ w m same. composes c v w m same;
   one-sw = λ sw w. one c v w (λ t. never (rw sw at (and-right (takesPerms c) (isWolff (c .form)) t))) (rw sw refl) (λ _. sw);
