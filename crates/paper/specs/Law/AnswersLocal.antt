@@ -139,20 +139,26 @@ module _ {c : Call} {p : Choices} {b : Buffers} {xs : List ℤ} (s : Instead c b
           final-local c xs (b .spins) alike p (b′ .labels) (b′ .greyLabels) i k hi hk (perms-at (b′ .labels) (w .seen .labels) i hi)
 
 -- whatever the other systems' rows are
-module _ (c : Call) (p : Choices) (b b′ : Buffers) (xs : List ℤ) (s : Instead c b xs) where
-  pub local : (a : Answer) → Accepted a → Answers c p b a b′ → (ys : List ℤ) → Rows c xs (b′ .spins) ys → Answers c p (withSpins b xs) a (withSpins b′ ys)
-  local Idle idle w ys r = let v = valid-of c p b (w .valid) in record {
-    valid = valid-kept c p (withSpins b xs) (valid-there s v);
-    none = λ i h. acts-same s v i h ∙ w .none i h;
-    still = spins-equal c ys xs (v .sound .ranged .lattice .n-low) (r .long) back (r .others);
-    seen = seen-there s v (w .seen) ys;
-  }
-    where
-      back : GroupIs c ys (pattern c xs)
-      back i k hi hk = r .group i hi k hk ∙ (ap (λ (z : List ℤ). pattern c z i k) (w .still) ∙ sym (s .same i hi k hk))
-  local Moved moved w ys r = let v = valid-of c p b (w .valid) in record {
-    valid = valid-kept c p (withSpins b xs) (valid-there s v);
-    some = some-back s v (w .some);
-    moved = moved-there s v w ys r;
-    seen = seen-there s v (w .seen) ys;
-  }
+module _
+    (c : Call) (p : Choices) (b b′ : Buffers) (xs : List ℤ) (long : length xs ≡ length (b .spins)) (spinning : Spins xs)
+    (same : (i : ℕ) → i < c .lattice .n → Agree (size c) (pattern c xs i) (pattern c (b .spins) i))
+  where
+    s : Instead c b xs
+    s = record { long = long; spinning = spinning; same = same }
+
+    pub local : (a : Answer) → Accepted a → Answers c p b a b′ → (ys : List ℤ) → Rows c xs (b′ .spins) ys → Answers c p (withSpins b xs) a (withSpins b′ ys)
+    local Idle idle w ys r = let v = valid-of c p b (w .valid) in record {
+      valid = valid-kept c p (withSpins b xs) (valid-there s v);
+      none = λ i h. acts-same s v i h ∙ w .none i h;
+      still = spins-equal c ys xs (v .sound .ranged .lattice .n-low) (r .long) back (r .others);
+      seen = seen-there s v (w .seen) ys;
+    }
+      where
+        back : GroupIs c ys (pattern c xs)
+        back i k hi hk = r .group i hi k hk ∙ (ap (λ (z : List ℤ). pattern c z i k) (w .still) ∙ sym (same i hi k hk))
+    local Moved moved w ys r = let v = valid-of c p b (w .valid) in record {
+      valid = valid-kept c p (withSpins b xs) (valid-there s v);
+      some = some-back s v (w .some);
+      moved = moved-there s v w ys r;
+      seen = seen-there s v (w .seen) ys;
+    }

@@ -4,7 +4,8 @@ use mathlib.Core.Path.{_≡_, refl, ap}
 use mathlib.Core.Bool.{Bool, true, false, _&&_}
 use native.Mathlib.Omega.{arith}
 use native.Mathlib.Decide.{ℕ-discrete}
-use borrow.Author.Tests.{eqb-true}
+use borrow.Author.Tests.{eqb-true, ltb-true}
+use lib.Dec.{ltb}
 use lib.IntN.{ℤ, pos, negsuc}
 use Rattle.paper.specs.Site.Acting.{eqZ}
 
@@ -42,3 +43,9 @@ every-is (suc m) f e k h = at (ℕ-discrete k m) (every-is m f (and-right (f m) 
     at : Dec (k ≡ m) → (k < m → f k ≡ true) → f k ≡ true
     at (yes q) ih = rw q (and-left (f m) (every m f) e)
     at (no q) ih = ih (omega arith)
+
+abbrev pub belowTest : ℕ → ℕ → (ℕ → ℕ) → Bool
+belowTest m s f = every m (λ k. ltb (f k) s)
+
+pub below-by : (m s : ℕ) (f : ℕ → ℕ) → belowTest m s f ≡ true → (k : ℕ) → k < m → f k < s
+below-by m s f e k h = ltb-true _ _ (every-is m (λ k. ltb (f k) s) e k h)

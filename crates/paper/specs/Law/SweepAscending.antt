@@ -150,8 +150,8 @@ done w b b′ k a xs ys spinning long long′ own acc ans stays = record {
   answer = a;
   spins = merged (taskCall w k) (b .spins) ys;
   answers =
-      local (taskCall w k) (taskChoices w k) (areas w b xs k) (areas w b′ ys k) (b .spins)
-      (record { long = long; spinning = spinning; same = own }) a acc ans (merged (taskCall w k) (b .spins) ys) rows;
+      local (taskCall w k) (taskChoices w k) (areas w b xs k) (areas w b′ ys k) (b .spins) long spinning own a acc ans
+      (merged (taskCall w k) (b .spins) ys) rows;
   rows = λ i x hi hx. stays i x hi hx ∙ sym (rows .group i hi x hx);
 }
   where

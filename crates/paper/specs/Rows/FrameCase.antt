@@ -1,8 +1,8 @@
 -- Row 13's text, by computing. Assumes nothing.
-use Prim.Native.Nat.{ℕ, _<_}
+use Prim.Native.Nat.{ℕ}
 use mathlib.Core.Path.{_≡_, refl}
 use mathlib.Core.Logic.{inr}
-use mathlib.Core.Bool.{true}
+use mathlib.Core.Bool.{Bool, true}
 use mathlib.Core.List.{List, [], _∷_, _++_}
 use native.Mathlib.Omega.{arith}
 use lib.ListN.{length, getD}
@@ -11,8 +11,7 @@ use Rattle.paper.specs.declared.Answer.the-variants.{Moved}
 use Rattle.paper.specs.Refusal.Kept.{Valid, valid-of}
 use Rattle.paper.specs.Answer.Task.{table}
 use Rattle.paper.specs.Answer.Frame.{Spelt, hex, unhex, firstLine, next, bytes, words, twoBytes, HasBack, FrameAnswers}
-use Rattle.paper.specs.Law.ByTest.{every}
-use Rattle.paper.specs.Law.Decided.{Decided, lt, all}
+use Rattle.paper.specs.Law.ByTest.{every, belowTest, below-by}
 use Rattle.paper.specs.Law.FrameKept.{frame-valid-kept}
 use Rattle.paper.specs.Demand3.Step.{Accepted.moved}
 use Rattle.paper.specs.Rows.Cases.{frame, framePerms, before13, after13, moved13, codes, caseText, caseOut}
@@ -30,11 +29,11 @@ caseBack = record {
 }
 
 -- a line by its bytes, each below 256
-abbrev small : (text : List ℕ) → Decided ((k : ℕ) → k < length (bytes text) → getD (bytes text) k 0 < 256)
-small text = all (length (bytes text)) (λ k. lt (getD (bytes text) k 0) 256)
+abbrev smallTest : List ℕ → Bool
+smallTest text = belowTest (length (bytes text)) 256 (λ k. getD (bytes text) k 0)
 
-spelt-by : (tag : ℕ) (text : List ℕ) → text ≡ hex (tag ∷ bytes text) ++ (10 ∷ next text) → small text .test ≡ true → Spelt tag text
-spelt-by tag text e h = record { is = e; small = small text .holds h }
+spelt-by : (tag : ℕ) (text : List ℕ) → text ≡ hex (tag ∷ bytes text) ++ (10 ∷ next text) → smallTest text ≡ true → Spelt tag text
+spelt-by tag text e h = record { is = e; small = below-by (length (bytes text)) 256 (λ k. getD (bytes text) k 0) h }
 
 pub whole-case : FrameAnswers caseText caseOut
 unfolding codes hex unhex firstLine next words twoBytes table every caseBack
