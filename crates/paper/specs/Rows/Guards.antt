@@ -3,15 +3,16 @@ use Prim.Native.Nat.{ℕ, _^_}
 use mathlib.Core.Path.{_≡_, refl}
 use mathlib.Core.Bool.{true, false}
 use mathlib.Core.List.{[], _∷_}
-use lib.IntN.{pos}
+use lib.IntN.{pos, negsuc}
 use lib.Ieee.{Float, nan, inf, binary32, round, mul, div, lt, le, ofInt}
 use Rattle.paper.specs.declared.BondKind.the-variants.{Red}
 use Rattle.paper.specs.Site.Acting.{sum}
 use Rattle.paper.specs.Site.Bonds.{whole, samplerOf, jorgHolds, greyHolds}
+use Rattle.paper.specs.Site.Energy.{energy}
 use Rattle.paper.specs.Move.Moving.{other, partner, permute}
 use Rattle.paper.specs.Refusal.Rules.{Warm, isCut}
 use Rattle.paper.specs.Law.ByTest.{never}
-use Rattle.paper.specs.Rows.Cases.{+, -, of, row}
+use Rattle.paper.specs.Rows.Cases.{+, -, of, row, line}
 
 -- the `f32` nearest to a / b
 abbrev ratio : ℕ → ℕ → Float
@@ -65,3 +66,14 @@ pub record Bonds : Type 0 where
 pub bonds : Bonds
 unfolding sum mul div lt ofInt
 bonds = record { one-end = refl; red-by-two = refl; rounded-first = refl }
+
+-- energies: a bond of a site to itself counts, and each of two bonds of one pair does
+pub record Energies : Type 0 where
+  pub itself : energy (line 1 1 (0 ∷ []) (0 ∷ []) (pos 5 ∷ [])) (- ∷ []) 0 ≡ negsuc 4
+  pub twice : energy (line 2 1 (1 ∷ 0 ∷ []) (1 ∷ 0 ∷ []) (pos 3 ∷ pos 4 ∷ [])) (+ ∷ - ∷ []) 0 ≡ pos 7
+  -- the second of two systems
+  pub second : energy (line 1 2 (0 ∷ []) (0 ∷ []) (pos 5 ∷ [])) (+ ∷ - ∷ []) 1 ≡ negsuc 4
+
+pub energies : Energies
+unfolding sum
+energies = record { itself = refl; twice = refl; second = refl }

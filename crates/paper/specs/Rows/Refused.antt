@@ -4,18 +4,19 @@ use mathlib.Core.Path.{refl}
 use mathlib.Core.Bool.{Bool, true, not, cond}
 use mathlib.Core.List.{List, [], _∷_}
 use lib.Dec.{eqb, ltb}
-use lib.IntN.{ℤ, pos}
+use lib.IntN.{ℤ, pos, negsuc}
 use lib.Ieee.{nan, div, le, ofInt}
 use Rattle.paper.specs.declared.Mode.the-variants.{Perm, Cmr}
 use Rattle.paper.specs.declared.Form.the-variants.{Wolff}
-use Rattle.paper.specs.Panel.Input.{Call, Choices, Buffers}
+use Rattle.paper.specs.Panel.Input.{Lattice, Call, Choices, Buffers}
 use Rattle.paper.specs.Site.Acting.{differs, acts}
 use Rattle.paper.specs.Site.Bonds.{whole}
 use Rattle.paper.specs.Refusal.Rule.{Kept, Broken}
 use Rattle.paper.specs.Refusal.Rules.{rules}
+use Rattle.paper.specs.Answer.Meter.{meterRules}
 use Rattle.paper.specs.Law.ByTest.{every}
 use Rattle.paper.specs.Law.Decided.{eq, all, any}
-use Rattle.paper.specs.Law.Verdicts.{refusalOf, accepted-by, refused-by}
+use Rattle.paper.specs.Law.Verdicts.{refusalOf, accepted-by, refused-by, meter-verdict}
 use Rattle.paper.specs.Rows.Cases.{+, -, line, first}
 
 -- a CMR Wolff move of two sites, which takes an input for each test. Where `ok j` is false it has the fault j: three systems (1), a short buffer of
@@ -117,4 +118,21 @@ seeds = record {
   idle = accepted-by (seeding 1) (permuting (1 ∷ 0 ∷ [])) (lent (+ ∷ + ∷ + ∷ + ∷ [])) refl;
   no-site = refused-by (seeding 2) (permuting (1 ∷ 0 ∷ [])) (lent (+ ∷ + ∷ + ∷ + ∷ [])) 9 refl;
   identity = refused-by (seeding 2) (permuting (0 ∷ 1 ∷ [])) (lent (+ ∷ + ∷ + ∷ + ∷ [])) 8 refl;
+}
+
+-- ---- the meter: a system that is not there goes before a coupling that is too large
+abbrev metered : List ℤ → Lattice
+metered couplings = line 1 2 (0 ∷ []) (0 ∷ []) couplings
+
+pub record Metered : Type 0 where
+  pub accepted : Kept (meterRules (metered (pos 1000000 ∷ [])) (+ ∷ - ∷ []) 1)
+  pub no-system : Broken (meterRules (metered (pos 1000001 ∷ [])) (+ ∷ - ∷ []) 2) 5
+  pub coupling : Broken (meterRules (metered (negsuc 1000000 ∷ [])) (+ ∷ - ∷ []) 1) 6
+
+pub metered-so : Metered
+unfolding every
+metered-so = record {
+  accepted = meter-verdict (metered (pos 1000000 ∷ [])) (+ ∷ - ∷ []) 1;
+  no-system = meter-verdict (metered (pos 1000001 ∷ [])) (+ ∷ - ∷ []) 2;
+  coupling = meter-verdict (metered (negsuc 1000000 ∷ [])) (+ ∷ - ∷ []) 1;
 }
