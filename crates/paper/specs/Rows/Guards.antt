@@ -2,17 +2,22 @@
 use Prim.Native.Nat.{ℕ, _^_}
 use mathlib.Core.Path.{_≡_, refl}
 use mathlib.Core.Bool.{true, false}
-use mathlib.Core.List.{[], _∷_}
+use mathlib.Core.List.{List, [], _∷_}
 use lib.IntN.{pos, negsuc}
 use lib.Ieee.{Float, nan, inf, binary32, round, mul, div, lt, le, ofInt}
+use Rattle.paper.specs.declared.Mode.the-variants.{Pair, Perm}
+use Rattle.paper.specs.declared.Form.the-variants.{Sw, Wolff}
 use Rattle.paper.specs.declared.BondKind.the-variants.{Red}
+use Rattle.paper.specs.Panel.Input.{Call, Choices}
 use Rattle.paper.specs.Site.Acting.{sum}
 use Rattle.paper.specs.Site.Bonds.{whole, samplerOf, jorgHolds, greyHolds}
 use Rattle.paper.specs.Site.Energy.{energy}
 use Rattle.paper.specs.Move.Moving.{other, partner, permute}
 use Rattle.paper.specs.Refusal.Rules.{Warm, isCut}
+use Rattle.paper.specs.Answer.Task.{table}
 use Rattle.paper.specs.Law.ByTest.{never}
-use Rattle.paper.specs.Rows.Cases.{+, -, of, row, line}
+use Rattle.paper.specs.Rows.Cases.{+, -, of, row, line, plain, first}
+use Rattle.paper.specs.Demand3.Statement.{composite, placeOf, inverse, identity}
 
 -- the `f32` nearest to a / b
 abbrev ratio : ℕ → ℕ → Float
@@ -77,3 +82,24 @@ pub record Energies : Type 0 where
 pub energies : Energies
 unfolding sum
 energies = record { itself = refl; twice = refl; second = refl }
+
+-- demand 3's choices as buffers: row 7's composite, an inverse and the identity, in the Wolff form with three systems; and flips of four sites in SW
+abbrev three : Call
+three = plain Perm Wolff (line 1 3 (0 ∷ []) (0 ∷ []) []) (first 3)
+
+abbrev four : Call
+four = plain Pair Sw (line 4 2 (0 ∷ 1 ∷ 2 ∷ 3 ∷ []) (0 ∷ 1 ∷ 2 ∷ 3 ∷ []) []) (first 2)
+
+abbrev choosing : List ℕ → List ℕ → Choices
+choosing flips perms = record { flips = flips; perms = perms; greys = [] }
+
+pub record ChoiceBuffers : Type 0 where
+  pub composed : composite three (choosing [] (1 ∷ 2 ∷ 0 ∷ [])) (choosing [] (1 ∷ 0 ∷ 2 ∷ [])) .perms ≡ 2 ∷ 1 ∷ 0 ∷ []
+  pub inverted : inverse three (choosing [] (1 ∷ 2 ∷ 0 ∷ [])) .perms ≡ 2 ∷ 0 ∷ 1 ∷ []
+  pub identical : identity three .perms ≡ 0 ∷ 1 ∷ 2 ∷ []
+  pub added : composite four (choosing (0 ∷ 0 ∷ 1 ∷ 1 ∷ []) []) (choosing (0 ∷ 1 ∷ 0 ∷ 1 ∷ []) []) .flips ≡ 0 ∷ 1 ∷ 1 ∷ 0 ∷ []
+  pub unflipped : identity four .flips ≡ 0 ∷ 0 ∷ 0 ∷ 0 ∷ []
+
+pub choice-buffers : ChoiceBuffers
+unfolding table placeOf
+choice-buffers = record { composed = refl; inverted = refl; identical = refl; added = refl; unflipped = refl }
