@@ -1,0 +1,109 @@
+use borrow.Author.Needs.{needs}
+use mathlib.Core.Path.{_≡_}
+use denote.Ref.{now}
+use Rattle.paper.specs.Panel.Input.{Call, Choices, Buffers}
+use Rattle.paper.specs.Refusal.Rule.{Kept, Broken}
+use Rattle.paper.specs.Refusal.Rules.{choiceRules}
+use Rattle.paper.specs.Refusal.Verdict.{Verdict}
+use Rattle.moves.specs.Task.{callOf, choicesOf, buffersOf}
+use Rattle.checks.specs.Choices.{tested-of}
+use Rattle.steps.specs.Step.{verdict-kept, verdict-broken, soundRules, sound-of, valid-by, refused-panel, refused-choices}
+use Rattle.steps.proofs.overlap_step.Statement.{statement}
+use Rattle.steps.proofs.overlap_step.Tie as tie
+
+abbrev S : tie.After-test-panel → tie.Start
+S k = k .before .before .before .before .before .before .before .before .before .before .before .before
+
+abbrev callAt : tie.Start → Call
+callAt b =
+    let a = b .args in
+    callOf (a .mode) (a .form) (a .n) (a .d) (a .s) (now (a .fwd)) (now (a .bwd)) (now (a .couplings)) (a .group) (a .temperature) (now (a .cuts)) (a .reference) (a .seed)
+
+abbrev choicesAt : tie.Start → Choices
+choicesAt b = choicesOf (now (b .args .flips)) (now (b .args .perms)) (now (b .args .greys))
+
+abbrev lentAt : tie.Start → Buffers
+lentAt b = let a = b .args in buffersOf (now (a .spins)) (now (a .labels)) (now (a .grey-labels)) (now (a .counts)) (now (a .sizes))
+
+-- past the first test
+sound : (e : tie.Else1) → let b = S (e .before) in Kept (soundRules (callAt b) (choicesAt b) (lentAt b))
+sound e =
+    let b = S (e .before) in
+    verdict-kept (soundRules (callAt b) (choicesAt b) (lentAt b)) (e .before .test-panel .result) (e .if1 .left) (e .before .test-panel .ensures)
+
+verdict : (k : tie.After-test-choices) → let b = S (k .before .before .before) in Verdict (choiceRules (callAt b) (choicesAt b) (now (b .args .spins))) (k .test-choices .result)
+verdict k =
+    let a = S (k .before .before .before) .args in
+    k .test-choices .ensures (a .d) (a .s) (now (a .fwd)) (now (a .bwd)) (now (a .couplings)) (a .temperature)
+
+test-panel-requires : tie.Need-test-panel-requires
+test-panel-requires c κs = search needs
+
+same-length : tie.Need-same-length
+same-length c = search needs
+
+returns : tie.Need-returns
+returns c =
+    let b = S (c .before) in
+    refused-panel (callAt b) (choicesAt b) (lentAt b) (c .before .test-panel .result)
+    (verdict-broken (soundRules (callAt b) (choicesAt b) (lentAt b)) (c .before .test-panel .result) (c .if1 .taken) (c .before .test-panel .ensures))
+
+test-choices-requires : tie.Need-test-choices-requires
+test-choices-requires c κs =
+    let e = c .before in
+    let b = S (e .before) in
+    tested-of (callAt b) (choicesAt b) (lentAt b) (sound-of (callAt b) (choicesAt b) (lentAt b) (sound e))
+
+same-length-2 : tie.Need-same-length-2
+same-length-2 c = search needs
+
+returns-2 : tie.Need-returns-2
+returns-2 c =
+    let e = c .before .before .before in
+    let b = S (e .before) in
+    let a = b .args in
+    refused-choices (callAt b) (choicesAt b) (lentAt b) (c .before .test-choices .result) (sound e)
+    (verdict-broken (choiceRules (callAt b) (choicesAt b) (now (a .spins))) (c .before .test-choices .result) (c .if2 .taken) (verdict (c .before)))
+
+run-task-requires : tie.Need-run-task-requires
+run-task-requires c κs =
+    let m = c .before .before .before .before .before in
+    let b = S (m .before .before .before .before) in
+    valid-by (callAt b) (choicesAt b) (lentAt b) (sound (m .before .before .before))
+    (verdict-kept (choiceRules (callAt b) (choicesAt b) (now (b .args .spins))) (m .before .test-choices .result) (m .if2 .left) (verdict (m .before)))
+
+same-length-3 : tie.Need-same-length-3
+same-length-3 c = search needs
+
+same-length-4 : tie.Need-same-length-4
+same-length-4 c = search needs
+
+same-length-5 : tie.Need-same-length-5
+same-length-5 c = search needs
+
+same-length-6 : tie.Need-same-length-6
+same-length-6 c = search needs
+
+same-length-7 : tie.Need-same-length-7
+same-length-7 c = search needs
+
+returns-3 : tie.Need-returns-3
+returns-3 c = c .before .before .before .before .before .before .before .before .before .run-task .ensures
+
+pub overlap-step-spec : {M : Type 1} → statement M
+overlap-step-spec =
+    tie.close
+    (tie.spec
+    test-panel-requires
+    same-length
+    returns
+    test-choices-requires
+    same-length-2
+    returns-2
+    run-task-requires
+    same-length-3
+    same-length-4
+    same-length-5
+    same-length-6
+    same-length-7
+    returns-3)

@@ -1,0 +1,8 @@
+-- A move's promise allows one answer and one content of every buffer. Assumes nothing.
+use Rattle.paper.specs.declared.Answer.{Answer}
+use Rattle.paper.specs.Panel.Input.{Call, Choices, Buffers}
+use Rattle.paper.specs.Answer.Move.{Answers}
+use Rattle.paper.specs.Law.Determined.{Same, determined}
+
+pub overlap-step-determined : (c : Call) (p : Choices) (b y z : Buffers) (a a′ : Answer) → Answers c p b a y → Answers c p b a′ z → Same a y a′ z
+overlap-step-determined = determined

@@ -1,0 +1,55 @@
+-- From the verdicts of the tests to a move's answer. Assumes nothing.
+use Prim.Native.Nat.{ℕ, zero, suc}
+use mathlib.Core.Path.{_≡_, refl}
+use mathlib.Core.List.{List, _++_}
+use native.Mathlib.Omega.{arith}
+use lib.ListN.{length}
+use lib.IntN.{ℤ}
+use lib.Ieee.{Float}
+use Rattle.paper.specs.declared.Group.{Group}
+use Rattle.paper.specs.declared.Mode.{Mode}
+use Rattle.paper.specs.declared.Form.{Form}
+use Rattle.paper.specs.declared.Lengths.{Lengths}
+use Rattle.paper.specs.declared.Answer.the-variants.{Refused}
+use Rattle.paper.specs.Panel.Input.{Call, Choices, Buffers}
+use Rattle.paper.specs.Refusal.Rule.{Rule, Kept, Broken}
+use Rattle.paper.specs.Refusal.Rules.{lengthsOf, choiceRules, rules}
+use Rattle.paper.specs.Refusal.Kept.{Sound, Valid, fit-of}
+use Rattle.paper.specs.Refusal.Verdict.{Verdict, broken-first, broken-later}
+use Rattle.paper.specs.Answer.Move.{Answers}
+use Rattle.checks.specs.Panel.{panelRules}
+
+pub verdict-kept : (rs : List Rule) (r : ℕ) → r ≡ 0 → Verdict rs r → Kept rs
+verdict-kept rs zero e v = v
+verdict-kept rs (suc r) e v = absurd (omega arith)
+
+pub verdict-broken : (rs : List Rule) (r : ℕ) → (r ≡ 0 → ⊥) → Verdict rs r → Broken rs r
+verdict-broken rs zero e v = absurd (e refl)
+verdict-broken rs (suc r) e v = v
+
+-- tests 1 to 7 of a call
+abbrev pub soundRules : Call → Choices → Buffers → List Rule
+soundRules c p b =
+    panelRules (c .mode) (c .form) (c .lattice .n) (c .lattice .d) (c .lattice .s) (b .spins) (c .lattice .fwd) (c .lattice .bwd) (c .lattice .couplings) (c .group)
+    (c .temperature) (lengthsOf c p b)
+
+pub sound-of : (c : Call) (p : Choices) (b : Buffers) → Kept (soundRules c p b) → Sound c p b
+sound-of c p b k = record {
+  ranged = k .0;
+  exact = k .1 .0;
+  spins = k .1 .1 .0;
+  inverse = k .1 .1 .1 .0;
+  grouped = k .1 .1 .1 .1 .0;
+  couplings = k .1 .1 .1 .1 .1 .0;
+  warm = k .1 .1 .1 .1 .1 .1 .0;
+}
+
+pub valid-by : (c : Call) (p : Choices) (b : Buffers) → Kept (soundRules c p b) → Kept (choiceRules c p (b .spins)) → Valid c p b
+valid-by c p b k q = record { sound = sound-of c p b k; fit = fit-of c p (b .spins) q }
+
+-- a refusal by the one and by the other
+pub refused-panel : (c : Call) (p : Choices) (b : Buffers) (r : ℕ) → Broken (soundRules c p b) r → Answers c p b (Refused r) b
+refused-panel c p b r w = record { why = broken-first (soundRules c p b) (choiceRules c p (b .spins)) r w; kept = refl }
+
+pub refused-choices : (c : Call) (p : Choices) (b : Buffers) (r : ℕ) → Kept (soundRules c p b) → Broken (choiceRules c p (b .spins)) r → Answers c p b (Refused r) b
+refused-choices c p b r k w = record { why = broken-later (soundRules c p b) (choiceRules c p (b .spins)) r k w; kept = refl }
