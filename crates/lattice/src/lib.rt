@@ -104,7 +104,7 @@ fn site_ok(n: usize, d: usize, a: &[u32], b: &[u32], i: usize) -> bool
     ok
 }
 
-// Where backward of forward is i for every site i, forward of backward is too: see inverse-of in specs/Tables.antt.
+// Both senses, as the paper asks, in one pass over the sites.
 pub fn tables_ok(n: usize, d: usize, fwd: &[u32], bwd: &[u32]) -> bool
     requires { ⌜ Tabled n d (now fwd) (now bwd) ⌝ }
     ensures { λ r. ⌜ Tells r (Inverse n d (now (fwd .entry)) (now (bwd .entry))) ⌝ }
@@ -112,7 +112,7 @@ pub fn tables_ok(n: usize, d: usize, fwd: &[u32], bwd: &[u32]) -> bool
     let mut ok = true;
     let mut i = 0;
     while i < n {
-        ok = ok & site_ok(n, d, fwd, bwd, i);
+        ok = ok & (site_ok(n, d, fwd, bwd, i) & site_ok(n, d, bwd, fwd, i));
         i += 1;
     }
     ok
