@@ -1,0 +1,98 @@
+-- A sweep's numbers, and one task's share of its inputs. Assumes nothing.
+use Prim.Native.Nat.{ℕ, zero, suc, min, _+_, _-_, _*_, _/_, _%_, _≤_, _<_}
+use mathlib.Core.Path.{_≡_}
+use mathlib.Core.Bool.{Bool}
+use mathlib.Core.List.{List, []}
+use native.Mathlib.Omega.{arith}
+use native.Mathlib.Nat.{mul-le-mul-left, mul-le-mul-right, suc-mul, div-add-mod', mod-lt, div-le-self, div-lt-iff-lt-mul, le-div-iff-mul-le}
+use lib.ListN.{length, getD}
+use lib.IntN.{ℤ}
+use lib.Ieee.{Float}
+use Rattle.paper.specs.declared.Group.{Group}
+use Rattle.paper.specs.Panel.Input.{Lattice}
+use Rattle.paper.specs.Refusal.Rules.{Ranged}
+use Rattle.paper.specs.Answer.Task.{Sweep, groups, tasks, orderAt, masked, groupOf}
+use Rattle.tasks.specs.declared.Plan.{Plan}
+
+-- a part's number and its elements, few enough for their product
+pub record Few (k m : ℕ) : Type 0 where
+  pub number : k ≤ 64
+  pub elements : m ≤ 32768
+
+pub record Bounding (len k m start end : ℕ) : Type 0 where
+  pub starts : start ≡ min (k * m) len
+  pub ends : end ≡ min (k * m + m) len
+
+-- the paper's sweep
+abbrev pub sweepOf : Plan → List ℕ → List ℕ → List ℤ → List ℕ → List ℕ → List Float → List Float → List ℕ → List ℕ → List ℕ → List ℕ → List ℕ → Sweep
+sweepOf q fwd bwd couplings order masks temperatures cuts references seeds flips perms greys = record {
+  mode = q .mode;
+  form = q .form;
+  lattice = record { n = q .n; d = q .d; s = q .s; fwd = fwd; bwd = bwd; couplings = couplings };
+  t = q .t;
+  r = q .r;
+  members = q .members;
+  order = order;
+  masks = masks;
+  temperatures = temperatures;
+  cuts = cuts;
+  references = references;
+  seeds = seeds;
+  flips = flips;
+  perms = perms;
+  greys = greys;
+}
+
+-- where only the order or the masks are looked at
+abbrev pub ordered : Plan → List ℕ → List ℕ → Sweep
+ordered q order masks = sweepOf q [] [] [] order masks [] [] [] [] [] [] []
+
+abbrev pub groupAt : Plan → List ℕ → ℕ → Group
+groupAt q order k = groupOf (ordered q order []) k
+
+abbrev pub maskedAt : Plan → List ℕ → ℕ → Bool
+maskedAt q masks k = masked (ordered q [] masks) k
+
+abbrev pub tasksOf : Plan → ℕ
+tasksOf q = tasks (ordered q [] [])
+
+-- test 1 is kept
+pub record Planned (q : Plan) : Type 0 where
+  pub ranged : Ranged (q .n) (q .d) (q .s) (q .mode) (q .members)
+  pub all : q .t * q .r ≡ q .s
+  pub enough : q .members ≤ q .r
+
+-- the task k is one of the plan's, and the order is of all systems
+pub record Placing (q : Plan) (k : ℕ) (order : List ℕ) : Type 0 where
+  pub planned : Planned q
+  pub below : k < tasksOf q
+  pub long : length order ≡ q .s
+
+module _ (q : Plan) (h : Planned q) where
+  pub some-members : 0 < q .members
+  some-members = omega (arith, h .ranged .size-low)
+
+  pub some-groups : 0 < q .r / q .members
+  some-groups = le-div-iff-mul-le some-members .1 (omega (arith, h .enough))
+
+  some-t : 0 < q .t
+  some-t = go (q .t) (h .all)
+    where
+      go : (t : ℕ) → t * q .r ≡ q .s → 0 < t
+      go zero e = absurd (omega (arith, h .ranged .lattice .s-low))
+      go (suc t) e = omega arith
+
+  pub small-r : q .r ≤ 64
+  small-r = let l : 1 ≤ q .t = some-t in omega (arith, mul-le-mul-right (q .r) l, h .all, h .ranged .lattice .s-high)
+
+  -- no more tasks than systems
+  pub few-tasks : tasksOf q ≤ 64
+  few-tasks = omega (arith, mul-le-mul-left (q .t) (div-le-self (q .r) (q .members)), h .all, h .ranged .lattice .s-high)
+
+  module _ (k : ℕ) (below : k < tasksOf q) where
+    pub temperature-lt : k / (q .r / q .members) < q .t
+    temperature-lt = div-lt-iff-lt-mul some-groups .1 below
+
+    -- the order entry of the task's place x
+    pub entry-lt : (x : ℕ) → x < q .members → k / (q .r / q .members) * q .r + (k % (q .r / q .members)) * q .members + x < q .s
+    entry-lt x l = omega (arith, mul-le-mul-right (q .r) temperature-lt, suc-mul (k / (q .r / q .members)) (q .r), mul-le-mul-right (q .members) (mod-lt k some-groups), suc-mul (k % (q .r / q .members)) (q .members), div-add-mod' (q .r) (q .members), h .all)

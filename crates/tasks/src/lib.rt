@@ -1,0 +1,128 @@
+// What of a sweep's inputs is one task's: its group, its number at a temperature, its parts of the lent buffers.
+use paper::Form;
+use paper::Group;
+use paper::Mode;
+ghost use mathlib.Core.Path.{_≡_};
+ghost use Prim.Native.Nat.{min, _+_, _*_, _/_};
+ghost use lib.ListN.{getD};
+ghost use lib.Ieee.{nan};
+ghost use Rattle.paper.specs.Answer.Task.{part};
+ghost use Rattle.tasks.specs.Plan.{Few, Planned, Placing, Bounding, tasksOf, groupAt, maskedAt};
+
+// The numbers of a sweep.
+pub struct Plan {
+    pub mode: Mode,
+    pub form: Form,
+    pub n: usize,
+    pub d: usize,
+    pub s: usize,
+    pub t: usize,
+    pub r: usize,
+    pub members: usize,
+}
+
+// Where a part stands in a buffer.
+pub struct Span {
+    pub start: usize,
+    pub end: usize,
+}
+
+fn least(a: usize, b: usize) -> usize
+    ensures { λ r. ⌜ r ≡ min a b ⌝ }
+{
+    if a < b { a } else { b }
+}
+
+// The part k of those with m elements each; what lies past the end is cut off.
+pub fn bounds(len: usize, k: usize, m: usize) -> Span
+    requires { ⌜ Few k m ⌝ }
+    ensures { λ r. ⌜ Bounding len k m (r .start) (r .end) ⌝ }
+{
+    let a = k * m;
+    Span {
+        start: least(a, len),
+        end: least(a + m, len),
+    }
+}
+
+pub fn part_u8(xs: &[u8], k: usize, m: usize) -> &[u8]
+    requires { ⌜ Few k m ⌝ }
+    ensures { λ r. ⌜ now r ≡ part k m (now (xs .entry)) ⌝ }
+{
+    let b = bounds(xs.len(), k, m);
+    let a = b.start;
+    let e = b.end;
+    &xs[a..e]
+}
+
+pub fn part_f32(xs: &[f32], k: usize, m: usize) -> &[f32]
+    requires { ⌜ Few k m ⌝ }
+    ensures { λ r. ⌜ now r ≡ part k m (now (xs .entry)) ⌝ }
+{
+    let b = bounds(xs.len(), k, m);
+    let a = b.start;
+    let e = b.end;
+    &xs[a..e]
+}
+
+fn wide(x: u32) -> usize
+    ensures { λ r. ⌜ r ≡ x ⌝ }
+{
+    x as usize
+}
+
+// An entry that the mode does not take may be missing.
+pub fn word_at(xs: &[u32], k: usize) -> usize
+    ensures { λ r. ⌜ r ≡ getD (now (xs .entry)) k 0 ⌝ }
+{
+    if k < xs.len() { wide(xs[k]) } else { 0 }
+}
+
+pub fn float_at(xs: &[f32], k: usize) -> f32
+    ensures { λ r. ⌜ r ≡ getD (now (xs .entry)) k nan ⌝ }
+{
+    if k < xs.len() { xs[k] } else { 0.0 / 0.0 }
+}
+
+pub fn task_count(plan: Plan) -> usize
+    requires { ⌜ Planned plan ⌝ }
+    ensures { λ r. ⌜ r ≡ tasksOf plan ⌝ }
+{
+    plan.t * (plan.r / plan.members)
+}
+
+pub fn temperature_of(plan: Plan, k: usize) -> usize
+    requires { ⌜ Planned plan ⌝ }
+    ensures { λ r. ⌜ r ≡ k / (plan .r / plan .members) ⌝ }
+{
+    let groups = plan.r / plan.members;
+    k / groups
+}
+
+pub fn masked(plan: Plan, masks: &[u8], k: usize) -> bool
+    requires { ⌜ Planned plan ⌝ }
+    ensures { λ r. ⌜ r ≡ maskedAt plan (now (masks .entry)) k ⌝ }
+{
+    let j = temperature_of(plan, k);
+    if j < masks.len() { masks[j] == 1 } else { false }
+}
+
+// The task's run of order entries.
+pub fn task_group(plan: Plan, order: &[u32], k: usize) -> Group
+    requires { ⌜ Placing plan k (now order) ⌝ }
+    ensures { λ r. ⌜ r ≡ groupAt plan (now (order .entry)) k ⌝ }
+{
+    let members = plan.members;
+    let groups = plan.r / members;
+    let base = (k / groups) * plan.r + (k % groups) * members;
+    let mut systems = [0usize; 8];
+    let mut x: usize = 0;
+    while x < members {
+        systems[x] = wide(order[base + x]);
+        x += 1;
+    }
+    Group {
+        len: members,
+        systems,
+    }
+}
