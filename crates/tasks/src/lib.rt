@@ -104,7 +104,11 @@ pub fn masked(plan: Plan, masks: &[u8], k: usize) -> bool
     ensures { λ r. ⌜ r ≡ maskedAt plan (now (masks .entry)) k ⌝ }
 {
     let j = temperature_of(plan, k);
-    if j < masks.len() { masks[j] == 1 } else { false }
+    if j < masks.len() {
+        masks[j] == 1
+    } else {
+        false
+    }
 }
 
 // The task's run of order entries.

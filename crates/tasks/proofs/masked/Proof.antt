@@ -1,25 +1,29 @@
 use borrow.Author.Needs.{needs}
+use Prim.Native.Nat.{ℕ, _≤_}
+use mathlib.Core.Path.{_≡_, refl, sym, ap}
+use mathlib.Core.Bool.{Bool, false}
+use mathlib.Core.List.{List}
+use denote.Ref.{now}
+use lib.Dec.{eqb}
+use lib.ListN.{length, getD, List·getD-eq-default}
 use Rattle.tasks.proofs.masked.Statement.{statement}
 use Rattle.tasks.proofs.masked.Tie as tie
-use Rattle.tasks.proofs.masked.Reads as reads
-use Rattle.tasks.proofs.masked.Lts as lts
-use Rattle.tasks.proofs.temperature_of.Reads as temperature-of-reads
 
--- src/lib.rt:106:9
+-- a byte that is missing does not mask
+missing : (xs : List ℕ) (j : ℕ) → length xs ≤ j → false ≡ eqb (getD xs j 0) 1
+missing xs j h = rw (List·getD-eq-default xs 0 {n = j} h) refl
+
 temperature-of-requires : tie.Need-temperature-of-requires
 temperature-of-requires c κs = search needs
 
--- src/lib.rt:107:26
 shared-slice-read-result : tie.Need-shared-slice-read-result
 shared-slice-read-result c = search needs
 
--- src/lib.rt:102:1
 returns : tie.Need-returns
-returns c = search needs
+returns c = let t = c .before .before in ap (λ (j : ℕ). eqb (getD (now (t .before .before .args .masks)) j 0) 1) (t .temperature-of .ensures)
 
--- src/lib.rt:102:1
 returns-2 : tie.Need-returns-2
-returns-2 c = search needs
+returns-2 c = let t = c .before in missing (now (t .before .before .args .masks)) _ (rw (t .temperature-of .ensures) at (c .if1 .left))
 
 pub masked-spec : {M : Type 1} → statement M
 masked-spec =

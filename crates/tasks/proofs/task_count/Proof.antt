@@ -1,18 +1,15 @@
 use borrow.Author.Needs.{needs}
+use native.Mathlib.Omega.{arith}
+use Rattle.tasks.specs.Plan.{some-members, few-tasks}
 use Rattle.tasks.proofs.task_count.Statement.{statement}
 use Rattle.tasks.proofs.task_count.Tie as tie
-use Rattle.tasks.proofs.task_count.Reads as reads
-use Rattle.tasks.proofs.task_count.Lts as lts
 
--- src/lib.rt:91:15
 div-result : tie.Need-div-result
-div-result c = search needs
+div-result c = let s = c .before in some-members (s .args .plan) (s .pre)
 
--- src/lib.rt:91:5
 mul-result : tie.Need-mul-result
-mul-result c = search needs
+mul-result c = let s = c .before .before in omega (arith, few-tasks (s .args .plan) (s .pre))
 
--- src/lib.rt:87:1
 returns : tie.Need-returns
 returns c = search needs
 

@@ -1,83 +1,95 @@
+-- `task_group` meets its contract. The invariant: the systems of the first x places are read. Assumes nothing.
 use borrow.Author.Needs.{needs}
+use Prim.Native.Nat.{ℕ, _+_, _-_, _*_, _/_, _%_, _≤_, _<_}
+use mathlib.Core.Path.{_≡_, refl, ap}
+use mathlib.Core.List.{List}
+use native.Mathlib.Omega.{arith}
+use native.Mathlib.Nat.{le-antisymm}
+use denote.Ref.{now}
+use lib.ListN.{getD}
+use Rattle.paper.specs.declared.Group.{Group}
+use Rattle.paper.specs.Answer.Task.{table}
+use Rattle.tasks.specs.Plan.{some-members, some-groups, entry-lt}
+use Rattle.tasks.proofs.Filling.{Filled, fill-start, fill-more, fill-done}
 use Rattle.tasks.proofs.task_group.Statement.{statement}
 use Rattle.tasks.proofs.task_group.Tie as tie
-use Rattle.tasks.proofs.task_group.Reads as reads
-use Rattle.tasks.proofs.task_group.Lts as lts
-use Rattle.tasks.proofs.wide.Reads as wide-reads
 
 abbrev Inv-loop : tie.InvT-loop
-Inv-loop order k members groups base systems₀ x₀ systems x = ?
+Inv-loop order k members groups base systems₀ x₀ systems x = (x ≤ members) × Filled (λ y. getD order (base + y) 0) x systems
 
 abbrev μ-loop : tie.MeasureT-loop
-μ-loop order k members groups base systems₀ x₀ systems x = ?
+μ-loop order k members groups base systems₀ x₀ systems x = members - x
 
--- src/lib.rt:116:18
+abbrev group : ℕ → List ℕ → Group
+group m z = record { len = m; systems = z }
+
+abbrev S : tie.In-loop Inv-loop μ-loop → tie.Start Inv-loop μ-loop
+S l = l .before .before .before .before .before
+
+-- the order entries that a turn reads are there
+entry : (s : tie.Start Inv-loop μ-loop) (x : ℕ) → x < s .args .plan .members → let q = s .args .plan in s .args .k / (q .r / q .members) * q .r + (s .args .k % (q .r / q .members)) * q .members + x < q .s
+entry s x l = entry-lt (s .args .plan) (s .pre .planned) (s .args .k) (s .pre .below) x l
+
+first : (s : tie.Start Inv-loop μ-loop) → let q = s .args .plan in s .args .k / (q .r / q .members) * q .r + (s .args .k % (q .r / q .members)) * q .members < 64
+first s = omega (arith, entry s 0 (some-members (s .args .plan) (s .pre .planned)), s .pre .planned .ranged .lattice .s-high)
+
 div-groups : tie.Need-div-groups Inv-loop μ-loop
-div-groups c = search needs
+div-groups c = let s = c .before .before in some-members (s .args .plan) (s .pre .planned)
 
--- src/lib.rt:117:17
 div-base : tie.Need-div-base Inv-loop μ-loop
-div-base c = search needs
+div-base c = let s = c .before .before in some-groups (s .args .plan) (s .pre .planned)
 
--- src/lib.rt:117:16
 mul-base : tie.Need-mul-base Inv-loop μ-loop
-mul-base c = search needs
+mul-base c = omega (arith, first (c .before .before .before))
 
--- src/lib.rt:117:41
 rem-base : tie.Need-rem-base Inv-loop μ-loop
-rem-base c = search needs
+rem-base c = let s = c .before .before .before in some-groups (s .args .plan) (s .pre .planned)
 
--- src/lib.rt:117:40
 mul-base-2 : tie.Need-mul-base-2 Inv-loop μ-loop
-mul-base-2 c = search needs
+mul-base-2 c = omega (arith, first (c .before .before .before))
 
--- src/lib.rt:117:16
 add-base : tie.Need-add-base Inv-loop μ-loop
-add-base c = search needs
+add-base c = omega (arith, first (c .before .before .before))
 
--- src/lib.rt:120:5
 loop-holds : tie.Need-loop-holds Inv-loop μ-loop
-loop-holds c = search needs
+unfolding table
+loop-holds c = (search needs, fill-start _)
 
--- src/lib.rt:121:33
 add-wide : tie.Need-add-wide Inv-loop μ-loop
-add-wide c = search needs
+add-wide c = omega (arith, entry (S c) (c .before .loop .x) (c .loop-test .taken), S c .pre .planned .ranged .lattice .s-high)
 
--- src/lib.rt:121:27
 mul-wide : tie.Need-mul-wide Inv-loop μ-loop
-mul-wide c = search needs
+mul-wide c = omega (arith, entry (S c) (c .before .loop .x) (c .loop-test .taken), S c .pre .planned .ranged .lattice .s-high)
 
--- src/lib.rt:121:27
 shared-slice-read-wide : tie.Need-shared-slice-read-wide Inv-loop μ-loop
-shared-slice-read-wide c = search needs
+shared-slice-read-wide c = let l = c .before in omega (arith, entry (S l) (l .before .loop .x) (l .loop-test .taken), S l .pre .long)
 
--- src/lib.rt:121:22
 wide-requires : tie.Need-wide-requires Inv-loop μ-loop
 wide-requires c κs = search needs
 
--- src/lib.rt:121:9
+below : (l : tie.In-loop Inv-loop μ-loop) → l .before .loop .x < 8
+below l = omega (arith, l .loop-test .taken, S l .pre .planned .ranged .size-high)
+
 mul-systems : tie.Need-mul-systems Inv-loop μ-loop
-mul-systems c = search needs
+mul-systems c = omega (arith, below (c .before .before))
 
--- src/lib.rt:121:9
 array-write-systems : tie.Need-array-write-systems Inv-loop μ-loop
-array-write-systems c = search needs
+array-write-systems c = below (c .before .before)
 
--- src/lib.rt:122:9
 add-x : tie.Need-add-x Inv-loop μ-loop
-add-x c = search needs
+add-x c = omega (arith, below (c .before .before))
 
--- src/lib.rt:120:5
 loop-less : tie.Need-loop-less Inv-loop μ-loop
 loop-less c = search needs
 
--- src/lib.rt:120:5
 loop-again : tie.Need-loop-again Inv-loop μ-loop
-loop-again c = search needs
+loop-again c = let l = c .before .before in (omega (arith, l .loop-test .taken), fill-more (c .wide .result) (l .before .loop .inv .1) (below l) (c .wide .ensures))
 
--- src/lib.rt:111:1
 returns : tie.Need-returns Inv-loop μ-loop
-returns c = search needs
+returns c =
+    let m = c .before .before .before .before .before .args .plan .members in
+    let e : c .before .loop .x ≡ m = le-antisymm (c .before .loop .inv .0) (c .loop-test .left) in
+    ap (λ (z : List ℕ). group m z) (rw e at (fill-done (c .before .loop .inv .1)))
 
 pub task-group-spec : {M : Type 1} → statement M
 task-group-spec =

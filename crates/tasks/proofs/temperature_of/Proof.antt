@@ -1,18 +1,14 @@
 use borrow.Author.Needs.{needs}
+use Rattle.tasks.specs.Plan.{some-members, some-groups}
 use Rattle.tasks.proofs.temperature_of.Statement.{statement}
 use Rattle.tasks.proofs.temperature_of.Tie as tie
-use Rattle.tasks.proofs.temperature_of.Reads as reads
-use Rattle.tasks.proofs.temperature_of.Lts as lts
 
--- src/lib.rt:98:18
 div-groups : tie.Need-div-groups
-div-groups c = search needs
+div-groups c = let s = c .before in some-members (s .args .plan) (s .pre)
 
--- src/lib.rt:99:5
 div-result : tie.Need-div-result
-div-result c = search needs
+div-result c = let s = c .before in some-groups (s .args .plan) (s .pre)
 
--- src/lib.rt:94:1
 returns : tie.Need-returns
 returns c = search needs
 

@@ -1,0 +1,43 @@
+-- Each function has one result. Assumes nothing.
+use Prim.Native.Nat.{ℕ, _/_}
+use mathlib.Core.Path.{_≡_, ap, _∙_}
+use mathlib.Core.Bool.{Bool}
+use mathlib.Core.List.{List}
+use lib.ListN.{getD}
+use lib.Ieee.{Float, nan}
+use Rattle.paper.specs.declared.Group.{Group}
+use Rattle.paper.specs.Answer.Task.{part}
+use Rattle.paper.specs.Law.TypesDetermined.{one-value}
+use Rattle.tasks.specs.declared.Plan.{Plan}
+use Rattle.tasks.specs.declared.Span.{Span}
+use Rattle.tasks.specs.Plan.{Bounding, tasksOf, groupAt, maskedAt}
+
+abbrev span : ℕ → ℕ → Span
+span a e = record { start = a; end = e }
+
+pub bounds-determined : (len k m : ℕ) (x y : Span) → Bounding len k m (x .start) (x .end) → Bounding len k m (y .start) (y .end) → x ≡ y
+bounds-determined len k m x y p q = ap (λ (a : ℕ). span a (x .end)) (one-value (p .starts) (q .starts)) ∙ ap (λ (e : ℕ). span (y .start) e) (one-value (p .ends) (q .ends))
+
+pub part-u8-determined : (xs : List ℕ) (k m : ℕ) (x y : List ℕ) → x ≡ part k m xs → y ≡ part k m xs → x ≡ y
+part-u8-determined xs k m x y = one-value
+
+pub part-f32-determined : (xs : List Float) (k m : ℕ) (x y : List Float) → x ≡ part k m xs → y ≡ part k m xs → x ≡ y
+part-f32-determined xs k m x y = one-value
+
+pub word-at-determined : (xs : List ℕ) (k x y : ℕ) → x ≡ getD xs k 0 → y ≡ getD xs k 0 → x ≡ y
+word-at-determined xs k x y = one-value
+
+pub float-at-determined : (xs : List Float) (k : ℕ) (x y : Float) → x ≡ getD xs k nan → y ≡ getD xs k nan → x ≡ y
+float-at-determined xs k x y = one-value
+
+pub task-count-determined : (q : Plan) (x y : ℕ) → x ≡ tasksOf q → y ≡ tasksOf q → x ≡ y
+task-count-determined q x y = one-value
+
+pub temperature-of-determined : (q : Plan) (k x y : ℕ) → x ≡ k / (q .r / q .members) → y ≡ k / (q .r / q .members) → x ≡ y
+temperature-of-determined q k x y = one-value
+
+pub masked-determined : (q : Plan) (masks : List ℕ) (k : ℕ) (x y : Bool) → x ≡ maskedAt q masks k → y ≡ maskedAt q masks k → x ≡ y
+masked-determined q masks k x y = one-value
+
+pub task-group-determined : (q : Plan) (order : List ℕ) (k : ℕ) (x y : Group) → x ≡ groupAt q order k → y ≡ groupAt q order k → x ≡ y
+task-group-determined q order k x y = one-value
