@@ -1,0 +1,237 @@
+-- Tasks in ascending order: what holds once the first K have run, and what one more does to it. Assumes nothing.
+use Prim.Native.Nat.{ℕ, zero, suc, _+_, _*_, _<_, _≤_}
+use mathlib.Core.Path.{_≡_, refl, sym, _∙_, ap}
+use mathlib.Core.Logic.{_⊎_, inl, inr, _≢_}
+use mathlib.Core.Bool.{Bool, true, false, not, _&&_}
+use mathlib.Core.List.{List}
+use native.Mathlib.Omega.{arith}
+use native.Mathlib.Numerals.{add-one}
+use native.Mathlib.Decide.{ℕ-discrete}
+use lib.ListN.{length}
+use lib.IntN.{ℤ}
+use Rattle.paper.specs.declared.Answer.{Answer}
+use Rattle.paper.specs.declared.Answer.the-variants.{Refused, Idle, Moved}
+use Rattle.paper.specs.Panel.Input.{Call, Choices, Buffers, pattern, spin, size, system}
+use Rattle.paper.specs.Panel.Takes.{takesGreys}
+use Rattle.paper.specs.Component.Sizes.{bit, countWhere}
+use Rattle.paper.specs.Refusal.Rule.{Kept}
+use Rattle.paper.specs.Refusal.Rules.{Spins, rules}
+use Rattle.paper.specs.Refusal.Kept.{Valid, valid-of, valid-kept}
+use Rattle.paper.specs.Answer.Move.{Answers}
+use Rattle.paper.specs.Answer.Task.{Sweep, tasks, masked, taskCall, taskChoices, areas, idleTask}
+use Rattle.paper.specs.Answer.Sweep.{common, sweepRules, Done, SameLengths, Sweeps}
+use Rattle.paper.specs.Law.Determined.{determined, must-accept}
+use Rattle.paper.specs.Law.Sanity.{others-kept}
+use Rattle.paper.specs.Law.Local.{Agree}
+use Rattle.paper.specs.Law.AnswersLocal.{Rows, withSpins, local}
+use Rattle.paper.specs.Law.SweepTasks.{task-valid}
+use Rattle.paper.specs.Law.SweepAscending.{tasks-apart, done}
+use Rattle.paper.specs.Law.SweepCounts.{SaysIdle, counted-as}
+use Rattle.paper.specs.Demand3.Step.{Accepted, Accepted.idle, Accepted.moved}
+use Rattle.sweep.specs.Spinning.{spins-after, length-after, valid-there}
+
+-- ---- the two counts of the first K tasks
+abbrev pub isIdle : Sweep → List ℤ → ℕ → Bool
+isIdle w xs k = not (masked w k) && idleTask w xs k
+
+abbrev pub isMoved : Sweep → List ℤ → ℕ → Bool
+isMoved w xs k = not (masked w k) && not (idleTask w xs k)
+
+-- what one answer adds to them
+abbrev pub idleBy : Answer → ℕ
+idleBy (Refused r) = 0
+idleBy Idle = 1
+idleBy Moved = 0
+
+abbrev pub movedBy : Answer → ℕ
+movedBy (Refused r) = 0
+movedBy Idle = 0
+movedBy Moved = 1
+
+-- the system t is in the group of no unmasked task below K
+abbrev pub UnmovedTo : Sweep → ℕ → ℕ → Type 0
+UnmovedTo w K t = (k x : ℕ) → k < K → masked w k ≡ false → x < w .members → t ≢ system (taskCall w k) x
+
+-- b before the sweep, b′ when the first K tasks have run
+pub record Ran (w : Sweep) (b : Buffers) (K idle moved : ℕ) (b′ : Buffers) : Type 0 where
+  pub reached : K ≤ tasks w
+  pub idles : idle ≡ countWhere (isIdle w (b .spins)) K
+  pub moveds : moved ≡ countWhere (isMoved w (b .spins)) K
+  pub lengths : SameLengths b b′
+  pub spins : Spins (b′ .spins)
+  pub each : (k : ℕ) → k < K → masked w k ≡ false → Done w b b′ k
+  pub still : (k : ℕ) → k < tasks w → (masked w k ≡ true) ⊎ (K ≤ k) → areas w b′ (b .spins) k ≡ areas w b (b .spins) k
+  pub others : (i t : ℕ) → i < w .lattice .n → UnmovedTo w K t → spin (w .lattice .n) (b′ .spins) t i ≡ spin (w .lattice .n) (b .spins) t i
+  pub grey-kept : takesGreys (common w) ≡ false → b′ .greyLabels ≡ b .greyLabels
+
+-- the task K alone changed b to b′ and answered a
+pub record Steps (w : Sweep) (K : ℕ) (b : Buffers) (a : Answer) (b′ : Buffers) : Type 0 where
+  pub answers : Answers (taskCall w K) (taskChoices w K) (areas w b (b .spins) K) a (areas w b′ (b′ .spins) K)
+  pub lengths : SameLengths b b′
+  pub apart : (k : ℕ) → k ≢ K → areas w b′ (b .spins) k ≡ areas w b (b .spins) k
+  pub grey-kept : takesGreys (common w) ≡ false → b′ .greyLabels ≡ b .greyLabels
+
+-- areas do not depend on the spins beside them
+respun : (w : Sweep) (b b′ : Buffers) (xs ys : List ℤ) (k : ℕ) → areas w b′ xs k ≡ areas w b xs k → areas w b′ ys k ≡ areas w b ys k
+respun w b b′ xs ys k e = ap (λ (z : Buffers). withSpins z ys) e
+
+same-lengths : (b : Buffers) → SameLengths b b
+same-lengths b = record { spins = refl; labels = refl; counts = refl; sizes = refl; grey-labels = refl }
+
+then-lengths : {a b c : Buffers} → SameLengths a b → SameLengths b c → SameLengths a c
+then-lengths p q = record {
+  spins = q .spins ∙ p .spins;
+  labels = q .labels ∙ p .labels;
+  counts = q .counts ∙ p .counts;
+  sizes = q .sizes ∙ p .sizes;
+  grey-labels = q .grey-labels ∙ p .grey-labels;
+}
+
+count-start : (f : ℕ → Bool) → 0 ≡ countWhere f 0
+unfolding countWhere
+count-start f = refl
+
+count-more : (f : ℕ → Bool) (K m n : ℕ) → m ≡ countWhere f K → n ≡ m + bit (f K) → n ≡ countWhere f (K + 1)
+unfolding countWhere
+count-more f K m n e q = rw add-one (rw e at q)
+
+accept : (c : Call) (p : Choices) (b b′ : Buffers) (a : Answer) → Kept (rules c p b) → Answers c p b a b′ → Accepted a
+accept c p b b′ (Refused r) v q = absurd (must-accept c p b b′ r q v)
+accept c p b b′ Idle v q = idle
+accept c p b b′ Moved v q = moved
+
+module _ (w : Sweep) (b : Buffers) (v : Kept (sweepRules w b)) where
+  pub ran-none : Ran w b 0 0 0 b
+  ran-none = record {
+    reached = omega arith;
+    idles = count-start _;
+    moveds = count-start _;
+    lengths = same-lengths b;
+    spins = v .1 .1 .0;
+    each = λ k l e. absurd (omega arith);
+    still = λ k l q. refl;
+    others = λ i t l o. refl;
+    grey-kept = λ e. refl;
+  }
+
+  pub ran-all : (ni nm : ℕ) (b′ : Buffers) → Ran w b (tasks w) ni nm b′ → Sweeps w b ni nm b′
+  ran-all ni nm b′ h = record {
+    valid = v;
+    idles = h .idles;
+    moveds = h .moveds;
+    lengths = h .lengths;
+    each = h .each;
+    skipped = λ k l e. h .still k l (inl e);
+    others = h .others;
+    grey-kept = h .grey-kept;
+  }
+
+  module _ (K ni nm : ℕ) (b′ : Buffers) (below : K < tasks w) (h : Ran w b K ni nm b′) where
+    -- masked or still to come, also before this task
+    weaker : (k : ℕ) → (masked w k ≡ true) ⊎ (K + 1 ≤ k) → (masked w k ≡ true) ⊎ (K ≤ k)
+    weaker k (inl q) = inl q
+    weaker k (inr q) = inr (omega arith)
+
+    pub ran-masked : masked w K ≡ true → Ran w b (K + 1) ni nm b′
+    ran-masked e = record {
+      reached = omega arith;
+      idles = count-more (isIdle w (b .spins)) K ni ni (h .idles) (rw e (omega arith));
+      moveds = count-more (isMoved w (b .spins)) K nm nm (h .moveds) (rw e (omega arith));
+      lengths = h .lengths;
+      spins = h .spins;
+      each = λ k l q. before k l q (ℕ-discrete k K);
+      still = λ k l q. h .still k l (weaker k q);
+      others = λ i t l o. h .others i t l (λ k x q. o k x (omega arith));
+      grey-kept = h .grey-kept;
+    }
+      where
+        before : (k : ℕ) → k < K + 1 → masked w k ≡ false → Dec (k ≡ K) → Done w b b′ k
+        before k l q (yes r) = absurd (let z : _≡_ {A = ℕ} 0 1 = cc (q, e, r) in omega arith)
+        before k l q (no r) = h .each k (omega arith) q
+
+    -- a task that has not run meets its rows as they were before the sweep
+    own-rows : (i : ℕ) → i < w .lattice .n → Agree (w .members) (pattern (taskCall w K) (b′ .spins) i) (pattern (taskCall w K) (b .spins) i)
+    own-rows i hi x hx = h .others i (system (taskCall w K) x) hi (λ k y l q hy e. let z = tasks-apart w b v K k x y below (omega arith) hx hy e in omega (arith, z))
+
+    own-areas : areas w b′ (b′ .spins) K ≡ withSpins (areas w b (b .spins) K) (b′ .spins)
+    own-areas = respun w b b′ (b .spins) (b′ .spins) K (h .still K below (inr (omega arith)))
+
+    -- so it is accepted
+    pub ran-valid : masked w K ≡ false → Valid (taskCall w K) (taskChoices w K) (areas w b′ (b′ .spins) K)
+    ran-valid e =
+        rw own-areas
+        (valid-there (taskCall w K) (taskChoices w K) (areas w b (b .spins) K) (b′ .spins) (h .lengths .spins) (h .spins) own-rows (valid-of (taskCall w K) (taskChoices w K) (areas w b (b .spins) K) (task-valid w b v K below e)))
+
+    module _ (e : masked w K ≡ false) (a : Answer) (b″ : Buffers) (s : Steps w K b′ a b″) where
+      accepted : Accepted a
+      accepted = accept (taskCall w K) (taskChoices w K) (areas w b′ (b′ .spins) K) (areas w b″ (b″ .spins) K) a (valid-kept (taskCall w K) (taskChoices w K) (areas w b′ (b′ .spins) K) (ran-valid e)) (s .answers)
+
+      -- the other systems' rows
+      out : (i t : ℕ) → i < w .lattice .n → ((x : ℕ) → x < w .members → t ≢ system (taskCall w K) x) → spin (w .lattice .n) (b″ .spins) t i ≡ spin (w .lattice .n) (b′ .spins) t i
+      out = others-kept (taskCall w K) (taskChoices w K) (areas w b′ (b′ .spins) K) (areas w b″ (b″ .spins) K) a (s .answers)
+
+      done-now : Done w b b″ K
+      done-now =
+          done w b b″ K a (b′ .spins) (b″ .spins) (v .1 .1 .0) (sym (h .lengths .spins)) (s .lengths .spins)
+          (λ i hi x hx. sym (own-rows i hi x hx)) accepted (rw own-areas at (s .answers)) (λ i x hi hx. refl)
+
+      done-before : (k : ℕ) → k < K → masked w k ≡ false → Done w b b″ k
+      done-before k l q =
+          let d = h .each k l q in
+          record {
+            answer = d .answer;
+            spins = d .spins;
+            answers = rw (respun w b′ b″ (b′ .spins) (d .spins) k (s .apart k (λ z. omega (arith, z)))) (d .answers);
+            rows = λ i x hi hx. out i (system (taskCall w k) x) hi (λ y hy z. let r = tasks-apart w b v k K x y (omega arith) below hx hy z in omega (arith, r)) ∙ d .rows i x hi hx;
+          }
+
+      -- alone on the spins before the sweep it would answer the same
+      same-answer : done-now .answer ≡ a
+      same-answer =
+          determined (taskCall w K) (taskChoices w K) (areas w b (b′ .spins) K) (areas w b″ (b″ .spins) K) (areas w b″ (b″ .spins) K) (d .answer) a
+          (local (taskCall w K) (taskChoices w K) (areas w b (b .spins) K) (areas w b″ (d .spins) K) (b′ .spins) (h .lengths .spins) (h .spins) own-rows (d .answer) acc (d .answers) (b″ .spins) there)
+          (rw own-areas at (s .answers))
+          .answer
+        where
+          d : Done w b b″ K
+          d = done-now
+
+          acc : Accepted (d .answer)
+          acc = accept (taskCall w K) (taskChoices w K) (areas w b (b .spins) K) (areas w b″ (d .spins) K) (d .answer) (task-valid w b v K below e) (d .answers)
+
+          there : Rows (taskCall w K) (b′ .spins) (d .spins) (b″ .spins)
+          there = record { long = s .lengths .spins; group = λ i hi x hx. d .rows i x hi hx; others = out }
+
+      counted : SaysIdle a (idleTask w (b .spins) K)
+      counted = rw same-answer at (counted-as w b b″ v K below e done-now)
+
+      idle-more : (a : Answer) → SaysIdle a (idleTask w (b .spins) K) → ni + idleBy a ≡ ni + bit (isIdle w (b .spins) K)
+      idle-more (Refused r) q = absurd q
+      idle-more Idle q = rw (e, q) refl
+      idle-more Moved q = rw (e, q) refl
+
+      moved-more : (a : Answer) → SaysIdle a (idleTask w (b .spins) K) → nm + movedBy a ≡ nm + bit (isMoved w (b .spins) K)
+      moved-more (Refused r) q = absurd q
+      moved-more Idle q = rw (e, q) refl
+      moved-more Moved q = rw (e, q) refl
+
+      pub ran-more : Ran w b (K + 1) (ni + idleBy a) (nm + movedBy a) b″
+      ran-more = record {
+        reached = omega arith;
+        idles = count-more (isIdle w (b .spins)) K ni (ni + idleBy a) (h .idles) (idle-more a counted);
+        moveds = count-more (isMoved w (b .spins)) K nm (nm + movedBy a) (h .moveds) (moved-more a counted);
+        lengths = then-lengths (h .lengths) (s .lengths);
+        spins = spins-after (taskCall w K) (taskChoices w K) (areas w b′ (b′ .spins) K) (areas w b″ (b″ .spins) K) a accepted (s .answers);
+        each = λ k l q. at k l q (ℕ-discrete k K);
+        still = λ k l q. respun w b′ b″ (b′ .spins) (b .spins) k (s .apart k (ahead k q)) ∙ h .still k l (weaker k q);
+        others = λ i t l o. out i t l (λ x q. o K x (omega arith) e q) ∙ h .others i t l (λ k x q. o k x (omega arith));
+        grey-kept = λ q. s .grey-kept q ∙ h .grey-kept q;
+      }
+        where
+          at : (k : ℕ) → k < K + 1 → masked w k ≡ false → Dec (k ≡ K) → Done w b b″ k
+          at k l q (yes r) = rw r done-now
+          at k l q (no r) = done-before k (omega arith) q
+
+          ahead : (k : ℕ) → (masked w k ≡ true) ⊎ (K + 1 ≤ k) → k ≢ K
+          ahead k (inl q) r = let z : _≡_ {A = ℕ} 0 1 = cc (q, e, r) in omega arith
+          ahead k (inr q) r = omega arith

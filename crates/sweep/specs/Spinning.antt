@@ -1,0 +1,119 @@
+-- A task keeps every spin +1 or -1, and what was accepted on the spins before the sweep is accepted on any with the same rows. Assumes nothing.
+use Prim.Native.Nat.{ℕ, _+_, _*_, _/_, _%_, _<_, _≤_}
+use mathlib.Core.Path.{_≡_, refl, sym, _∙_, ap}
+use mathlib.Core.Logic.{_⊎_, inl, inr, _≢_}
+use mathlib.Core.Bool.{Bool, true, false, cond, _&&_}
+use mathlib.Core.List.{List}
+use native.Mathlib.Omega.{arith}
+use native.Mathlib.Nat.{div-add-mod', mod-lt}
+use lib.ListN.{length, getD}
+use lib.IntN.{ℤ}
+use Rattle.paper.specs.declared.Answer.{Answer}
+use Rattle.paper.specs.declared.Answer.the-variants.{Refused, Idle, Moved}
+use Rattle.paper.specs.Panel.Input.{graph, Call, Choices, Buffers, pattern, spin, size, system}
+use Rattle.paper.specs.Panel.Takes.{moves, takesGreys}
+use Rattle.paper.specs.Site.Acting.{SomeActs}
+use Rattle.paper.specs.Site.Bonds.{holds}
+use Rattle.paper.specs.Component.Sizes.{labelOf}
+use Rattle.paper.specs.Move.Moving.{greyBit, greyAt, flipSome, reached, after, final}
+use Rattle.paper.specs.Refusal.Rule.{Kept}
+use Rattle.paper.specs.Refusal.Rules.{Spin, Spins, Exact, Seeded, rules}
+use Rattle.paper.specs.Refusal.Kept.{Sound, Fit, Valid, valid-of}
+use Rattle.paper.specs.Answer.Move.{Answers, Goes}
+use Rattle.paper.specs.Law.Patterns.{flip-spin}
+use Rattle.paper.specs.Law.Unique.{Placed, place, label-lt}
+use Rattle.paper.specs.Law.Local.{Agree, Alike, acts-local}
+use Rattle.paper.specs.Law.AnswersLocal.{withSpins}
+use Rattle.paper.specs.Demand3.Step.{Accepted, Accepted.idle, Accepted.moved, rows}
+use Rattle.moves.specs.Ready.{ReadyFor, ready}
+use Rattle.moves.specs.Moved.{Rows, after-spin}
+
+-- ---- every spin is +1 or -1 after a task
+module _ (c : Call) (p : Choices) (b b′ : Buffers) (w : Goes c p b b′) where
+  after-is : (i k : ℕ) → i < c .lattice .n → k < size c → Spin (after c p (b .spins) (b′ .labels) i k)
+  after-is i k hi hk = after-spin c p (b .spins) (b′ .labels) (ready c p b (v .sound)) (v .fit .chosen .reference) perms i hi k hk
+    where
+      v : Valid c p b
+      v = valid-of c p b (w .valid)
+
+      perms : moves (c .form) ≡ true → Rows c p (b′ .labels)
+      perms e q i hi = rows c p b (w .valid) (rw (e, q)) (labelOf (b′ .labels) i) (label-lt (graph c) (holds c (b .spins)) (b′ .labels) (w .seen .labels) i hi)
+
+  final-is : (i k : ℕ) → i < c .lattice .n → k < size c → Spin (final c p (b .spins) (b′ .labels) (b′ .greyLabels) i k)
+  unfolding final
+  final-is i k hi hk = go (takesGreys c && reached c (b .spins) (b′ .greyLabels) i)
+    where
+      flips : ℕ → Bool
+      flips = greyBit (greyAt (c .form) (p .greys) (labelOf (b′ .greyLabels) i))
+
+      go : (t : Bool) → Spin (cond t (flipSome flips (after c p (b .spins) (b′ .labels) i) k) (after c p (b .spins) (b′ .labels) i k))
+      go true = flip-spin (flips k) (after c p (b .spins) (b′ .labels) i k) (after-is i k hi hk)
+      go false = after-is i k hi hk
+
+  moved-spins : Spins (b′ .spins)
+  moved-spins x l = rw (← div-add-mod' x n) (at (x / n) (x % n) (mod-lt x (w .valid .0 .lattice .n-low)) (rw (div-add-mod' x n) (omega (arith, w .moved .long))) (place (size c) (system c) (x / n)))
+    where
+      n : ℕ
+      n = c .lattice .n
+
+      at : (t i : ℕ) → i < n → t * n + i < length (b .spins) → Placed (size c) (system c) t ⊎ ((k : ℕ) → k < size c → t ≢ system c k) → Spin (spin n (b′ .spins) t i)
+      at t i hi q (inl r) = rw (r .2, w .moved .group i (r .0) hi (r .1)) (final-is i (r .0) hi (r .1))
+      at t i hi q (inr r) = rw (w .moved .others i t hi r) (w .valid .1 .1 .0 (t * n + i) q)
+
+pub spins-after : (c : Call) (p : Choices) (b b′ : Buffers) (a : Answer) → Accepted a → Answers c p b a b′ → Spins (b′ .spins)
+spins-after c p b b′ Idle idle w = rw (w .still) (w .valid .1 .1 .0)
+spins-after c p b b′ Moved moved w = moved-spins c p b b′ w
+
+pub length-after : (c : Call) (p : Choices) (b b′ : Buffers) (a : Answer) → Answers c p b a b′ → length (b′ .spins) ≡ length (b .spins)
+length-after c p b b′ (Refused r) w = ap (λ (z : Buffers). length (z .spins)) (w .kept)
+length-after c p b b′ Idle w = ap length (w .still)
+length-after c p b b′ Moved w = w .moved .long
+
+-- ---- other rows than the group's do not matter
+module _ (c : Call) (p : Choices) (b : Buffers) (xs : List ℤ) (long : length xs ≡ length (b .spins)) (spinning : Spins xs) (same : (i : ℕ) → i < c .lattice .n → Agree (size c) (pattern c xs i) (pattern c (b .spins) i)) where
+  alike : Valid c p b → Alike c xs (b .spins)
+  alike v = record {
+    patterns = same;
+    reference = v .fit .chosen .reference;
+    inside = λ i e hi he. v .sound .inverse .there i e hi he .inside;
+    some = omega (arith, v .sound .ranged .size-low);
+    two = v .sound .ranged .cmr-two;
+  }
+
+  exact-there : Exact c p b → Exact c p (withSpins b xs)
+  exact-there e = record {
+    spins = long ∙ e .spins;
+    fwd = e .fwd;
+    bwd = e .bwd;
+    couplings = e .couplings;
+    cuts = e .cuts;
+    flips = e .flips;
+    perms = e .perms;
+    greys = e .greys;
+    labels = e .labels;
+    grey-labels = e .grey-labels;
+    counts = e .counts;
+    sizes = e .sizes;
+  }
+
+  seeded-there : Valid c p b → Seeded c xs
+  seeded-there v =
+      let s = v .fit .seeded in
+      record {
+        below = s .below;
+        acting = λ t q. acts-local c xs (b .spins) (alike v) (c .seed) (s .below t) ∙ s .acting t (record { site = q .site; below = q .below; does = sym (acts-local c xs (b .spins) (alike v) (q .site) (q .below)) ∙ q .does });
+      }
+
+  pub valid-there : Valid c p b → Valid c p (withSpins b xs)
+  valid-there v = record {
+    sound = record {
+      ranged = v .sound .ranged;
+      exact = exact-there (v .sound .exact);
+      spins = spinning;
+      inverse = v .sound .inverse;
+      grouped = v .sound .grouped;
+      couplings = v .sound .couplings;
+      warm = v .sound .warm;
+    };
+    fit = record { cuts = v .fit .cuts; chosen = v .fit .chosen; seeded = seeded-there v };
+  }
