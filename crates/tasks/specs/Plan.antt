@@ -9,7 +9,10 @@ use lib.ListN.{length, getD}
 use lib.IntN.{ℤ}
 use lib.Ieee.{Float}
 use Rattle.paper.specs.declared.Group.{Group}
+use Rattle.paper.specs.declared.Form.{Form}
+use Rattle.paper.specs.declared.Form.the-variants.{Sw, Wolff, Observe}
 use Rattle.paper.specs.Panel.Input.{Lattice}
+use Rattle.paper.specs.Panel.Takes.{entries}
 use Rattle.paper.specs.Refusal.Rules.{Ranged}
 use Rattle.paper.specs.Answer.Task.{Sweep, groups, tasks, orderAt, masked, groupOf}
 use Rattle.tasks.specs.declared.Plan.{Plan}
@@ -82,8 +85,11 @@ module _ (q : Plan) (h : Planned q) where
       go zero e = absurd (omega (arith, h .ranged .lattice .s-low))
       go (suc t) e = omega arith
 
-  pub small-r : q .r ≤ 64
-  small-r = let l : 1 ≤ q .t = some-t in omega (arith, mul-le-mul-right (q .r) l, h .all, h .ranged .lattice .s-high)
+  pub r-fits : q .r ≤ q .s
+  r-fits = let l : 1 ≤ q .t = some-t in omega (arith, mul-le-mul-right (q .r) l, h .all)
+
+  pub t-fits : q .t ≤ q .s
+  t-fits = let l : 1 ≤ q .r = omega (arith, h .enough, some-members) in omega (arith, mul-le-mul-left (q .t) l, h .all)
 
   -- no more tasks than systems
   pub few-tasks : tasksOf q ≤ 64
@@ -96,3 +102,11 @@ module _ (q : Plan) (h : Planned q) where
     -- the order entry of the task's place x
     pub entry-lt : (x : ℕ) → x < q .members → k / (q .r / q .members) * q .r + (k % (q .r / q .members)) * q .members + x < q .s
     entry-lt x l = omega (arith, mul-le-mul-right (q .r) temperature-lt, suc-mul (k / (q .r / q .members)) (q .r), mul-le-mul-right (q .members) (mod-lt k some-groups), suc-mul (k % (q .r / q .members)) (q .members), div-add-mod' (q .r) (q .members), h .all)
+
+  pub few-rows : entries (q .form) (q .n) ≤ 4096
+  few-rows = go (q .form)
+    where
+      go : (f : Form) → entries f (q .n) ≤ 4096
+      go Sw = h .ranged .lattice .n-high
+      go Wolff = omega arith
+      go Observe = omega arith

@@ -6,6 +6,7 @@ ghost use mathlib.Core.Path.{_≡_};
 ghost use Prim.Native.Nat.{min, _+_, _*_, _/_};
 ghost use lib.ListN.{getD};
 ghost use lib.Ieee.{nan};
+ghost use Rattle.paper.specs.Panel.Takes.{entries};
 ghost use Rattle.paper.specs.Answer.Task.{part};
 ghost use Rattle.tasks.specs.Plan.{Few, Planned, Placing, Bounding, tasksOf, groupAt, maskedAt};
 
@@ -128,5 +129,16 @@ pub fn task_group(plan: Plan, order: &[u32], k: usize) -> Group
     Group {
         len: members,
         systems,
+    }
+}
+
+// How many entries a task's buffer of choices has.
+pub fn entries_of(form: Form, n: usize) -> usize
+    ensures { λ r. ⌜ r ≡ entries form n ⌝ }
+{
+    match form {
+        Form::Sw => n,
+        Form::Wolff => 1,
+        Form::Observe => 0,
     }
 }
