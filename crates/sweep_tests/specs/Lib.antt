@@ -1,2 +1,3 @@
 pub mod Lengths
 pub mod First
+pub mod Determined

@@ -3,16 +3,14 @@ use paper::Form;
 use paper::Mode;
 use tasks::Plan;
 ghost use mathlib.Core.Path.{_≡_};
-ghost use Prim.Native.Nat.{ℕ, _≤_, _<_};
-ghost use lib.ListN.{length, getD};
-ghost use lib.Ieee.{nan};
+ghost use lib.ListN.{length};
 ghost use Rattle.paper.specs.Component.Marks.{Tells};
 ghost use Rattle.paper.specs.Panel.Takes.{flipsBy, permsBy, greysBy};
-ghost use Rattle.paper.specs.Refusal.Rules.{When, SmallCouplings, Warm};
+ghost use Rattle.paper.specs.Refusal.Rules.{When, SmallCouplings};
 ghost use Rattle.paper.specs.Refusal.Verdict.{Verdict};
 ghost use Rattle.tasks.specs.Plan.{Planned};
-ghost use Rattle.sweep_tests.specs.Lengths.{Always, Drawn, Chosen, Fitting, Measured};
-ghost use Rattle.sweep_tests.specs.First.{sizeRules, panelRules, heatRules, firstRules};
+ghost use Rattle.sweep_tests.specs.Lengths.{Always, Drawn, Chosen, Measured, PanelLong, HeatLong};
+ghost use Rattle.sweep_tests.specs.First.{AllWarm, sizeRules, panelRules, heatRules, firstRules};
 
 // How many elements each buffer has that a sweep may be lent.
 pub struct SweepLengths {
@@ -106,7 +104,9 @@ fn drawn_ok(plan: Plan, l: SweepLengths) -> bool
     let count = tasks::task_count(plan);
     let drawn = mode.is_drawn();
     let bonds = n * d;
-    fits(drawn, l.couplings, bonds) & fits(drawn, l.temperatures, plan.t) & fits(drawn, l.cuts, count * bonds)
+    fits(drawn, l.couplings, bonds)
+        & fits(drawn, l.temperatures, plan.t)
+        & fits(drawn, l.cuts, count * bonds)
 }
 
 fn chosen_ok(plan: Plan, l: SweepLengths) -> bool
@@ -139,4 +139,84 @@ fn test_sizes(plan: Plan, l: SweepLengths) -> u8
     } else {
         2
     }
+}
+
+fn test_panel(plan: Plan, spins: &[i8], fwd: &[u32], bwd: &[u32], order: &[u32]) -> u8
+    requires { ⌜ PanelLong plan (now fwd) (now bwd) (now order) ⌝ }
+    ensures { λ r. ⌜ Verdict (panelRules plan (now (spins .entry)) (now (fwd .entry)) (now (bwd .entry)) (now (order .entry))) r ⌝ }
+{
+    if !lattice::spins_ok(spins) {
+        return 3;
+    }
+    if !lattice::tables_ok(plan.n, plan.d, fwd, bwd) {
+        return 4;
+    }
+    if lattice::order_ok(plan.s, order) {
+        0
+    } else {
+        5
+    }
+}
+
+fn couplings_ok(taken: bool, couplings: &[i32]) -> bool
+    ensures { λ r. ⌜ Tells r (When taken (SmallCouplings (now (couplings .entry)))) ⌝ }
+{
+    if taken {
+        return lattice::couplings_ok(couplings);
+    }
+    true
+}
+
+fn temperatures_ok(taken: bool, temperatures: &[f32]) -> bool
+    ensures { λ r. ⌜ Tells r (When taken (AllWarm (length (now (temperatures .entry))) (now (temperatures .entry)))) ⌝ }
+{
+    if taken {
+        return lattice::temperatures_ok(temperatures);
+    }
+    true
+}
+
+fn test_heat(plan: Plan, couplings: &[i32], temperatures: &[f32], masks: &[u8]) -> u8
+    requires { ⌜ HeatLong plan (now temperatures) (now masks) ⌝ }
+    ensures { λ r. ⌜ Verdict (heatRules plan (now (couplings .entry)) (now (temperatures .entry)) (now (masks .entry))) r ⌝ }
+{
+    let mode = plan.mode;
+    let drawn = mode.is_drawn();
+    if !couplings_ok(drawn, couplings) {
+        return 6;
+    }
+    if !temperatures_ok(drawn, temperatures) {
+        return 7;
+    }
+    if lattice::bytes_at_most(masks, 1) {
+        0
+    } else {
+        9
+    }
+}
+
+// Tests 1 to 7 and the mask bytes: the number of the first that fails, or 0.
+pub fn test_sweep(
+    plan: Plan,
+    spins: &[i8],
+    fwd: &[u32],
+    bwd: &[u32],
+    couplings: &[i32],
+    order: &[u32],
+    masks: &[u8],
+    temperatures: &[f32],
+    l: SweepLengths,
+) -> u8
+    requires { ⌜ Measured (now fwd) (now bwd) (now order) (now masks) (now temperatures) l ⌝ }
+    ensures { λ r. ⌜ Verdict (firstRules plan (now (spins .entry)) (now (fwd .entry)) (now (bwd .entry)) (now (couplings .entry)) (now (order .entry)) (now (masks .entry)) (now (temperatures .entry)) l) r ⌝ }
+{
+    let sizes = test_sizes(plan, l);
+    if sizes != 0 {
+        return sizes;
+    }
+    let panel = test_panel(plan, spins, fwd, bwd, order);
+    if panel != 0 {
+        return panel;
+    }
+    test_heat(plan, couplings, temperatures, masks)
 }

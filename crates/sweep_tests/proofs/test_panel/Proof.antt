@@ -1,0 +1,41 @@
+use borrow.Author.Needs.{needs}
+use mathlib.Core.Path.{refl}
+use mathlib.Core.Logic.{inl, inr}
+use denote.Ref.{now}
+use Rattle.paper.specs.Component.Marks.{told, denied, passed, refused}
+use Rattle.paper.specs.Refusal.Rules.{Spins, Inverse}
+use Rattle.sweep_tests.proofs.test_panel.Statement.{statement}
+use Rattle.sweep_tests.proofs.test_panel.Tie as tie
+
+abbrev S : tie.Else1 → tie.Start
+S e = e .before .before .before .before .before
+
+k3 : (e : tie.Else1) → Spins (now (S e .args .spins))
+k3 e = passed (e .before .spins-ok .result) (e .if1 .left) (e .before .spins-ok .ensures)
+
+k4 : (e : tie.Else2) → let a = S (e .before .before) .args in Inverse (a .plan .n) (a .plan .d) (now (a .fwd)) (now (a .bwd))
+k4 e = passed (e .before .tables-ok .result) (e .if2 .left) (e .before .tables-ok .ensures)
+
+spins-ok-requires : tie.Need-spins-ok-requires
+spins-ok-requires c κs = search needs
+
+returns : tie.Need-returns
+returns c = inl (refused (c .before .spins-ok .result) (c .if1 .taken) (c .before .spins-ok .ensures), refl)
+
+tables-ok-requires : tie.Need-tables-ok-requires
+tables-ok-requires c κs = record { fwd-long = S c .pre .fwd-long; bwd-long = S c .pre .bwd-long }
+
+returns-2 : tie.Need-returns-2
+returns-2 c = inr (k3 (c .before .before), inl (refused (c .before .tables-ok .result) (c .if2 .taken) (c .before .tables-ok .ensures), refl))
+
+order-ok-requires : tie.Need-order-ok-requires
+order-ok-requires c κs = let s = S (c .before .before) in record { long = s .pre .order-long; few = s .pre .few }
+
+returns-3 : tie.Need-returns-3
+returns-3 c = let e = c .before .before in (k3 (e .before .before), (k4 e, (told (c .if3 .taken) (c .before .order-ok .ensures), tt)))
+
+returns-4 : tie.Need-returns-4
+returns-4 c = let e = c .before .before in inr (k3 (e .before .before), inr (k4 e, inl (denied (c .if3 .left) (c .before .order-ok .ensures), refl)))
+
+pub test-panel-spec : {M : Type 1} → statement M
+test-panel-spec = tie.close (tie.spec spins-ok-requires returns tables-ok-requires returns-2 order-ok-requires returns-3 returns-4)
