@@ -1,5 +1,5 @@
 -- Each function has one result. Assumes nothing.
-use Prim.Native.Nat.{ℕ, _/_}
+use Prim.Native.Nat.{ℕ, _*_, _/_}
 use mathlib.Core.Path.{_≡_, ap, _∙_}
 use mathlib.Core.Bool.{Bool}
 use mathlib.Core.List.{List}
@@ -20,11 +20,18 @@ span a e = record { start = a; end = e }
 pub bounds-determined : (len k m : ℕ) (x y : Span) → Bounding len k m (x .start) (x .end) → Bounding len k m (y .start) (y .end) → x ≡ y
 bounds-determined len k m x y p q = ap (λ (a : ℕ). span a (x .end)) (one-value (p .starts) (q .starts)) ∙ ap (λ (e : ℕ). span (y .start) e) (one-value (p .ends) (q .ends))
 
-pub part-u8-determined : (xs : List ℕ) (k m : ℕ) (x y : List ℕ) → x ≡ part k m xs → y ≡ part k m xs → x ≡ y
-part-u8-determined xs k m x y = one-value
+-- two slices that are the same part have the same elements
+pub task-flips-determined : (q : Plan) (flips : List ℕ) (k : ℕ) (x y : List ℕ) → x ≡ part k (q .n) flips → y ≡ part k (q .n) flips → x ≡ y
+task-flips-determined q flips k x y = one-value
 
-pub part-f32-determined : (xs : List Float) (k m : ℕ) (x y : List Float) → x ≡ part k m xs → y ≡ part k m xs → x ≡ y
-part-f32-determined xs k m x y = one-value
+pub task-perms-determined : (q : Plan) (perms : List ℕ) (k : ℕ) (x y : List ℕ) → x ≡ part k (entries (q .form) (q .n) * q .members) perms → y ≡ part k (entries (q .form) (q .n) * q .members) perms → x ≡ y
+task-perms-determined q perms k x y = one-value
+
+pub task-greys-determined : (q : Plan) (greys : List ℕ) (k : ℕ) (x y : List ℕ) → x ≡ part k (entries (q .form) (q .n)) greys → y ≡ part k (entries (q .form) (q .n)) greys → x ≡ y
+task-greys-determined q greys k x y = one-value
+
+pub task-cuts-determined : (q : Plan) (cuts : List Float) (k : ℕ) (x y : List Float) → x ≡ part k (q .n * q .d) cuts → y ≡ part k (q .n * q .d) cuts → x ≡ y
+task-cuts-determined q cuts k x y = one-value
 
 pub word-at-determined : (xs : List ℕ) (k x y : ℕ) → x ≡ getD xs k 0 → y ≡ getD xs k 0 → x ≡ y
 word-at-determined xs k x y = one-value

@@ -4,7 +4,7 @@ use mathlib.Core.Path.{_≡_}
 use mathlib.Core.Bool.{Bool}
 use mathlib.Core.List.{List, []}
 use native.Mathlib.Omega.{arith}
-use native.Mathlib.Nat.{mul-le-mul-left, mul-le-mul-right, suc-mul, div-add-mod', mod-lt, div-le-self, div-lt-iff-lt-mul, le-div-iff-mul-le}
+use native.Mathlib.Nat.{mul-le-mul, mul-le-mul-left, mul-le-mul-right, suc-mul, div-add-mod', mod-lt, div-le-self, div-lt-iff-lt-mul, le-div-iff-mul-le}
 use lib.ListN.{length, getD}
 use lib.IntN.{ℤ}
 use lib.Ieee.{Float}
@@ -65,10 +65,14 @@ pub record Planned (q : Plan) : Type 0 where
   pub all : q .t * q .r ≡ q .s
   pub enough : q .members ≤ q .r
 
--- the task k is one of the plan's, and the order is of all systems
-pub record Placing (q : Plan) (k : ℕ) (order : List ℕ) : Type 0 where
+-- and k is one of its tasks
+pub record TaskOf (q : Plan) (k : ℕ) : Type 0 where
   pub planned : Planned q
   pub below : k < tasksOf q
+
+-- and the order is of all systems
+pub record Placing (q : Plan) (k : ℕ) (order : List ℕ) : Type 0 where
+  pub task : TaskOf q k
   pub long : length order ≡ q .s
 
 module _ (q : Plan) (h : Planned q) where
@@ -103,6 +107,9 @@ module _ (q : Plan) (h : Planned q) where
     pub entry-lt : (x : ℕ) → x < q .members → k / (q .r / q .members) * q .r + (k % (q .r / q .members)) * q .members + x < q .s
     entry-lt x l = omega (arith, mul-le-mul-right (q .r) temperature-lt, suc-mul (k / (q .r / q .members)) (q .r), mul-le-mul-right (q .members) (mod-lt k some-groups), suc-mul (k % (q .r / q .members)) (q .members), div-add-mod' (q .r) (q .members), h .all)
 
+    pub few : (m : ℕ) → m ≤ 32768 → Few k m
+    few m l = record { number = omega (arith, below, few-tasks); elements = l }
+
   pub few-rows : entries (q .form) (q .n) ≤ 4096
   few-rows = go (q .form)
     where
@@ -110,3 +117,9 @@ module _ (q : Plan) (h : Planned q) where
       go Sw = h .ranged .lattice .n-high
       go Wolff = omega arith
       go Observe = omega arith
+
+  pub few-bonds : q .n * q .d ≤ 32768
+  few-bonds = omega (arith, mul-le-mul (h .ranged .lattice .n-high) (h .ranged .lattice .d-high))
+
+  pub few-places : entries (q .form) (q .n) * q .members ≤ 32768
+  few-places = mul-le-mul few-rows (h .ranged .size-high)

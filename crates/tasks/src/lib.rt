@@ -8,7 +8,7 @@ ghost use lib.ListN.{getD};
 ghost use lib.Ieee.{nan};
 ghost use Rattle.paper.specs.Panel.Takes.{entries};
 ghost use Rattle.paper.specs.Answer.Task.{part};
-ghost use Rattle.tasks.specs.Plan.{Few, Planned, Placing, Bounding, tasksOf, groupAt, maskedAt};
+ghost use Rattle.tasks.specs.Plan.{Few, Planned, TaskOf, Placing, Bounding, tasksOf, groupAt, maskedAt};
 
 // The numbers of a sweep.
 pub struct Plan {
@@ -46,7 +46,7 @@ pub fn bounds(len: usize, k: usize, m: usize) -> Span
     }
 }
 
-pub fn part_u8(xs: &[u8], k: usize, m: usize) -> &[u8]
+fn part_u8(xs: &[u8], k: usize, m: usize) -> &[u8]
     requires { ⌜ Few k m ⌝ }
     ensures { λ r. ⌜ now r ≡ part k m (now (xs .entry)) ⌝ }
 {
@@ -56,7 +56,7 @@ pub fn part_u8(xs: &[u8], k: usize, m: usize) -> &[u8]
     &xs[a..e]
 }
 
-pub fn part_f32(xs: &[f32], k: usize, m: usize) -> &[f32]
+fn part_f32(xs: &[f32], k: usize, m: usize) -> &[f32]
     requires { ⌜ Few k m ⌝ }
     ensures { λ r. ⌜ now r ≡ part k m (now (xs .entry)) ⌝ }
 {
@@ -141,4 +141,38 @@ pub fn entries_of(form: Form, n: usize) -> usize
         Form::Wolff => 1,
         Form::Observe => 0,
     }
+}
+
+pub fn task_cuts(plan: Plan, cuts: &[f32], k: usize) -> &[f32]
+    requires { ⌜ TaskOf plan k ⌝ }
+    ensures { λ r. ⌜ now r ≡ part k (plan .n * plan .d) (now (cuts .entry)) ⌝ }
+{
+    let n = plan.n;
+    let d = plan.d;
+    part_f32(cuts, k, n * d)
+}
+
+pub fn task_flips(plan: Plan, flips: &[u8], k: usize) -> &[u8]
+    requires { ⌜ TaskOf plan k ⌝ }
+    ensures { λ r. ⌜ now r ≡ part k (plan .n) (now (flips .entry)) ⌝ }
+{
+    part_u8(flips, k, plan.n)
+}
+
+pub fn task_perms(plan: Plan, perms: &[u8], k: usize) -> &[u8]
+    requires { ⌜ TaskOf plan k ⌝ }
+    ensures { λ r. ⌜ now r ≡ part k (entries (plan .form) (plan .n) * plan .members) (now (perms .entry)) ⌝ }
+{
+    let form = plan.form;
+    let rows = entries_of(form, plan.n);
+    let members = plan.members;
+    part_u8(perms, k, rows * members)
+}
+
+pub fn task_greys(plan: Plan, greys: &[u8], k: usize) -> &[u8]
+    requires { ⌜ TaskOf plan k ⌝ }
+    ensures { λ r. ⌜ now r ≡ part k (entries (plan .form) (plan .n)) (now (greys .entry)) ⌝ }
+{
+    let form = plan.form;
+    part_u8(greys, k, entries_of(form, plan.n))
 }

@@ -28,22 +28,22 @@ S l = l .before .before .before .before .before
 
 -- the order entries that a turn reads are there
 entry : (s : tie.Start Inv-loop μ-loop) (x : ℕ) → x < s .args .plan .members → let q = s .args .plan in s .args .k / (q .r / q .members) * q .r + (s .args .k % (q .r / q .members)) * q .members + x < q .s
-entry s x l = entry-lt (s .args .plan) (s .pre .planned) (s .args .k) (s .pre .below) x l
+entry s x l = entry-lt (s .args .plan) (s .pre .task .planned) (s .args .k) (s .pre .task .below) x l
 
 first : (s : tie.Start Inv-loop μ-loop) → let q = s .args .plan in s .args .k / (q .r / q .members) * q .r + (s .args .k % (q .r / q .members)) * q .members < 64
-first s = omega (arith, entry s 0 (some-members (s .args .plan) (s .pre .planned)), s .pre .planned .ranged .lattice .s-high)
+first s = omega (arith, entry s 0 (some-members (s .args .plan) (s .pre .task .planned)), s .pre .task .planned .ranged .lattice .s-high)
 
 div-groups : tie.Need-div-groups Inv-loop μ-loop
-div-groups c = let s = c .before .before in some-members (s .args .plan) (s .pre .planned)
+div-groups c = let s = c .before .before in some-members (s .args .plan) (s .pre .task .planned)
 
 div-base : tie.Need-div-base Inv-loop μ-loop
-div-base c = let s = c .before .before in some-groups (s .args .plan) (s .pre .planned)
+div-base c = let s = c .before .before in some-groups (s .args .plan) (s .pre .task .planned)
 
 mul-base : tie.Need-mul-base Inv-loop μ-loop
 mul-base c = omega (arith, first (c .before .before .before))
 
 rem-base : tie.Need-rem-base Inv-loop μ-loop
-rem-base c = let s = c .before .before .before in some-groups (s .args .plan) (s .pre .planned)
+rem-base c = let s = c .before .before .before in some-groups (s .args .plan) (s .pre .task .planned)
 
 mul-base-2 : tie.Need-mul-base-2 Inv-loop μ-loop
 mul-base-2 c = omega (arith, first (c .before .before .before))
@@ -56,10 +56,10 @@ unfolding table
 loop-holds c = (search needs, fill-start _)
 
 add-wide : tie.Need-add-wide Inv-loop μ-loop
-add-wide c = omega (arith, entry (S c) (c .before .loop .x) (c .loop-test .taken), S c .pre .planned .ranged .lattice .s-high)
+add-wide c = omega (arith, entry (S c) (c .before .loop .x) (c .loop-test .taken), S c .pre .task .planned .ranged .lattice .s-high)
 
 mul-wide : tie.Need-mul-wide Inv-loop μ-loop
-mul-wide c = omega (arith, entry (S c) (c .before .loop .x) (c .loop-test .taken), S c .pre .planned .ranged .lattice .s-high)
+mul-wide c = omega (arith, entry (S c) (c .before .loop .x) (c .loop-test .taken), S c .pre .task .planned .ranged .lattice .s-high)
 
 shared-slice-read-wide : tie.Need-shared-slice-read-wide Inv-loop μ-loop
 shared-slice-read-wide c = let l = c .before in omega (arith, entry (S l) (l .before .loop .x) (l .loop-test .taken), S l .pre .long)
@@ -68,7 +68,7 @@ wide-requires : tie.Need-wide-requires Inv-loop μ-loop
 wide-requires c κs = search needs
 
 below : (l : tie.In-loop Inv-loop μ-loop) → l .before .loop .x < 8
-below l = omega (arith, l .loop-test .taken, S l .pre .planned .ranged .size-high)
+below l = omega (arith, l .loop-test .taken, S l .pre .task .planned .ranged .size-high)
 
 mul-systems : tie.Need-mul-systems Inv-loop μ-loop
 mul-systems c = omega (arith, below (c .before .before))
