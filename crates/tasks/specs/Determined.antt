@@ -36,14 +36,11 @@ task-cuts-determined q cuts k x y = one-value
 pub word-at-determined : (xs : List ℕ) (k x y : ℕ) → x ≡ getD xs k 0 → y ≡ getD xs k 0 → x ≡ y
 word-at-determined xs k x y = one-value
 
-pub float-at-determined : (xs : List Float) (k : ℕ) (x y : Float) → x ≡ getD xs k nan → y ≡ getD xs k nan → x ≡ y
-float-at-determined xs k x y = one-value
-
 pub task-count-determined : (q : Plan) (x y : ℕ) → x ≡ tasksOf q → y ≡ tasksOf q → x ≡ y
 task-count-determined q x y = one-value
 
-pub temperature-of-determined : (q : Plan) (k x y : ℕ) → x ≡ k / (q .r / q .members) → y ≡ k / (q .r / q .members) → x ≡ y
-temperature-of-determined q k x y = one-value
+pub task-temperature-determined : (q : Plan) (ts : List Float) (k : ℕ) (x y : Float) → x ≡ getD ts (k / (q .r / q .members)) nan → y ≡ getD ts (k / (q .r / q .members)) nan → x ≡ y
+task-temperature-determined q ts k x y = one-value
 
 pub masked-determined : (q : Plan) (masks : List ℕ) (k : ℕ) (x y : Bool) → x ≡ maskedAt q masks k → y ≡ maskedAt q masks k → x ≡ y
 masked-determined q masks k x y = one-value

@@ -11,7 +11,7 @@ use lib.Ieee.{Float}
 use Rattle.paper.specs.declared.Group.{Group}
 use Rattle.paper.specs.declared.Form.{Form}
 use Rattle.paper.specs.declared.Form.the-variants.{Sw, Wolff, Observe}
-use Rattle.paper.specs.Panel.Input.{Lattice}
+use Rattle.paper.specs.Panel.Input.{Lattice, Buffers}
 use Rattle.paper.specs.Panel.Takes.{entries}
 use Rattle.paper.specs.Refusal.Rules.{Ranged}
 use Rattle.paper.specs.Answer.Task.{Sweep, groups, tasks, orderAt, masked, groupOf}
@@ -45,6 +45,9 @@ sweepOf q fwd bwd couplings order masks temperatures cuts references seeds flips
   perms = perms;
   greys = greys;
 }
+
+abbrev pub lent : List ℤ → List ℕ → List ℕ → List ℕ → List ℕ → Buffers
+lent spins labels greyLabels counts sizes = record { spins = spins; labels = labels; greyLabels = greyLabels; counts = counts; sizes = sizes }
 
 -- where only the order or the masks are looked at
 abbrev pub ordered : Plan → List ℕ → List ℕ → Sweep

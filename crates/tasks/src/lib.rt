@@ -79,7 +79,7 @@ pub fn word_at(xs: &[u32], k: usize) -> usize
     if k < xs.len() { wide(xs[k]) } else { 0 }
 }
 
-pub fn float_at(xs: &[f32], k: usize) -> f32
+fn float_at(xs: &[f32], k: usize) -> f32
     ensures { λ r. ⌜ r ≡ getD (now (xs .entry)) k nan ⌝ }
 {
     if k < xs.len() { xs[k] } else { 0.0 / 0.0 }
@@ -92,12 +92,19 @@ pub fn task_count(plan: Plan) -> usize
     plan.t * (plan.r / plan.members)
 }
 
-pub fn temperature_of(plan: Plan, k: usize) -> usize
+fn temperature_of(plan: Plan, k: usize) -> usize
     requires { ⌜ Planned plan ⌝ }
     ensures { λ r. ⌜ r ≡ k / (plan .r / plan .members) ⌝ }
 {
     let groups = plan.r / plan.members;
     k / groups
+}
+
+pub fn task_temperature(plan: Plan, temperatures: &[f32], k: usize) -> f32
+    requires { ⌜ Planned plan ⌝ }
+    ensures { λ r. ⌜ r ≡ getD (now (temperatures .entry)) (k / (plan .r / plan .members)) nan ⌝ }
+{
+    float_at(temperatures, temperature_of(plan, k))
 }
 
 pub fn masked(plan: Plan, masks: &[u8], k: usize) -> bool
