@@ -1,3 +1,5 @@
 pub mod Lengths
 pub mod First
+pub mod Tasks
+pub mod Whole
 pub mod Determined

@@ -1,0 +1,100 @@
+-- Tests 8, 9 and 10 of unmasked tasks in ascending order. Assumes nothing.
+use Prim.Native.Nat.{ℕ, zero, suc, _+_, _*_, _/_, _%_, _≤_, _<_}
+use mathlib.Core.Path.{_≡_, refl, sym, _∙_}
+use mathlib.Core.Logic.{_⊎_, inl, inr}
+use mathlib.Core.Bool.{Bool, true, false, cond}
+use mathlib.Core.List.{List, [], _++_}
+use native.Mathlib.Omega.{arith}
+use native.Mathlib.Numerals.{add-one}
+use native.Mathlib.Nat.{mul-le-mul-right, suc-mul, eq-or-lt-of-le, le-of-suc-le-suc}
+use borrow.Author.Tests.{lt-ltb}
+use lib.Dec.{ltb}
+use lib.ListN.{length, getD}
+use lib.IntN.{ℤ}
+use lib.Ieee.{Float, nan}
+use Rattle.paper.specs.declared.Group.{Group}
+use Rattle.paper.specs.declared.Mode.{Mode}
+use Rattle.paper.specs.declared.Form.{Form}
+use Rattle.paper.specs.Panel.Input.{Call, Choices, Lattice, Buffers, member}
+use Rattle.paper.specs.Panel.Takes.{drawsBonds, flipsBy, permsBy, greysBy, entries}
+use Rattle.paper.specs.Refusal.Rule.{Rule, Kept, Broken}
+use Rattle.paper.specs.Refusal.Rules.{When, Spins, Permutes, Grouped, choiceRules}
+use Rattle.paper.specs.Refusal.Verdict.{Verdict, kept-both, broken-first, broken-later}
+use Rattle.paper.specs.Answer.Task.{Sweep, masked, part, taskCall, taskChoices}
+use Rattle.paper.specs.Answer.Sweep.{taskRules}
+use Rattle.paper.specs.Law.SweepTasks.{table-at}
+use Rattle.tasks.specs.declared.Plan.{Plan}
+use Rattle.tasks.specs.Plan.{Planned, TaskOf, tasksOf, groupAt, maskedAt, sweepOf, lent, entry-lt}
+
+-- what the first tests have shown
+pub record Tested (q : Plan) (spins : List ℤ) (order : List ℕ) (cuts : List Float) (flips perms greys : List ℕ) : Type 0 where
+  pub planned : Planned q
+  pub spins-long : length spins ≡ q .s * q .n
+  pub order-long : length order ≡ q .s
+  pub cuts-long : When (drawsBonds (q .mode)) (length cuts ≡ tasksOf q * (q .n * q .d))
+  pub flips-long : When (flipsBy (q .mode) (q .form)) (length flips ≡ tasksOf q * q .n)
+  pub perms-long : When (permsBy (q .mode) (q .form)) (length perms ≡ tasksOf q * (entries (q .form) (q .n) * q .members))
+  pub greys-long : When (greysBy (q .mode) (q .form)) (length greys ≡ tasksOf q * entries (q .form) (q .n))
+  pub spinning : Spins spins
+  pub permuted : Permutes (q .s) (λ k. getD order k 0)
+
+pub record TaskTested (q : Plan) (k : ℕ) (spins : List ℤ) (order : List ℕ) (cuts : List Float) (flips perms greys : List ℕ) : Type 0 where
+  pub tested : Tested q spins order cuts flips perms greys
+  pub below : k < tasksOf q
+
+-- the rules of one task, where it is not masked
+abbrev pub oneTask : Sweep → List ℤ → ℕ → List Rule
+oneTask w xs k = cond (masked w k) [] (choiceRules (taskCall w k) (taskChoices w k) xs)
+
+-- r is the verdict on the task k, whatever the panel's tables, couplings and temperatures are
+pub record TaskTold (q : Plan) (k : ℕ) (spins : List ℤ) (order masks : List ℕ) (cuts : List Float) (references seeds flips perms greys : List ℕ) (r : ℕ) : Type 0 where
+  pub is : (fwd bwd : List ℕ) (couplings : List ℤ) (temperatures : List Float) → Verdict (oneTask (sweepOf q fwd bwd couplings order masks temperatures cuts references seeds flips perms greys) spins k) r
+
+-- and on the tasks below K, whatever the outputs hold
+pub record TasksTold (q : Plan) (K : ℕ) (spins : List ℤ) (order masks : List ℕ) (cuts : List Float) (references seeds flips perms greys : List ℕ) (r : ℕ) : Type 0 where
+  pub is : (fwd bwd : List ℕ) (couplings : List ℤ) (temperatures : List Float) (labels greyLabels counts sizes : List ℕ) → Verdict (taskRules (sweepOf q fwd bwd couplings order masks temperatures cuts references seeds flips perms greys) (lent spins labels greyLabels counts sizes) K) r
+
+-- r is the verdict on these choices, whatever the panel's tables, couplings and the temperature are
+abbrev pub ChoicesTold : Mode → Form → ℕ → List ℤ → Group → List Float → ℕ → ℕ → List ℕ → List ℕ → List ℕ → ℕ → Type 0
+ChoicesTold mode form n spins group cuts reference seed flips perms greys r =
+    (d s : ℕ) (fwd bwd : List ℕ) (couplings : List ℤ) (temperature : Float) →
+    Verdict (choiceRules
+    (record { mode = mode; form = form; lattice = record { n = n; d = d; s = s; fwd = fwd; bwd = bwd; couplings = couplings }; group = group; temperature = temperature; cuts = cuts; reference = reference; seed = seed })
+    (record { flips = flips; perms = perms; greys = greys })
+    spins) r
+
+-- a masked task keeps its rules; an unmasked one has the verdict on its parts
+module _ {q : Plan} {k : ℕ} {spins : List ℤ} {order masks : List ℕ} {cuts : List Float} {references seeds flips perms greys : List ℕ} where
+  pub told-masked : maskedAt q masks k ≡ true → TaskTold q k spins order masks cuts references seeds flips perms greys 0
+  told-masked e = record { is = λ fwd bwd js ts. rw e tt }
+
+  pub told-parts :
+      {g : Group} {cs : List Float} {a b : ℕ} {fs ps gs : List ℕ} {r : ℕ} → maskedAt q masks k ≡ false
+      → g ≡ groupAt q order k → cs ≡ part k (q .n * q .d) cuts → a ≡ getD references k 0 → b ≡ getD seeds k 0
+      → fs ≡ part k (q .n) flips → ps ≡ part k (entries (q .form) (q .n) * q .members) perms → gs ≡ part k (entries (q .form) (q .n)) greys
+      → ChoicesTold (q .mode) (q .form) (q .n) spins g cs a b fs ps gs r
+      → TaskTold q k spins order masks cuts references seeds flips perms greys r
+  told-parts {g} {cs} {a} {b} {fs} {ps} {gs} {r} e e₁ e₂ e₃ e₄ e₅ e₆ e₇ h = record { is = λ fwd bwd js ts. rw e (rw (e₁, e₂, e₃, e₄, e₅, e₆, e₇) at (h (q .d) (q .s) fwd bwd js (getD ts (k / (q .r / q .members)) nan))) }
+
+-- ---- one task more
+more-kept : (w : Sweep) (b : Buffers) (K : ℕ) → Kept (taskRules w b K) → Kept (oneTask w (b .spins) K) → Kept (taskRules w b (K + 1))
+more-kept w b K h l = rw add-one (kept-both (taskRules w b K) (oneTask w (b .spins) K) h l)
+
+more-broken : (w : Sweep) (b : Buffers) (K M r : ℕ) → K < M → Kept (taskRules w b K) → Broken (oneTask w (b .spins) K) r → Broken (taskRules w b M) r
+more-broken w b K zero r l h f = absurd (omega arith)
+more-broken w b K (suc M) r l h f = go (eq-or-lt-of-le (le-of-suc-le-suc l)) (λ e. more-broken w b K M r e h f)
+  where
+    go : (K ≡ M) ⊎ (K < M) → (K < M → Broken (taskRules w b M) r) → Broken (taskRules w b (suc M)) r
+    go (inl e) ih = rw (← e) (broken-later (taskRules w b K) (oneTask w (b .spins) K) r h f)
+    go (inr e) ih = broken-first (taskRules w b M) (oneTask w (b .spins) M) r (ih e)
+
+module _ {q : Plan} {spins : List ℤ} {order masks : List ℕ} {cuts : List Float} {references seeds flips perms greys : List ℕ} where
+  pub told-none : TasksTold q 0 spins order masks cuts references seeds flips perms greys 0
+  told-none = record { is = λ fwd bwd js ts labels greyed counts sizes. tt }
+
+  pub told-more : {K r : ℕ} → TasksTold q K spins order masks cuts references seeds flips perms greys 0 → r ≡ 0 → TaskTold q K spins order masks cuts references seeds flips perms greys r → TasksTold q (K + 1) spins order masks cuts references seeds flips perms greys 0
+  told-more {K} {r} h e t = record { is = λ fwd bwd js ts labels greyed counts sizes. more-kept (sweepOf q fwd bwd js order masks ts cuts references seeds flips perms greys) (lent spins labels greyed counts sizes) K (h .is fwd bwd js ts labels greyed counts sizes) (rw e at (t .is fwd bwd js ts)) }
+
+  pub told-broken : {K M r : ℕ} → K < M → TasksTold q K spins order masks cuts references seeds flips perms greys 0 → (r ≡ 0 → ⊥) → TaskTold q K spins order masks cuts references seeds flips perms greys r → TasksTold q M spins order masks cuts references seeds flips perms greys r
+  told-broken {K} {M} {r = zero} l h ne t = absurd (ne refl)
+  told-broken {K} {M} {r = suc r} l h ne t = record { is = λ fwd bwd js ts labels greyed counts sizes. more-broken (sweepOf q fwd bwd js order masks ts cuts references seeds flips perms greys) (lent spins labels greyed counts sizes) K M (suc r) l (h .is fwd bwd js ts labels greyed counts sizes) (t .is fwd bwd js ts) }

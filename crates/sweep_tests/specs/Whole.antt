@@ -1,0 +1,115 @@
+-- The tests of a sweep, put together: the paper's rules. Assumes nothing.
+use Prim.Native.Nat.{ℕ, zero, suc}
+use mathlib.Core.Path.{_≡_, refl}
+use mathlib.Core.Logic.{inl, inr}
+use mathlib.Core.List.{List, _++_}
+use lib.ListN.{length}
+use lib.IntN.{ℤ}
+use lib.Ieee.{Float}
+use Rattle.paper.specs.Panel.Input.{Buffers}
+use Rattle.paper.specs.Refusal.Rule.{Rule, Kept, Broken}
+use Rattle.paper.specs.Refusal.Verdict.{Verdict, kept-both, broken-first, broken-later}
+use Rattle.paper.specs.Answer.Task.{Sweep, tasks}
+use Rattle.paper.specs.Answer.Sweep.{SweepRanged, SweepExact, taskRules, sweepRules}
+use Rattle.tasks.specs.declared.Plan.{Plan}
+use Rattle.tasks.specs.Plan.{Planned, sweepOf}
+use Rattle.sweep_tests.specs.declared.SweepLengths.{SweepLengths}
+use Rattle.sweep_tests.specs.Lengths.{Fitting}
+use Rattle.sweep_tests.specs.First.{panelRules, heatRules, firstRules}
+use Rattle.sweep_tests.specs.Tasks.{Tested}
+
+abbrev pub lengthsAll : Sweep → Buffers → SweepLengths
+lengthsAll w b = record {
+  spins = length (b .spins);
+  fwd = length (w .lattice .fwd);
+  bwd = length (w .lattice .bwd);
+  couplings = length (w .lattice .couplings);
+  order = length (w .order);
+  masks = length (w .masks);
+  temperatures = length (w .temperatures);
+  cuts = length (w .cuts);
+  references = length (w .references);
+  seeds = length (w .seeds);
+  flips = length (w .flips);
+  perms = length (w .perms);
+  greys = length (w .greys);
+  labels = length (b .labels);
+  greyed = length (b .greyLabels);
+  counts = length (b .counts);
+  sizes = length (b .sizes);
+}
+
+module _ (q : Plan) (fwd bwd : List ℕ) (couplings : List ℤ) (order masks : List ℕ) (temperatures cuts : List Float) (references seeds flips perms greys : List ℕ) (b : Buffers) where
+  abbrev w : Sweep
+  w = sweepOf q fwd bwd couplings order masks temperatures cuts references seeds flips perms greys
+
+  abbrev first : List Rule
+  first = firstRules q (b .spins) fwd bwd couplings order masks temperatures (lengthsAll w b)
+
+  abbrev middle : List Rule
+  middle = panelRules q (b .spins) fwd bwd order ++ heatRules q couplings temperatures masks
+
+  abbrev last : List Rule
+  last = taskRules w b (tasks w)
+
+  planned-of : SweepRanged w → Planned q
+  planned-of r = record { ranged = r .ranged; all = r .all; enough = r .enough }
+
+  ranged-of : Planned q → SweepRanged w
+  ranged-of p = record { ranged = p .ranged; all = p .all; enough = p .enough }
+
+  fitting-of : SweepExact w b → Fitting q (lengthsAll w b)
+  fitting-of e = record {
+    always = record { spins = e .spins; fwd = e .fwd; bwd = e .bwd; order = e .order; masks = e .masks; labels = e .labels; counts = e .counts; sizes = e .sizes };
+    drawn = record { couplings = e .couplings; temperatures = e .temperatures; cuts = e .cuts };
+    chosen = record { flips = e .flips; perms = e .perms; greys = e .greys; greyed = e .grey-labels; references = e .references; seeds = e .seeds };
+  }
+
+  exact-of : Fitting q (lengthsAll w b) → SweepExact w b
+  exact-of f = let a = f .always in let d = f .drawn in let c = f .chosen in record {
+    spins = a .spins;
+    fwd = a .fwd;
+    bwd = a .bwd;
+    order = a .order;
+    masks = a .masks;
+    couplings = d .couplings;
+    temperatures = d .temperatures;
+    cuts = d .cuts;
+    flips = c .flips;
+    perms = c .perms;
+    greys = c .greys;
+    references = c .references;
+    seeds = c .seeds;
+    labels = a .labels;
+    grey-labels = c .greyed;
+    counts = a .counts;
+    sizes = a .sizes;
+  }
+
+  first-broken-whole : (r : ℕ) → Broken first r → Broken (sweepRules w b) r
+  first-broken-whole r (inl n) = inl ((λ p. n .0 (planned-of p)), n .1)
+  first-broken-whole r (inr (p, inl n)) = inr (ranged-of p, inl ((λ x. n .0 (fitting-of x)), n .1))
+  first-broken-whole r (inr (p, inr (f, z))) = inr (ranged-of p, inr (exact-of f, broken-first middle last r z))
+
+  -- a fault of the first tests is the sweep's
+  pub whole-first : (r : ℕ) → (r ≡ 0 → ⊥) → Verdict first r → Verdict (sweepRules w b) r
+  whole-first zero ne v = absurd (ne refl)
+  whole-first (suc r) ne v = first-broken-whole (suc r) v
+
+  -- where they find none, the verdict on the tasks is
+  pub whole-later : Kept first → (r : ℕ) → Verdict last r → Verdict (sweepRules w b) r
+  whole-later k zero v = (ranged-of (k .0), (exact-of (k .1 .0), kept-both middle last (k .1 .1) v))
+  whole-later k (suc r) v = inr (ranged-of (k .0), inr (exact-of (k .1 .0), broken-later middle last (suc r) (k .1 .1) v))
+
+  pub tested-of : Kept first → Tested q (b .spins) order cuts flips perms greys
+  tested-of k = let f = k .1 .0 in record {
+    planned = k .0;
+    spins-long = f .always .spins;
+    order-long = f .always .order;
+    cuts-long = f .drawn .cuts;
+    flips-long = f .chosen .flips;
+    perms-long = f .chosen .perms;
+    greys-long = f .chosen .greys;
+    spinning = k .1 .1 .0;
+    permuted = k .1 .1 .1 .1 .0;
+  }
