@@ -13,21 +13,22 @@ use lib.ListN.{length, getD}
 use lib.IntN.{ℤ}
 use lib.Ieee.{Float, nan}
 use Rattle.paper.specs.declared.Group.{Group}
-use Rattle.paper.specs.declared.Mode.{Mode}
-use Rattle.paper.specs.declared.Form.{Form}
-use Rattle.paper.specs.Panel.Input.{Call, Choices, Lattice, Buffers, member}
+use Rattle.paper.specs.Panel.Input.{Buffers, member}
 use Rattle.paper.specs.Panel.Takes.{drawsBonds, flipsBy, permsBy, greysBy, entries}
 use Rattle.paper.specs.Refusal.Rule.{Rule, Kept, Broken}
-use Rattle.paper.specs.Refusal.Rules.{When, Spins, Permutes, Grouped, choiceRules}
+use Rattle.paper.specs.Refusal.Rules.{When, Ranged, Spins, Permutes, choiceRules}
 use Rattle.paper.specs.Refusal.Verdict.{Verdict, kept-both, broken-first, broken-later}
-use Rattle.paper.specs.Answer.Task.{Sweep, masked, part, taskCall, taskChoices}
+use Rattle.paper.specs.Answer.Task.{Sweep, orderAt, masked, part, taskCall, taskChoices}
 use Rattle.paper.specs.Answer.Sweep.{taskRules}
-use Rattle.paper.specs.Law.SweepTasks.{table-at}
+use Rattle.paper.specs.Law.SweepTasks.{table-at, part-length}
+use Rattle.columns.specs.Column.{Inside}
+use Rattle.moves.specs.Task.{choicesOf}
+use Rattle.checks.specs.Choices.{Tested, EveryCall}
 use Rattle.tasks.specs.declared.Plan.{Plan}
-use Rattle.tasks.specs.Plan.{Planned, TaskOf, tasksOf, groupAt, maskedAt, sweepOf, lent, entry-lt}
+use Rattle.tasks.specs.Plan.{Planned, tasksOf, groupAt, maskedAt, ordered, sweepOf, lent, entry-lt}
 
 -- what the first tests have shown
-pub record Tested (q : Plan) (spins : List ℤ) (order : List ℕ) (cuts : List Float) (flips perms greys : List ℕ) : Type 0 where
+pub record SweepTested (q : Plan) (spins : List ℤ) (order : List ℕ) (cuts : List Float) (flips perms greys : List ℕ) : Type 0 where
   pub planned : Planned q
   pub spins-long : length spins ≡ q .s * q .n
   pub order-long : length order ≡ q .s
@@ -39,8 +40,35 @@ pub record Tested (q : Plan) (spins : List ℤ) (order : List ℕ) (cuts : List 
   pub permuted : Permutes (q .s) (λ k. getD order k 0)
 
 pub record TaskTested (q : Plan) (k : ℕ) (spins : List ℤ) (order : List ℕ) (cuts : List Float) (flips perms greys : List ℕ) : Type 0 where
-  pub tested : Tested q spins order cuts flips perms greys
+  pub tested : SweepTested q spins order cuts flips perms greys
   pub below : k < tasksOf q
+
+-- what the test of its choices leans on
+module _ {q : Plan} {k : ℕ} {spins : List ℤ} {order : List ℕ} {cuts : List Float} {flips perms greys : List ℕ} (h : TaskTested q k spins order cuts flips perms greys) where
+  ranged : Ranged (q .n) (q .d) (q .s) (q .mode) (q .members)
+  ranged = h .tested .planned .ranged
+
+  member-is : (x : ℕ) → x < q .members → member (groupAt q order k) x ≡ orderAt (ordered q order []) k x
+  member-is x l = table-at 8 (λ x. cond (ltb x (q .members)) (orderAt (ordered q order []) k x) 0) x (omega (arith, ranged .size-high)) ∙ rw (lt-ltb x (q .members) l) refl
+
+  member-lt : (x : ℕ) → x < q .members → member (groupAt q order k) x < q .s
+  member-lt x l = rw (member-is x l) (h .tested .permuted .within _ (entry-lt q (h .tested .planned) k (h .below) x l))
+
+  inside : Inside (q .n) (groupAt q order k) spins
+  inside x l = let z : suc (member (groupAt q order k) x) ≤ q .s = member-lt x l in omega (arith, mul-le-mul-right (q .n) z, suc-mul (member (groupAt q order k) x) (q .n), h .tested .spins-long)
+
+  pub task-tested : Tested (q .mode) (q .form) (q .n) (groupAt q order k) spins (part k (q .n) flips) (part k (entries (q .form) (q .n) * q .members) perms) (part k (entries (q .form) (q .n)) greys)
+  task-tested = record {
+    n-low = ranged .lattice .n-low;
+    n-high = ranged .lattice .n-high;
+    size-low = ranged .size-low;
+    size-high = ranged .size-high;
+    inside = inside;
+    spins = λ i x hi hx. h .tested .spinning (member (groupAt q order k) x * q .n + i) (omega (arith, inside x hx));
+    flips-long = λ t. part-length (tasksOf q) (q .n) k flips (h .below) (h .tested .flips-long t);
+    perms-long = λ t. part-length (tasksOf q) (entries (q .form) (q .n) * q .members) k perms (h .below) (h .tested .perms-long t);
+    greys-long = λ t. part-length (tasksOf q) (entries (q .form) (q .n)) k greys (h .below) (h .tested .greys-long t);
+  }
 
 -- the rules of one task, where it is not masked
 abbrev pub oneTask : Sweep → List ℤ → ℕ → List Rule
@@ -54,15 +82,6 @@ pub record TaskTold (q : Plan) (k : ℕ) (spins : List ℤ) (order masks : List 
 pub record TasksTold (q : Plan) (K : ℕ) (spins : List ℤ) (order masks : List ℕ) (cuts : List Float) (references seeds flips perms greys : List ℕ) (r : ℕ) : Type 0 where
   pub is : (fwd bwd : List ℕ) (couplings : List ℤ) (temperatures : List Float) (labels greyLabels counts sizes : List ℕ) → Verdict (taskRules (sweepOf q fwd bwd couplings order masks temperatures cuts references seeds flips perms greys) (lent spins labels greyLabels counts sizes) K) r
 
--- r is the verdict on these choices, whatever the panel's tables, couplings and the temperature are
-abbrev pub ChoicesTold : Mode → Form → ℕ → List ℤ → Group → List Float → ℕ → ℕ → List ℕ → List ℕ → List ℕ → ℕ → Type 0
-ChoicesTold mode form n spins group cuts reference seed flips perms greys r =
-    (d s : ℕ) (fwd bwd : List ℕ) (couplings : List ℤ) (temperature : Float) →
-    Verdict (choiceRules
-    (record { mode = mode; form = form; lattice = record { n = n; d = d; s = s; fwd = fwd; bwd = bwd; couplings = couplings }; group = group; temperature = temperature; cuts = cuts; reference = reference; seed = seed })
-    (record { flips = flips; perms = perms; greys = greys })
-    spins) r
-
 -- a masked task keeps its rules; an unmasked one has the verdict on its parts
 module _ {q : Plan} {k : ℕ} {spins : List ℤ} {order masks : List ℕ} {cuts : List Float} {references seeds flips perms greys : List ℕ} where
   pub told-masked : maskedAt q masks k ≡ true → TaskTold q k spins order masks cuts references seeds flips perms greys 0
@@ -72,7 +91,7 @@ module _ {q : Plan} {k : ℕ} {spins : List ℤ} {order masks : List ℕ} {cuts 
       {g : Group} {cs : List Float} {a b : ℕ} {fs ps gs : List ℕ} {r : ℕ} → maskedAt q masks k ≡ false
       → g ≡ groupAt q order k → cs ≡ part k (q .n * q .d) cuts → a ≡ getD references k 0 → b ≡ getD seeds k 0
       → fs ≡ part k (q .n) flips → ps ≡ part k (entries (q .form) (q .n) * q .members) perms → gs ≡ part k (entries (q .form) (q .n)) greys
-      → ChoicesTold (q .mode) (q .form) (q .n) spins g cs a b fs ps gs r
+      → EveryCall (q .mode) (q .form) (q .n) g cs a b (λ c. Verdict (choiceRules c (choicesOf fs ps gs) spins) r)
       → TaskTold q k spins order masks cuts references seeds flips perms greys r
   told-parts {g} {cs} {a} {b} {fs} {ps} {gs} {r} e e₁ e₂ e₃ e₄ e₅ e₆ e₇ h = record { is = λ fwd bwd js ts. rw e (rw (e₁, e₂, e₃, e₄, e₅, e₆, e₇) at (h (q .d) (q .s) fwd bwd js (getD ts (k / (q .r / q .members)) nan))) }
 

@@ -16,7 +16,7 @@ use Rattle.tasks.specs.Plan.{Planned, sweepOf}
 use Rattle.sweep_tests.specs.declared.SweepLengths.{SweepLengths}
 use Rattle.sweep_tests.specs.Lengths.{Fitting}
 use Rattle.sweep_tests.specs.First.{panelRules, heatRules, firstRules}
-use Rattle.sweep_tests.specs.Tasks.{Tested}
+use Rattle.sweep_tests.specs.Tasks.{SweepTested}
 
 abbrev pub lengthsAll : Sweep → Buffers → SweepLengths
 lengthsAll w b = record {
@@ -101,7 +101,7 @@ module _ (q : Plan) (fwd bwd : List ℕ) (couplings : List ℤ) (order masks : L
   whole-later k zero v = (ranged-of (k .0), (exact-of (k .1 .0), kept-both middle last (k .1 .1) v))
   whole-later k (suc r) v = inr (ranged-of (k .0), inr (exact-of (k .1 .0), broken-later middle last (suc r) (k .1 .1) v))
 
-  pub tested-of : Kept first → Tested q (b .spins) order cuts flips perms greys
+  pub tested-of : Kept first → SweepTested q (b .spins) order cuts flips perms greys
   tested-of k = let f = k .1 .0 in record {
     planned = k .0;
     spins-long = f .always .spins;

@@ -8,9 +8,10 @@ ghost use Rattle.paper.specs.Component.Marks.{Tells};
 ghost use Rattle.paper.specs.Panel.Takes.{flipsBy, permsBy, greysBy};
 ghost use Rattle.paper.specs.Refusal.Rules.{When, SmallCouplings};
 ghost use Rattle.paper.specs.Refusal.Verdict.{Verdict};
-ghost use Rattle.tasks.specs.Plan.{Planned};
+ghost use Rattle.tasks.specs.Plan.{Planned, tasksOf};
 ghost use Rattle.sweep_tests.specs.Lengths.{Always, Drawn, Chosen, Measured, PanelLong, HeatLong};
 ghost use Rattle.sweep_tests.specs.First.{AllWarm, sizeRules, panelRules, heatRules, firstRules};
+ghost use Rattle.sweep_tests.specs.Tasks.{SweepTested, TaskTested, TaskTold, TasksTold};
 
 // How many elements each buffer has that a sweep may be lent.
 pub struct SweepLengths {
@@ -219,4 +220,81 @@ pub fn test_sweep(
         return panel;
     }
     test_heat(plan, couplings, temperatures, masks)
+}
+
+// Tests 8, 9 and 10 of the task k; a masked task's areas are not read.
+fn test_task(
+    plan: Plan,
+    k: usize,
+    spins: &[i8],
+    order: &[u32],
+    masks: &[u8],
+    cuts: &[f32],
+    references: &[u32],
+    seeds: &[u32],
+    flips: &[u8],
+    perms: &[u8],
+    greys: &[u8],
+) -> u8
+    requires { ⌜ TaskTested plan k (now spins) (now order) (now cuts) (now flips) (now perms) (now greys) ⌝ }
+    ensures { λ r. ⌜ TaskTold plan k (now (spins .entry)) (now (order .entry)) (now (masks .entry)) (now (cuts .entry)) (now (references .entry)) (now (seeds .entry)) (now (flips .entry)) (now (perms .entry)) (now (greys .entry)) r ⌝ }
+{
+    if tasks::masked(plan, masks, k) {
+        return 0;
+    }
+    let mode = plan.mode;
+    let form = plan.form;
+    checks::test_choices(
+        mode,
+        form,
+        plan.n,
+        spins,
+        tasks::task_group(plan, order, k),
+        tasks::task_cuts(plan, cuts, k),
+        tasks::word_at(references, k),
+        tasks::word_at(seeds, k),
+        tasks::task_flips(plan, flips, k),
+        tasks::task_perms(plan, perms, k),
+        tasks::task_greys(plan, greys, k),
+    )
+}
+
+// Unmasked tasks in ascending order: the number of the first test that fails, or 0.
+pub fn test_tasks(
+    plan: Plan,
+    spins: &[i8],
+    order: &[u32],
+    masks: &[u8],
+    cuts: &[f32],
+    references: &[u32],
+    seeds: &[u32],
+    flips: &[u8],
+    perms: &[u8],
+    greys: &[u8],
+) -> u8
+    requires { ⌜ SweepTested plan (now spins) (now order) (now cuts) (now flips) (now perms) (now greys) ⌝ }
+    ensures { λ r. ⌜ TasksTold plan (tasksOf plan) (now (spins .entry)) (now (order .entry)) (now (masks .entry)) (now (cuts .entry)) (now (references .entry)) (now (seeds .entry)) (now (flips .entry)) (now (perms .entry)) (now (greys .entry)) r ⌝ }
+{
+    let count = tasks::task_count(plan);
+    let mut k: usize = 0;
+    while k < count {
+        let fault = test_task(
+            plan,
+            k,
+            spins,
+            order,
+            masks,
+            cuts,
+            references,
+            seeds,
+            flips,
+            perms,
+            greys,
+        );
+        if fault != 0 {
+            return fault;
+        }
+        k += 1;
+    }
+    0
 }

@@ -5,11 +5,11 @@ use mathlib.Core.Logic.{_⊎_, inl, inr, _≢_}
 use mathlib.Core.List.{List, [], _++_}
 use native.Mathlib.Omega.{arith}
 use native.Mathlib.Decide.{decLe, decLt}
-use native.Mathlib.Nat.{mul-le-mul-right, suc-mul}
+use native.Mathlib.Nat.{mul-le-mul, mul-le-mul-right, suc-mul}
 use lib.ListN.{length, getD, take, drop, length-append, length-take, length-drop, take-append-drop, List·getD-append, List·getD-eq-default, drop-of-length-le}
 use lib.Seq.{take-all, take-nil, length-take-le, getD-append-add, getD-take, getD-drop, ext-getD, take-at, drop-at}
 use Rattle.paper.specs.Answer.Task.{part}
-use Rattle.tasks.specs.Plan.{Bounding}
+use Rattle.tasks.specs.Plan.{Few, Bounding}
 
 -- the elements of xs from a to e come back as ys
 abbrev pub back : {A : Type 0} → List A → ℕ → ℕ → List A → List A
@@ -34,8 +34,11 @@ module _ {A : Type 0} (xs : List A) (k m a e : ℕ) (h : Bounding (length xs) k 
           shorter (no f) q = take-all (e - k * m) (drop (k * m) xs) (simp length-drop (omega (arith, h .ends))) ∙ sym (take-all m (drop (k * m) xs) (simp length-drop (omega arith)))
       go (no l) = let z : e - a ≡ 0 = omega (arith, h .starts, h .ends) in rw (z, drop-of-length-le xs {i = k * m} (omega arith)) (sym (take-nil m))
 
-  pub lent-length : length (part k m xs) ≡ e - a
-  lent-length = sym (ap length lent-part) ∙ simp (length-take, length-drop) (omega (arith, in-order, in-buffer))
+  pub lent-length : length (take (e - a) (drop a xs)) ≡ e - a
+  lent-length = simp (length-take, length-drop) (omega (arith, in-order, in-buffer))
+
+  pub start-few : Few k m → a ≤ 2097152
+  start-few f = omega (arith, h .starts, mul-le-mul (f .number) (f .elements))
 
   module _ (ys : List A) (long : length ys ≡ e - a) where
     front : length (take a xs) ≡ a
