@@ -1,0 +1,168 @@
+use borrow.Author.Needs.{needs}
+use Prim.Native.Nat.{ℕ, _+_, _*_, _≤_}
+use mathlib.Core.List.{List, []}
+use native.Mathlib.Omega.{arith}
+use denote.Ref.{now}
+use lib.ListN.{length}
+use Rattle.paper.specs.Panel.Input.{Buffers}
+use Rattle.paper.specs.Answer.Task.{Sweep}
+use Rattle.tasks.specs.Plan.{Few, Bounding, few, sweepOf, lent}
+use Rattle.tasks.specs.Parts.{in-order, in-buffer, start-few}
+use Rattle.sweep.specs.Running.{areas-lent, steps-put}
+use Rattle.sweep.proofs.run_one.Statement.{statement}
+use Rattle.sweep.proofs.run_one.Tie as tie
+
+abbrev S : tie.After-slice-known4 → tie.Start
+S t = t .before .before .before .before .before .before .before .before .before .before .before .before .before .before
+
+abbrev T : tie.After-bounds4 → tie.Start
+T t = S (t .before .before .before .before)
+
+abbrev W : tie.Start → Sweep
+W s =
+    let a = s .args in
+    sweepOf (a .plan) (now (a .fwd)) (now (a .bwd)) (now (a .couplings)) (now (a .order)) [] (now (a .temperatures)) (now (a .cuts)) (now (a .references)) (now (a .seeds)) (now (a .flips)) (now (a .perms)) (now (a .greys))
+
+abbrev B : tie.Start → Buffers
+B s = let a = s .args in lent (now (a .spins)) (now (a .labels)) (now (a .greyed)) (now (a .counts)) (now (a .sizes))
+
+-- a task's areas have few elements
+small : (s : tie.Start) (m : ℕ) → m ≤ 32768 → Few (s .args .k) m
+small s m l = few (s .args .plan) (s .pre .placing .task .planned) (s .args .k) (s .pre .placing .task .below) m l
+
+sites : (s : tie.Start) → Few (s .args .k) (s .args .plan .n)
+sites s = small s (s .args .plan .n) (omega (arith, s .pre .placing .task .planned .ranged .lattice .n-high))
+
+counts : (s : tie.Start) → Few (s .args .k) (s .args .plan .n + 1)
+counts s = small s (s .args .plan .n + 1) (omega (arith, s .pre .placing .task .planned .ranged .lattice .n-high))
+
+fours : (s : tie.Start) → Few (s .args .k) 4
+fours s = small s 4 (omega arith)
+
+bounds-requires : tie.Need-bounds-requires
+bounds-requires c κs = sites (S c)
+
+bounds-requires-2 : tie.Need-bounds-requires-2
+bounds-requires-2 c κs = sites (S (c .before))
+
+add-bounds : tie.Need-add-bounds
+add-bounds c = let s = S (c .before .before) in omega (arith, s .pre .placing .task .planned .ranged .lattice .n-high)
+
+bounds-requires-3 : tie.Need-bounds-requires-3
+bounds-requires-3 c κs = counts (S (c .before .before))
+
+bounds-requires-4 : tie.Need-bounds-requires-4
+bounds-requires-4 c κs = fours (S (c .before .before .before))
+
+mul-run-parts : tie.Need-mul-run-parts
+mul-run-parts c = let t = c .before in omega (arith, start-few (now (T t .args .labels)) (T t .args .k) (T t .args .plan .n) _ _ (t .before .before .before .bounds .ensures) (sites (T t)))
+
+sub-run-parts : tie.Need-sub-run-parts
+sub-run-parts c = let t = c .before in in-order (now (T t .args .labels)) (T t .args .k) (T t .args .plan .n) _ _ (t .before .before .before .bounds .ensures)
+
+part-run-parts-start : tie.Need-part-run-parts-start
+part-run-parts-start c = let t = c .before in in-order (now (T t .args .labels)) (T t .args .k) (T t .args .plan .n) _ _ (t .before .before .before .bounds .ensures)
+
+part-run-parts-end : tie.Need-part-run-parts-end
+part-run-parts-end c = let t = c .before in in-buffer (now (T t .args .labels)) (T t .args .k) (T t .args .plan .n) _ _ (t .before .before .before .bounds .ensures)
+
+mul-run-parts-2 : tie.Need-mul-run-parts-2
+mul-run-parts-2 c = let t = c .before .before in omega (arith, start-few (now (T t .args .greyed)) (T t .args .k) (T t .args .plan .n) _ _ (t .before .before .bounds2 .ensures) (sites (T t)))
+
+sub-run-parts-2 : tie.Need-sub-run-parts-2
+sub-run-parts-2 c = let t = c .before .before in in-order (now (T t .args .greyed)) (T t .args .k) (T t .args .plan .n) _ _ (t .before .before .bounds2 .ensures)
+
+part-run-parts-start-2 : tie.Need-part-run-parts-start-2
+part-run-parts-start-2 c = let t = c .before .before in in-order (now (T t .args .greyed)) (T t .args .k) (T t .args .plan .n) _ _ (t .before .before .bounds2 .ensures)
+
+part-run-parts-end-2 : tie.Need-part-run-parts-end-2
+part-run-parts-end-2 c = let t = c .before .before in in-buffer (now (T t .args .greyed)) (T t .args .k) (T t .args .plan .n) _ _ (t .before .before .bounds2 .ensures)
+
+mul-run-parts-3 : tie.Need-mul-run-parts-3
+mul-run-parts-3 c = let t = c .before .before .before in omega (arith, start-few (now (T t .args .counts)) (T t .args .k) (T t .args .plan .n + 1) _ _ (t .before .bounds3 .ensures) (counts (T t)))
+
+sub-run-parts-3 : tie.Need-sub-run-parts-3
+sub-run-parts-3 c = let t = c .before .before .before in in-order (now (T t .args .counts)) (T t .args .k) (T t .args .plan .n + 1) _ _ (t .before .bounds3 .ensures)
+
+part-run-parts-start-3 : tie.Need-part-run-parts-start-3
+part-run-parts-start-3 c = let t = c .before .before .before in in-order (now (T t .args .counts)) (T t .args .k) (T t .args .plan .n + 1) _ _ (t .before .bounds3 .ensures)
+
+part-run-parts-end-3 : tie.Need-part-run-parts-end-3
+part-run-parts-end-3 c = let t = c .before .before .before in in-buffer (now (T t .args .counts)) (T t .args .k) (T t .args .plan .n + 1) _ _ (t .before .bounds3 .ensures)
+
+mul-run-parts-4 : tie.Need-mul-run-parts-4
+mul-run-parts-4 c = let t = c .before .before .before .before in omega (arith, start-few (now (T t .args .sizes)) (T t .args .k) 4 _ _ (t .bounds4 .ensures) (fours (T t)))
+
+sub-run-parts-4 : tie.Need-sub-run-parts-4
+sub-run-parts-4 c = let t = c .before .before .before .before in in-order (now (T t .args .sizes)) (T t .args .k) 4 _ _ (t .bounds4 .ensures)
+
+part-run-parts-start-4 : tie.Need-part-run-parts-start-4
+part-run-parts-start-4 c = let t = c .before .before .before .before in in-order (now (T t .args .sizes)) (T t .args .k) 4 _ _ (t .bounds4 .ensures)
+
+part-run-parts-end-4 : tie.Need-part-run-parts-end-4
+part-run-parts-end-4 c = let t = c .before .before .before .before in in-buffer (now (T t .args .sizes)) (T t .args .k) 4 _ _ (t .bounds4 .ensures)
+
+run-parts-requires : tie.Need-run-parts-requires
+run-parts-requires c κs =
+    let t = c .before .before .before .before .before in
+    let s = T t in
+    record { placing = s .pre .placing; valid = rw (areas-lent (W s) (s .args .k) (B s) (t .before .before .before .bounds .ensures) (t .before .before .bounds2 .ensures) (t .before .bounds3 .ensures) (t .bounds4 .ensures)) at (s .pre .valid) }
+
+same-length : tie.Need-same-length
+same-length c = search needs
+
+same-length-2 : tie.Need-same-length-2
+same-length-2 c = search needs
+
+same-length-3 : tie.Need-same-length-3
+same-length-3 c = search needs
+
+same-length-4 : tie.Need-same-length-4
+same-length-4 c = search needs
+
+same-length-5 : tie.Need-same-length-5
+same-length-5 c = search needs
+
+returns : tie.Need-returns
+returns c =
+    let p = c .before .before .before .before .before .before .before .before .before in
+    let t = p .before .before .before .before .before .before in
+    let s = T t in
+    let z = p .run-parts in
+    steps-put (W s) (s .args .k) (B s) (t .before .before .before .bounds .ensures) (t .before .before .bounds2 .ensures) (t .before .bounds3 .ensures) (t .bounds4 .ensures)
+    (z .last .1 .1 .0) (z .last .1 .1 .1 .1 .1 .1 .1 .1 .1 .1 .1 .1 .1 .1 .0) (z .last .1 .1 .1 .1 .1 .1 .1 .1 .1 .1 .1 .1 .1 .1 .1 .0) (z .last .1 .1 .1 .1 .1 .1 .1 .1 .1 .1 .1 .1 .1 .1 .1 .1 .0) (z .last .1 .1 .1 .1 .1 .1 .1 .1 .1 .1 .1 .1 .1 .1 .1 .1 .1 .0)
+    (z .kept .1 .1 .1 .1 .1 .1 .1 .1 .1 .1 .1 .1 .1 .1 .0) (z .kept .1 .1 .1 .1 .1 .1 .1 .1 .1 .1 .1 .1 .1 .1 .1 .0) (z .kept .1 .1 .1 .1 .1 .1 .1 .1 .1 .1 .1 .1 .1 .1 .1 .1 .0) (z .kept .1 .1 .1 .1 .1 .1 .1 .1 .1 .1 .1 .1 .1 .1 .1 .1 .1 .0)
+    (z .result) (z .ensures)
+
+pub run-one-spec : {M : Type 1} → statement M
+run-one-spec =
+    tie.close
+    (tie.spec
+    bounds-requires
+    bounds-requires-2
+    add-bounds
+    bounds-requires-3
+    bounds-requires-4
+    mul-run-parts
+    sub-run-parts
+    part-run-parts-start
+    part-run-parts-end
+    mul-run-parts-2
+    sub-run-parts-2
+    part-run-parts-start-2
+    part-run-parts-end-2
+    mul-run-parts-3
+    sub-run-parts-3
+    part-run-parts-start-3
+    part-run-parts-end-3
+    mul-run-parts-4
+    sub-run-parts-4
+    part-run-parts-start-4
+    part-run-parts-end-4
+    run-parts-requires
+    same-length
+    same-length-2
+    same-length-3
+    same-length-4
+    same-length-5
+    returns)

@@ -1,0 +1,114 @@
+-- `run_tasks` meets its contract. The invariant: the first k tasks have run. Assumes nothing.
+use borrow.Author.Needs.{needs}
+use Prim.Native.Nat.{ℕ, _-_, _≤_, _<_}
+use mathlib.Core.Path.{_≡_, _∙_}
+use native.Mathlib.Nat.{le-antisymm}
+use native.Mathlib.Omega.{arith}
+use denote.Ref.{now}
+use Rattle.paper.specs.Panel.Input.{Buffers}
+use Rattle.paper.specs.Answer.Task.{Sweep}
+use Rattle.tasks.specs.Plan.{Planned, tasksOf, few-tasks, sweepOf, lent}
+use Rattle.sweep.specs.Ascending.{Ran, ran-none, ran-valid, ran-all}
+use Rattle.sweep.specs.Turning.{room-of}
+use Rattle.sweep.proofs.run_tasks.Statement.{statement}
+use Rattle.sweep.proofs.run_tasks.Tie as tie
+
+abbrev Inv-loop : tie.InvT-loop
+Inv-loop plan spins₀ fwd bwd couplings order masks temperatures cuts references seeds flips perms greys labels₀ greyed₀ counts₀ sizes₀ count tally₀ k₀ spins labels greyed counts sizes tally k =
+    Ran (sweepOf plan fwd bwd couplings order masks temperatures cuts references seeds flips perms greys) (lent spins₀ labels₀ greyed₀ counts₀ sizes₀) k (tally .idle) (tally .moved) (lent spins labels greyed counts sizes)
+
+abbrev μ-loop : tie.MeasureT-loop
+μ-loop plan spins₀ fwd bwd couplings order masks temperatures cuts references seeds flips perms greys labels₀ greyed₀ counts₀ sizes₀ count tally₀ k₀ spins labels greyed counts sizes tally k =
+    count - k
+
+abbrev S : tie.After-task-count Inv-loop μ-loop → tie.Start Inv-loop μ-loop
+S t = t .before .before .before .before .before .before .before .before .before .before .before .before .before .before .before .before
+
+abbrev W : tie.Start Inv-loop μ-loop → Sweep
+W s =
+    let a = s .args in
+    sweepOf (a .plan) (now (a .fwd)) (now (a .bwd)) (now (a .couplings)) (now (a .order)) (now (a .masks)) (now (a .temperatures)) (now (a .cuts)) (now (a .references)) (now (a .seeds)) (now (a .flips)) (now (a .perms)) (now (a .greys))
+
+abbrev B : tie.Start Inv-loop μ-loop → Buffers
+B s = let a = s .args in lent (now (a .spins)) (now (a .labels)) (now (a .greyed)) (now (a .counts)) (now (a .sizes))
+
+planned : (s : tie.Start Inv-loop μ-loop) → Planned (s .args .plan)
+planned s = let r = s .pre .0 in record { ranged = r .ranged; all = r .all; enough = r .enough }
+
+-- the state of a turn
+abbrev C : tie.In-loop Inv-loop μ-loop → tie.After-task-count Inv-loop μ-loop
+C l = l .before .before
+
+below : (l : tie.In-loop Inv-loop μ-loop) → l .before .loop .k < tasksOf (S (C l) .args .plan)
+below l = rw (C l .task-count .ensures) at (l .loop-test .taken)
+
+abbrev now-at : tie.In-loop Inv-loop μ-loop → Buffers
+now-at l = let z = l .before .loop in lent (z .spins) (z .labels) (z .greyed) (z .counts) (z .sizes)
+
+task-count-requires : tie.Need-task-count-requires Inv-loop μ-loop
+task-count-requires c κs = planned (c .before .before .before .before .before .before .before .before .before .before .before .before .before .before .before)
+
+loop-holds : tie.Need-loop-holds Inv-loop μ-loop
+loop-holds c = let s = S c in ran-none (W s) (B s) (s .pre)
+
+step-requires : tie.Need-step-requires Inv-loop μ-loop
+step-requires c κs =
+    let l = c .before .before .before .before .before in
+    let z = l .before .loop in
+    let s = S (C l) in
+    record {
+      placing = record { task = record { planned = planned s; below = below l }; long = s .pre .1 .0 .order };
+      room = room-of (W s) (B s) (z .k) (z .tally) (now-at l) (few-tasks (s .args .plan) (planned s)) (z .inv);
+      valid = ran-valid (W s) (B s) (s .pre) (z .k) (z .tally .idle) (z .tally .moved) (now-at l) (below l) (z .inv);
+    }
+
+add-k : tie.Need-add-k Inv-loop μ-loop
+add-k c = let l = c .before .before .before .before .before .before .before .before .before .before .before .before .before .before .before in let s = S (C l) in omega (arith, below l, few-tasks (s .args .plan) (planned s))
+
+loop-less : tie.Need-loop-less Inv-loop μ-loop
+loop-less c = let l = c .before .before .before .before .before .before .before .before .before .before .before .before .before .before .before in omega (arith, l .loop-test .taken)
+
+loop-again : tie.Need-loop-again Inv-loop μ-loop
+loop-again c = let t = c .before .before .before .before .before .before .before .before .before in let l = t .before .before .before .before .before .before in let s = S (C l) in t .step .ensures .further (B s) (s .pre) (below l) (l .before .loop .inv)
+
+same-length : tie.Need-same-length Inv-loop μ-loop
+same-length c = search needs
+
+same-length-2 : tie.Need-same-length-2 Inv-loop μ-loop
+same-length-2 c = search needs
+
+same-length-3 : tie.Need-same-length-3 Inv-loop μ-loop
+same-length-3 c = search needs
+
+same-length-4 : tie.Need-same-length-4 Inv-loop μ-loop
+same-length-4 c = search needs
+
+same-length-5 : tie.Need-same-length-5 Inv-loop μ-loop
+same-length-5 c = search needs
+
+returns : tie.Need-returns Inv-loop μ-loop
+returns c =
+    let t = c .before .before in
+    let s = S t in
+    let z = c .before .loop in
+    let e : z .k ≡ tasksOf (s .args .plan) = le-antisymm (z .inv .reached) (rw (t .task-count .ensures) at (c .loop-test .left)) in
+    ran-all (W s) (B s) (s .pre) (z .tally .idle) (z .tally .moved) (lent (z .spins) (z .labels) (z .greyed) (z .counts) (z .sizes)) (rw e at (z .inv))
+
+pub run-tasks-spec : {M : Type 1} → statement M
+run-tasks-spec =
+    tie.close
+    (tie.spec
+    Inv-loop
+    μ-loop
+    task-count-requires
+    loop-holds
+    step-requires
+    add-k
+    loop-less
+    loop-again
+    same-length
+    same-length-2
+    same-length-3
+    same-length-4
+    same-length-5
+    returns)

@@ -1,0 +1,101 @@
+-- What the functions that run a task ask and promise. Assumes nothing.
+use Prim.Native.Nat.{ℕ, _+_, _-_, _*_}
+use mathlib.Core.Path.{_≡_, refl, sym, _∙_, ap}
+use mathlib.Core.Logic.{_≢_}
+use mathlib.Core.Bool.{false}
+use mathlib.Core.List.{List}
+use lib.ListN.{length, getD, take, drop}
+use lib.IntN.{ℤ}
+use lib.Ieee.{Float, nan}
+use Rattle.paper.specs.declared.Group.{Group}
+use Rattle.paper.specs.declared.Answer.{Answer}
+use Rattle.paper.specs.declared.Answer.the-variants.{Refused, Idle, Moved}
+use Rattle.paper.specs.Panel.Input.{Buffers}
+use Rattle.paper.specs.Panel.Takes.{takesGreys, entries}
+use Rattle.paper.specs.Refusal.Kept.{Valid}
+use Rattle.paper.specs.Answer.Move.{Answers}
+use Rattle.paper.specs.Answer.Task.{Sweep, temperatureOf, part, groupOf, taskCall, taskChoices, areas}
+use Rattle.paper.specs.Answer.Sweep.{common, SameLengths}
+use Rattle.paper.specs.Law.Determined.{buffers-equal}
+use Rattle.moves.specs.Task.{callOf, choicesOf}
+use Rattle.tasks.specs.declared.Plan.{Plan}
+use Rattle.tasks.specs.Plan.{Placing, Bounding, lent}
+use Rattle.tasks.specs.Parts.{back, lent-part, lent-length, back-length, back-own, back-other, back-same}
+use Rattle.sweep.specs.Spinning.{length-after}
+use Rattle.sweep.specs.Ascending.{Steps}
+
+-- the task k of the sweep w, with its areas in b, can run
+pub record Ready (w : Sweep) (q : Plan) (k : ℕ) (b : Buffers) : Type 0 where
+  pub placing : Placing q k (w .order)
+  pub valid : Valid (taskCall w k) (taskChoices w k) b
+
+-- with the areas of all tasks in b
+abbrev pub ReadyIn : Sweep → Plan → ℕ → Buffers → Type 0
+ReadyIn w q k b = Ready w q k (areas w b (b .spins) k)
+
+-- these inputs are the task's
+pub record Parts (w : Sweep) (k : ℕ) (g : Group) (t : Float) (cs : List Float) (a b : ℕ) (fs ps gs : List ℕ) : Type 0 where
+  pub group : g ≡ groupOf w k
+  pub temperature : t ≡ getD (w .temperatures) (temperatureOf w k) nan
+  pub cuts : cs ≡ part k (w .lattice .n * w .lattice .d) (w .cuts)
+  pub reference : a ≡ getD (w .references) k 0
+  pub seed : b ≡ getD (w .seeds) k 0
+  pub flips : fs ≡ part k (w .lattice .n) (w .flips)
+  pub perms : ps ≡ part k (entries (w .form) (w .lattice .n) * w .members) (w .perms)
+  pub greys : gs ≡ part k (entries (w .form) (w .lattice .n)) (w .greys)
+
+module _ {w : Sweep} {k : ℕ} {g : Group} {t : Float} {cs : List Float} {a b : ℕ} {fs ps gs : List ℕ} (e : Parts w k g t cs a b fs ps gs) where
+  pub valid-parts : {x : Buffers} → Valid (taskCall w k) (taskChoices w k) x → Valid (callOf (w .mode) (w .form) (w .lattice .n) (w .lattice .d) (w .lattice .s) (w .lattice .fwd) (w .lattice .bwd) (w .lattice .couplings) g t cs a b) (choicesOf fs ps gs) x
+  valid-parts v = rw (e .group, e .temperature, e .cuts, e .reference, e .seed, e .flips, e .perms, e .greys) v
+
+  pub answers-parts : (x y : Buffers) (r : Answer) → Answers (callOf (w .mode) (w .form) (w .lattice .n) (w .lattice .d) (w .lattice .s) (w .lattice .fwd) (w .lattice .bwd) (w .lattice .couplings) g t cs a b) (choicesOf fs ps gs) x r y → Answers (taskCall w k) (taskChoices w k) x r y
+  answers-parts x y r h = rw (e .group, e .temperature, e .cuts, e .reference, e .seed, e .flips, e .perms, e .greys) at h
+
+-- ---- the task's areas, lent and put back
+module _ (w : Sweep) (k : ℕ) (b : Buffers) {la lb ga gb ca cb za zb : ℕ} (hl : Bounding (length (b .labels)) k (w .lattice .n) la lb) (hg : Bounding (length (b .greyLabels)) k (w .lattice .n) ga gb) (hc : Bounding (length (b .counts)) k (w .lattice .n + 1) ca cb) (hz : Bounding (length (b .sizes)) k 4 za zb) where
+  abbrev pub lentAreas : Buffers
+  lentAreas = lent (b .spins) (take (lb - la) (drop la (b .labels))) (take (gb - ga) (drop ga (b .greyLabels))) (take (cb - ca) (drop ca (b .counts))) (take (zb - za) (drop za (b .sizes)))
+
+  pub areas-lent : areas w b (b .spins) k ≡ lentAreas
+  areas-lent = buffers-equal _ _ refl (sym (lent-part (b .labels) k (w .lattice .n) la lb hl)) (sym (lent-part (b .greyLabels) k (w .lattice .n) ga gb hg)) (sym (lent-part (b .counts) k (w .lattice .n + 1) ca cb hc)) (sym (lent-part (b .sizes) k 4 za zb hz))
+
+  module _ (xs : List ℤ) (ls gs cs zs : List ℕ) (kl : length ls ≡ length (lentAreas .labels)) (kg : length gs ≡ length (lentAreas .greyLabels)) (kc : length cs ≡ length (lentAreas .counts)) (kz : length zs ≡ length (lentAreas .sizes)) (r : Answer) (h : Answers (taskCall w k) (taskChoices w k) lentAreas r (lent xs ls gs cs zs)) where
+    el : length ls ≡ lb - la
+    el = kl ∙ lent-length (b .labels) k (w .lattice .n) la lb hl
+
+    eg : length gs ≡ gb - ga
+    eg = kg ∙ lent-length (b .greyLabels) k (w .lattice .n) ga gb hg
+
+    ec : length cs ≡ cb - ca
+    ec = kc ∙ lent-length (b .counts) k (w .lattice .n + 1) ca cb hc
+
+    ez : length zs ≡ zb - za
+    ez = kz ∙ lent-length (b .sizes) k 4 za zb hz
+
+    abbrev put : Buffers
+    put = lent xs (back (b .labels) la lb ls) (back (b .greyLabels) ga gb gs) (back (b .counts) ca cb cs) (back (b .sizes) za zb zs)
+
+    areas-put : areas w put xs k ≡ lent xs ls gs cs zs
+    areas-put = buffers-equal _ _ refl (back-own (b .labels) k (w .lattice .n) la lb hl ls el) (back-own (b .greyLabels) k (w .lattice .n) ga gb hg gs eg) (back-own (b .counts) k (w .lattice .n + 1) ca cb hc cs ec) (back-own (b .sizes) k 4 za zb hz zs ez)
+
+    areas-apart : (j : ℕ) → j ≢ k → areas w put (b .spins) j ≡ areas w b (b .spins) j
+    areas-apart j ne = buffers-equal _ _ refl (back-other (b .labels) k (w .lattice .n) la lb hl ls el 0 j ne) (back-other (b .greyLabels) k (w .lattice .n) ga gb hg gs eg 0 j ne) (back-other (b .counts) k (w .lattice .n + 1) ca cb hc cs ec 0 j ne) (back-other (b .sizes) k 4 za zb hz zs ez 0 j ne)
+
+    grey-still : (r : Answer) → Answers (taskCall w k) (taskChoices w k) lentAreas r (lent xs ls gs cs zs) → takesGreys (common w) ≡ false → gs ≡ take (gb - ga) (drop ga (b .greyLabels))
+    grey-still (Refused n) a e = ap (λ (z : Buffers). z .greyLabels) (a .kept)
+    grey-still Idle a e = a .seen .grey-kept e
+    grey-still Moved a e = a .seen .grey-kept e
+
+    pub steps-put : Steps w k b r put
+    steps-put = record {
+      answers = rw (areas-lent, areas-put) h;
+      lengths = record {
+        spins = length-after (taskCall w k) (taskChoices w k) lentAreas (lent xs ls gs cs zs) r h;
+        labels = back-length (b .labels) k (w .lattice .n) la lb hl ls el;
+        counts = back-length (b .counts) k (w .lattice .n + 1) ca cb hc cs ec;
+        sizes = back-length (b .sizes) k 4 za zb hz zs ez;
+        grey-labels = back-length (b .greyLabels) k (w .lattice .n) ga gb hg gs eg;
+      };
+      apart = areas-apart;
+      grey-kept = λ e. back-same (b .greyLabels) k (w .lattice .n) ga gb hg gs eg (grey-still r h e ∙ lent-part (b .greyLabels) k (w .lattice .n) ga gb hg);
+    }

@@ -1,0 +1,77 @@
+-- One turn of the sweep's loop. Assumes nothing.
+use Prim.Native.Nat.{ℕ, zero, suc, _+_, _≤_, _<_}
+use mathlib.Core.Path.{_≡_, refl, sym, _∙_}
+use mathlib.Core.Bool.{Bool, true, false}
+use mathlib.Core.List.{List}
+use native.Mathlib.Omega.{arith}
+use Rattle.paper.specs.declared.Answer.{Answer}
+use Rattle.paper.specs.Panel.Input.{Buffers}
+use Rattle.paper.specs.Component.Sizes.{bit, countWhere}
+use Rattle.paper.specs.Refusal.Rule.{Kept}
+use Rattle.paper.specs.Refusal.Kept.{Valid}
+use Rattle.paper.specs.Answer.Task.{Sweep, tasks, masked, taskCall, taskChoices, areas}
+use Rattle.paper.specs.Answer.Sweep.{sweepRules}
+use Rattle.tasks.specs.declared.Plan.{Plan}
+use Rattle.tasks.specs.Plan.{Placing}
+use Rattle.sweep.specs.declared.Tally.{Tally}
+use Rattle.sweep.specs.Ascending.{Ran, Steps, isIdle, isMoved, idleBy, movedBy, ran-masked, ran-more}
+
+-- the counts can grow
+pub record Room (t : Tally) : Type 0 where
+  pub idle : t .idle ≤ 64
+  pub moved : t .moved ≤ 64
+
+pub record Added (t : Tally) (a : Answer) (t′ : Tally) : Type 0 where
+  pub idle : t′ .idle ≡ t .idle + idleBy a
+  pub moved : t′ .moved ≡ t .moved + movedBy a
+
+pub record Turn (w : Sweep) (q : Plan) (k : ℕ) (t : Tally) (b : Buffers) : Type 0 where
+  pub placing : Placing q k (w .order)
+  pub room : Room t
+  pub valid : masked w k ≡ false → Valid (taskCall w k) (taskChoices w k) (areas w b (b .spins) k)
+
+-- a turn takes a sweep in which the first k tasks have run to one in which k + 1 have
+pub record Turned (w : Sweep) (k : ℕ) (t : Tally) (b : Buffers) (t′ : Tally) (b′ : Buffers) : Type 0 where
+  pub further : (b₀ : Buffers) → Kept (sweepRules w b₀) → k < tasks w → Ran w b₀ k (t .idle) (t .moved) b → Ran w b₀ (k + 1) (t′ .idle) (t′ .moved) b′
+
+-- the masks do not matter to a task that runs
+abbrev pub remasked : Sweep → List ℕ → Sweep
+remasked w masks = record {
+  mode = w .mode;
+  form = w .form;
+  lattice = w .lattice;
+  t = w .t;
+  r = w .r;
+  members = w .members;
+  order = w .order;
+  masks = masks;
+  temperatures = w .temperatures;
+  cuts = w .cuts;
+  references = w .references;
+  seeds = w .seeds;
+  flips = w .flips;
+  perms = w .perms;
+  greys = w .greys;
+}
+
+pub remask : (w : Sweep) (masks : List ℕ) {k : ℕ} {b : Buffers} {a : Answer} {b′ : Buffers} → Steps w k b a b′ → Steps (remasked w masks) k b a b′
+remask w masks s = record { answers = s .answers; lengths = s .lengths; apart = s .apart; grey-kept = s .grey-kept }
+
+pub turned-masked : (w : Sweep) (k : ℕ) (t : Tally) (b : Buffers) → masked w k ≡ true → Turned w k t b t b
+turned-masked w k t b e = record { further = λ b₀ v l h. ran-masked w b₀ v k (t .idle) (t .moved) b l h e }
+
+pub turned-one : (w : Sweep) (k : ℕ) (t : Tally) (b : Buffers) (a : Answer) (t′ : Tally) (b′ : Buffers) → masked w k ≡ false → Steps w k b a b′ → Added t a t′ → Turned w k t b t′ b′
+turned-one w k t b a t′ b′ e s d = record { further = λ b₀ v l h. rw (d .idle, d .moved) (ran-more w b₀ v k (t .idle) (t .moved) b l h e a b′ s) }
+
+-- no more are counted than there are
+count-most : (f : ℕ → Bool) (m : ℕ) → countWhere f m ≤ m
+unfolding countWhere
+count-most f zero = omega arith
+count-most f (suc m) = more (f m) (count-most f m)
+  where
+    more : (t : Bool) → countWhere f m ≤ m → countWhere f m + bit t ≤ suc m
+    more true h = omega arith
+    more false h = omega arith
+
+pub room-of : (w : Sweep) (b : Buffers) (k : ℕ) (t : Tally) (b′ : Buffers) → tasks w ≤ 64 → Ran w b k (t .idle) (t .moved) b′ → Room t
+room-of w b k t b′ few h = record { idle = omega (arith, h .reached, h .idles, count-most (isIdle w (b .spins)) k); moved = omega (arith, h .reached, h .moveds, count-most (isMoved w (b .spins)) k) }
