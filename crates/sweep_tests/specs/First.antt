@@ -1,22 +1,31 @@
 -- Tests 1 to 7 and the mask bytes, over the whole sweep. Assumes nothing.
-use Prim.Native.Nat.{ℕ, zero, suc, _≤_, _<_}
+use Prim.Native.Nat.{ℕ, zero, suc, _*_, _≤_, _<_}
 use mathlib.Core.Path.{_≡_, refl}
 use mathlib.Core.List.{List, [], _∷_, _++_}
 use native.Mathlib.Omega.{arith}
-use lib.ListN.{getD}
+use lib.ListN.{length, getD}
 use lib.IntN.{ℤ}
 use lib.Ieee.{Float, nan}
+use Rattle.paper.specs.Panel.Input.{Buffers}
 use Rattle.paper.specs.Panel.Takes.{drawsBonds}
 use Rattle.paper.specs.Refusal.Rule.{Rule, rule, Kept}
 use Rattle.paper.specs.Refusal.Rules.{When, Spins, Inverse, Permutes, SmallCouplings, Warm}
 use Rattle.paper.specs.Refusal.Verdict.{Verdict, broken-first}
+use Rattle.paper.specs.Answer.Task.{Sweep}
 use Rattle.tasks.specs.declared.Plan.{Plan}
-use Rattle.tasks.specs.Plan.{Planned}
-use Rattle.sweep_tests.specs.declared.SweepLengths.{SweepLengths}
-use Rattle.sweep_tests.specs.Lengths.{Fitting}
+use Rattle.sweep_sizes.specs.declared.SweepLengths.{SweepLengths}
+use Rattle.sweep_sizes.specs.Lengths.{sizeRules}
 
-abbrev pub sizeRules : Plan → SweepLengths → List Rule
-sizeRules q l = rule 1 (Planned q) ∷ rule 2 (Fitting q l) ∷ []
+-- what the tests on the panel and on the temperatures lean on
+pub record PanelLong (q : Plan) (fwd bwd order : List ℕ) : Type 0 where
+  pub few : q .s ≤ 64
+  pub fwd-long : length fwd ≡ q .n * q .d
+  pub bwd-long : length bwd ≡ q .n * q .d
+  pub order-long : length order ≡ q .s
+
+pub record HeatLong (q : Plan) (temperatures : List Float) (masks : List ℕ) : Type 0 where
+  pub temperatures-long : When (drawsBonds (q .mode)) (length temperatures ≡ q .t)
+  pub masks-long : length masks ≡ q .t
 
 abbrev pub panelRules : Plan → List ℤ → List ℕ → List ℕ → List ℕ → List Rule
 panelRules q spins fwd bwd order =
@@ -35,8 +44,33 @@ heatRules q couplings temperatures masks =
     ∷ rule 9 ((j : ℕ) → j < q .t → getD masks j 0 ≤ 1)
     ∷ []
 
-abbrev pub firstRules : Plan → List ℤ → List ℕ → List ℕ → List ℤ → List ℕ → List ℕ → List Float → SweepLengths → List Rule
-firstRules q spins fwd bwd couplings order masks temperatures l = sizeRules q l ++ (panelRules q spins fwd bwd order ++ heatRules q couplings temperatures masks)
+-- the lengths of all that is lent
+abbrev pub lengthsAll : Sweep → Buffers → SweepLengths
+lengthsAll w b = record {
+  spins = length (b .spins);
+  fwd = length (w .lattice .fwd);
+  bwd = length (w .lattice .bwd);
+  couplings = length (w .lattice .couplings);
+  order = length (w .order);
+  masks = length (w .masks);
+  temperatures = length (w .temperatures);
+  cuts = length (w .cuts);
+  references = length (w .references);
+  seeds = length (w .seeds);
+  flips = length (w .flips);
+  perms = length (w .perms);
+  greys = length (w .greys);
+  labels = length (b .labels);
+  greyed = length (b .greyLabels);
+  counts = length (b .counts);
+  sizes = length (b .sizes);
+}
+
+abbrev pub firstRules : Plan → Sweep → Buffers → List Rule
+firstRules q w b =
+    sizeRules q (lengthsAll w b)
+    ++ (panelRules q (b .spins) (w .lattice .fwd) (w .lattice .bwd) (w .order)
+    ++ heatRules q (w .lattice .couplings) (w .temperatures) (w .masks))
 
 -- ---- a list of rules after another
 pub first-broken : (rs qs : List Rule) (r : ℕ) → (r ≡ 0 → ⊥) → Verdict rs r → Verdict (rs ++ qs) r

@@ -1,4 +1,3 @@
-pub mod Lengths
 pub mod First
 pub mod Tasks
 pub mod Whole

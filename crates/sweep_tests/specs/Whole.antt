@@ -3,7 +3,6 @@ use Prim.Native.Nat.{ℕ, zero, suc}
 use mathlib.Core.Path.{_≡_, refl}
 use mathlib.Core.Logic.{inl, inr}
 use mathlib.Core.List.{List, _++_}
-use lib.ListN.{length}
 use lib.IntN.{ℤ}
 use lib.Ieee.{Float}
 use Rattle.paper.specs.Panel.Input.{Buffers}
@@ -13,38 +12,16 @@ use Rattle.paper.specs.Answer.Task.{Sweep, tasks}
 use Rattle.paper.specs.Answer.Sweep.{SweepRanged, SweepExact, taskRules, sweepRules}
 use Rattle.tasks.specs.declared.Plan.{Plan}
 use Rattle.tasks.specs.Plan.{Planned, sweepOf}
-use Rattle.sweep_tests.specs.declared.SweepLengths.{SweepLengths}
-use Rattle.sweep_tests.specs.Lengths.{Fitting}
-use Rattle.sweep_tests.specs.First.{panelRules, heatRules, firstRules}
+use Rattle.sweep_sizes.specs.Lengths.{Fitting}
+use Rattle.sweep_tests.specs.First.{panelRules, heatRules, lengthsAll, firstRules}
 use Rattle.sweep_tests.specs.Tasks.{SweepTested}
-
-abbrev pub lengthsAll : Sweep → Buffers → SweepLengths
-lengthsAll w b = record {
-  spins = length (b .spins);
-  fwd = length (w .lattice .fwd);
-  bwd = length (w .lattice .bwd);
-  couplings = length (w .lattice .couplings);
-  order = length (w .order);
-  masks = length (w .masks);
-  temperatures = length (w .temperatures);
-  cuts = length (w .cuts);
-  references = length (w .references);
-  seeds = length (w .seeds);
-  flips = length (w .flips);
-  perms = length (w .perms);
-  greys = length (w .greys);
-  labels = length (b .labels);
-  greyed = length (b .greyLabels);
-  counts = length (b .counts);
-  sizes = length (b .sizes);
-}
 
 module _ (q : Plan) (fwd bwd : List ℕ) (couplings : List ℤ) (order masks : List ℕ) (temperatures cuts : List Float) (references seeds flips perms greys : List ℕ) (b : Buffers) where
   abbrev w : Sweep
   w = sweepOf q fwd bwd couplings order masks temperatures cuts references seeds flips perms greys
 
   abbrev first : List Rule
-  first = firstRules q (b .spins) fwd bwd couplings order masks temperatures (lengthsAll w b)
+  first = firstRules q w b
 
   abbrev middle : List Rule
   middle = panelRules q (b .spins) fwd bwd order ++ heatRules q couplings temperatures masks

@@ -10,8 +10,8 @@ use Rattle.paper.specs.Component.Marks.{told, denied, passed, refused}
 use Rattle.paper.specs.Refusal.Rules.{Ranged}
 use Rattle.tasks.specs.Plan.{Planned, t-fits, r-fits}
 use Rattle.lattice.specs.Telling.{Test, same, both, either, test-lt, test-eq, test-le}
-use Rattle.sweep_tests.proofs.plan_ok.Statement.{statement}
-use Rattle.sweep_tests.proofs.plan_ok.Tie as tie
+use Rattle.sweep_sizes.proofs.plan_ok.Statement.{statement}
+use Rattle.sweep_sizes.proofs.plan_ok.Tie as tie
 
 ranged-requires : tie.Need-ranged-requires
 ranged-requires c κs = search needs

@@ -7,9 +7,9 @@ use Rattle.paper.specs.Panel.Takes.{flipsBy, permsBy, greysBy, isGperm, isWolff
 use Rattle.paper.specs.Refusal.Rules.{When}
 use Rattle.tasks.specs.Plan.{tasksOf, few-tasks, few-rows}
 use Rattle.lattice.specs.Telling.{said, same, both}
-use Rattle.sweep_tests.specs.Lengths.{Chosen}
-use Rattle.sweep_tests.proofs.chosen_ok.Statement.{statement}
-use Rattle.sweep_tests.proofs.chosen_ok.Tie as tie
+use Rattle.sweep_sizes.specs.Lengths.{Chosen}
+use Rattle.sweep_sizes.proofs.chosen_ok.Statement.{statement}
+use Rattle.sweep_sizes.proofs.chosen_ok.Tie as tie
 
 few : (d : tie.After-task-count) → d .task-count .result ≤ 64
 few d = rw (d .task-count .ensures) (few-tasks (d .before .args .plan) (d .before .pre))

@@ -1,6 +1,6 @@
 use Rattle.lattice.specs.Telling.{implies, test-eq, test-is}
-use Rattle.sweep_tests.proofs.fits.Statement.{statement}
-use Rattle.sweep_tests.proofs.fits.Tie as tie
+use Rattle.sweep_sizes.proofs.fits.Statement.{statement}
+use Rattle.sweep_sizes.proofs.fits.Tie as tie
 
 returns : tie.Need-returns
 returns c = let a = c .args in implies (test-is (a .taken)) (test-eq (a .len) (a .want)) .says

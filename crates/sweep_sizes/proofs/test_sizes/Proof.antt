@@ -5,9 +5,9 @@ use mathlib.Core.Bool.{_&&_}
 use Rattle.paper.specs.Component.Marks.{told, denied, passed, refused}
 use Rattle.tasks.specs.Plan.{Planned}
 use Rattle.lattice.specs.Telling.{Test, said, same, both}
-use Rattle.sweep_tests.specs.Lengths.{Always, Drawn, Chosen, Fitting}
-use Rattle.sweep_tests.proofs.test_sizes.Statement.{statement}
-use Rattle.sweep_tests.proofs.test_sizes.Tie as tie
+use Rattle.sweep_sizes.specs.Lengths.{Always, Drawn, Chosen, Fitting}
+use Rattle.sweep_sizes.proofs.test_sizes.Statement.{statement}
+use Rattle.sweep_sizes.proofs.test_sizes.Tie as tie
 
 planned : (e : tie.Else1) → Planned (e .before .before .args .plan)
 planned e = passed (e .before .plan-ok .result) (e .if1 .left) (e .before .plan-ok .ensures)

@@ -1,6 +1,6 @@
 use borrow.Author.Needs.{needs}
-use Rattle.sweep_tests.proofs.flips_by.Statement.{statement}
-use Rattle.sweep_tests.proofs.flips_by.Tie as tie
+use Rattle.sweep_sizes.proofs.flips_by.Statement.{statement}
+use Rattle.sweep_sizes.proofs.flips_by.Tie as tie
 
 is-sw-requires : tie.Need-is-sw-requires
 is-sw-requires c κs = search needs

@@ -1,14 +1,13 @@
 -- The exact lengths of what a sweep is lent, as the functions are handed them. Assumes nothing.
-use Prim.Native.Nat.{ℕ, _+_, _*_, _≤_}
+use Prim.Native.Nat.{_+_, _*_}
 use mathlib.Core.Path.{_≡_}
-use mathlib.Core.List.{List}
-use lib.ListN.{length}
-use lib.Ieee.{Float}
+use mathlib.Core.List.{List, [], _∷_}
 use Rattle.paper.specs.Panel.Takes.{drawsBonds, flipsBy, permsBy, greysBy, isGperm, isWolff, entries}
+use Rattle.paper.specs.Refusal.Rule.{Rule, rule}
 use Rattle.paper.specs.Refusal.Rules.{When}
 use Rattle.tasks.specs.declared.Plan.{Plan}
-use Rattle.tasks.specs.Plan.{tasksOf}
-use Rattle.sweep_tests.specs.declared.SweepLengths.{SweepLengths}
+use Rattle.tasks.specs.Plan.{Planned, tasksOf}
+use Rattle.sweep_sizes.specs.declared.SweepLengths.{SweepLengths}
 
 -- of what every mode and form is lent
 pub record Always (q : Plan) (l : SweepLengths) : Type 0 where
@@ -41,21 +40,5 @@ pub record Fitting (q : Plan) (l : SweepLengths) : Type 0 where
   pub drawn : Drawn q l
   pub chosen : Chosen q l
 
--- l has the lengths of these buffers
-pub record Measured (fwd bwd order masks : List ℕ) (temperatures : List Float) (l : SweepLengths) : Type 0 where
-  pub fwd-is : l .fwd ≡ length fwd
-  pub bwd-is : l .bwd ≡ length bwd
-  pub order-is : l .order ≡ length order
-  pub masks-is : l .masks ≡ length masks
-  pub temperatures-is : l .temperatures ≡ length temperatures
-
--- what the tests on the panel and on the temperatures lean on
-pub record PanelLong (q : Plan) (fwd bwd order : List ℕ) : Type 0 where
-  pub few : q .s ≤ 64
-  pub fwd-long : length fwd ≡ q .n * q .d
-  pub bwd-long : length bwd ≡ q .n * q .d
-  pub order-long : length order ≡ q .s
-
-pub record HeatLong (q : Plan) (temperatures : List Float) (masks : List ℕ) : Type 0 where
-  pub temperatures-long : When (drawsBonds (q .mode)) (length temperatures ≡ q .t)
-  pub masks-long : length masks ≡ q .t
+abbrev pub sizeRules : Plan → SweepLengths → List Rule
+sizeRules q l = rule 1 (Planned q) ∷ rule 2 (Fitting q l) ∷ []

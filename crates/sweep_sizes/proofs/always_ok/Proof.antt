@@ -4,9 +4,9 @@ use native.Mathlib.Nat.{mul-le-mul}
 use native.Mathlib.Omega.{arith}
 use Rattle.tasks.specs.Plan.{tasksOf, few-tasks}
 use Rattle.lattice.specs.Telling.{same, both, test-eq}
-use Rattle.sweep_tests.specs.Lengths.{Always}
-use Rattle.sweep_tests.proofs.always_ok.Statement.{statement}
-use Rattle.sweep_tests.proofs.always_ok.Tie as tie
+use Rattle.sweep_sizes.specs.Lengths.{Always}
+use Rattle.sweep_sizes.proofs.always_ok.Statement.{statement}
+use Rattle.sweep_sizes.proofs.always_ok.Tie as tie
 
 few : (d : tie.After-task-count) → d .task-count .result ≤ 64
 few d = rw (d .task-count .ensures) (few-tasks (d .before .args .plan) (d .before .pre))
