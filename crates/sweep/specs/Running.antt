@@ -18,20 +18,23 @@ use Rattle.paper.specs.Answer.Task.{Sweep, temperatureOf, part, groupOf, taskCa
 use Rattle.paper.specs.Answer.Sweep.{common, SameLengths}
 use Rattle.paper.specs.Law.Determined.{buffers-equal}
 use Rattle.moves.specs.Task.{callOf, choicesOf}
-use Rattle.tasks.specs.declared.Plan.{Plan}
-use Rattle.tasks.specs.Plan.{Placing, Bounding, lent}
+use Rattle.tasks.specs.Plan.{Placing, Bounding, planOf, lent}
 use Rattle.tasks.specs.Parts.{back, lent-part, lent-length, back-length, back-own, back-other, back-same}
 use Rattle.sweep.specs.Spinning.{length-after}
 use Rattle.sweep.specs.Ascending.{Steps}
 
 -- the task k of the sweep w, with its areas in b, can run
-pub record Ready (w : Sweep) (q : Plan) (k : ℕ) (b : Buffers) : Type 0 where
-  pub placing : Placing q k (w .order)
+pub record Ready (w : Sweep) (k : ℕ) (b : Buffers) : Type 0 where
+  pub placing : Placing (planOf w) k (w .order)
   pub valid : Valid (taskCall w k) (taskChoices w k) b
 
 -- with the areas of all tasks in b
-abbrev pub ReadyIn : Sweep → Plan → ℕ → Buffers → Type 0
-ReadyIn w q k b = Ready w q k (areas w b (b .spins) k)
+abbrev pub ReadyIn : Sweep → ℕ → Buffers → Type 0
+ReadyIn w k b = Ready w k (areas w b (b .spins) k)
+
+-- the task k, lent the buffers b, answers r and leaves b′
+abbrev pub TaskAnswers : Sweep → ℕ → Buffers → Answer → Buffers → Type 0
+TaskAnswers w k b r b′ = Answers (taskCall w k) (taskChoices w k) b r b′
 
 -- these inputs are the task's
 pub record Parts (w : Sweep) (k : ℕ) (g : Group) (t : Float) (cs : List Float) (a b : ℕ) (fs ps gs : List ℕ) : Type 0 where

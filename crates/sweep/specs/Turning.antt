@@ -11,8 +11,7 @@ use Rattle.paper.specs.Refusal.Rule.{Kept}
 use Rattle.paper.specs.Refusal.Kept.{Valid}
 use Rattle.paper.specs.Answer.Task.{Sweep, tasks, masked, taskCall, taskChoices, areas}
 use Rattle.paper.specs.Answer.Sweep.{sweepRules}
-use Rattle.tasks.specs.declared.Plan.{Plan}
-use Rattle.tasks.specs.Plan.{Placing}
+use Rattle.tasks.specs.Plan.{Placing, planOf}
 use Rattle.sweep.specs.declared.Tally.{Tally}
 use Rattle.sweep.specs.Ascending.{Ran, Steps, isIdle, isMoved, idleBy, movedBy, ran-masked, ran-more}
 
@@ -25,8 +24,8 @@ pub record Added (t : Tally) (a : Answer) (t′ : Tally) : Type 0 where
   pub idle : t′ .idle ≡ t .idle + idleBy a
   pub moved : t′ .moved ≡ t .moved + movedBy a
 
-pub record Turn (w : Sweep) (q : Plan) (k : ℕ) (t : Tally) (b : Buffers) : Type 0 where
-  pub placing : Placing q k (w .order)
+pub record Turn (w : Sweep) (k : ℕ) (t : Tally) (b : Buffers) : Type 0 where
+  pub placing : Placing (planOf w) k (w .order)
   pub room : Room t
   pub valid : masked w k ≡ false → Valid (taskCall w k) (taskChoices w k) (areas w b (b .spins) k)
 

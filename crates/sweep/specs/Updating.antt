@@ -3,7 +3,6 @@ use Prim.Native.Nat.{ℕ, zero, suc}
 use mathlib.Core.Path.{_≡_, refl}
 use mathlib.Core.List.{List}
 use lib.IntN.{ℤ}
-use lib.ListN.{length}
 use lib.Ieee.{Float}
 use Rattle.paper.specs.declared.Mode.{Mode}
 use Rattle.paper.specs.declared.Form.{Form}
@@ -11,7 +10,6 @@ use Rattle.paper.specs.Panel.Input.{Lattice, Buffers}
 use Rattle.paper.specs.Refusal.Verdict.{Verdict}
 use Rattle.paper.specs.Answer.Task.{Sweep}
 use Rattle.paper.specs.Answer.Sweep.{sweepRules, SweepRefuses}
-use Rattle.sweep_tests.specs.declared.SweepLengths.{SweepLengths}
 
 -- the paper's sweep of these inputs
 abbrev pub sweepFor : Mode → Form → ℕ → ℕ → ℕ → ℕ → ℕ → ℕ → List ℕ → List ℕ → List ℤ → List ℕ → List ℕ → List Float → List Float → List ℕ → List ℕ → List ℕ → List ℕ → List ℕ → Sweep
@@ -31,28 +29,6 @@ sweepFor mode form n d s t r members fwd bwd couplings order masks temperatures 
   flips = flips;
   perms = perms;
   greys = greys;
-}
-
--- the lengths of what is lent
-abbrev pub measured : List ℤ → List ℕ → List ℕ → List ℤ → List ℕ → List ℕ → List Float → List Float → List ℕ → List ℕ → List ℕ → List ℕ → List ℕ → List ℕ → List ℕ → List ℕ → List ℕ → SweepLengths
-measured spins fwd bwd couplings order masks temperatures cuts references seeds flips perms greys labels greyed counts sizes = record {
-  spins = length spins;
-  fwd = length fwd;
-  bwd = length bwd;
-  couplings = length couplings;
-  order = length order;
-  masks = length masks;
-  temperatures = length temperatures;
-  cuts = length cuts;
-  references = length references;
-  seeds = length seeds;
-  flips = length flips;
-  perms = length perms;
-  greys = length greys;
-  labels = length labels;
-  greyed = length greyed;
-  counts = length counts;
-  sizes = length sizes;
 }
 
 -- a fault refuses the sweep, and nothing has been written

@@ -3,17 +3,13 @@ use paper::Answer;
 use paper::Form;
 use paper::Mode;
 use paper::SweepAnswer;
-use sweep_tests::SweepLengths;
 use tasks::Plan;
-ghost use mathlib.Core.Path.{_≡_};
 ghost use mathlib.Core.List.{[]};
 ghost use Rattle.paper.specs.Refusal.Rule.{Kept};
-ghost use Rattle.paper.specs.Answer.Move.{Answers};
 ghost use Rattle.paper.specs.Answer.Sweep.{sweepRules, SweepAnswers};
-ghost use Rattle.paper.specs.Answer.Task.{taskCall, taskChoices};
 ghost use Rattle.tasks.specs.Plan.{sweepOf, lent};
-ghost use Rattle.sweep.specs.Running.{Ready, ReadyIn};
-ghost use Rattle.sweep.specs.Updating.{measured, sweepFor};
+ghost use Rattle.sweep.specs.Running.{Ready, ReadyIn, TaskAnswers};
+ghost use Rattle.sweep.specs.Updating.{sweepFor};
 ghost use Rattle.sweep.specs.Turning.{Room, Added, Turn, Turned};
 ghost use Rattle.sweep.specs.Ascending.{Steps};
 
@@ -38,8 +34,15 @@ fn run_parts(
     counts: &mut [u32],
     sizes: &mut [u32],
 ) -> Answer
-    requires { ⌜ Ready (sweepOf plan (now fwd) (now bwd) (now couplings) (now order) [] (now temperatures) (now cuts) (now references) (now seeds) (now flips) (now perms) (now greys)) plan k (lent (now spins) (now labels) (now greyed) (now counts) (now sizes)) ⌝ }
-    ensures { λ r. ⌜ Answers (taskCall (sweepOf plan (now (fwd .entry)) (now (bwd .entry)) (now (couplings .entry)) (now (order .entry)) [] (now (temperatures .entry)) (now (cuts .entry)) (now (references .entry)) (now (seeds .entry)) (now (flips .entry)) (now (perms .entry)) (now (greys .entry))) k) (taskChoices (sweepOf plan (now (fwd .entry)) (now (bwd .entry)) (now (couplings .entry)) (now (order .entry)) [] (now (temperatures .entry)) (now (cuts .entry)) (now (references .entry)) (now (seeds .entry)) (now (flips .entry)) (now (perms .entry)) (now (greys .entry))) k) (lent (now (spins .entry)) (now (labels .entry)) (now (greyed .entry)) (now (counts .entry)) (now (sizes .entry))) r (lent (now (spins .exit)) (now (labels .exit)) (now (greyed .exit)) (now (counts .exit)) (now (sizes .exit))) ⌝ }
+    requires { ⌜ Ready
+        (sweepOf plan (now fwd) (now bwd) (now couplings) (now order) [] (now temperatures) (now cuts)
+        (now references) (now seeds) (now flips) (now perms) (now greys))
+        k (lent (now spins) (now labels) (now greyed) (now counts) (now sizes)) ⌝ }
+    ensures { λ r. ⌜ TaskAnswers
+        (sweepOf plan (now (fwd .entry)) (now (bwd .entry)) (now (couplings .entry)) (now (order .entry)) []
+        (now (temperatures .entry)) (now (cuts .entry)) (now (references .entry)) (now (seeds .entry)) (now (flips .entry)) (now (perms .entry)) (now (greys .entry)))
+        k (lent (now (spins .entry)) (now (labels .entry)) (now (greyed .entry)) (now (counts .entry)) (now (sizes .entry))) r
+        (lent (now (spins .exit)) (now (labels .exit)) (now (greyed .exit)) (now (counts .exit)) (now (sizes .exit))) ⌝ }
 {
     let mode = plan.mode;
     let form = plan.form;
@@ -89,8 +92,15 @@ fn run_one(
     counts: &mut [u32],
     sizes: &mut [u32],
 ) -> Answer
-    requires { ⌜ ReadyIn (sweepOf plan (now fwd) (now bwd) (now couplings) (now order) [] (now temperatures) (now cuts) (now references) (now seeds) (now flips) (now perms) (now greys)) plan k (lent (now spins) (now labels) (now greyed) (now counts) (now sizes)) ⌝ }
-    ensures { λ r. ⌜ Steps (sweepOf plan (now (fwd .entry)) (now (bwd .entry)) (now (couplings .entry)) (now (order .entry)) [] (now (temperatures .entry)) (now (cuts .entry)) (now (references .entry)) (now (seeds .entry)) (now (flips .entry)) (now (perms .entry)) (now (greys .entry))) k (lent (now (spins .entry)) (now (labels .entry)) (now (greyed .entry)) (now (counts .entry)) (now (sizes .entry))) r (lent (now (spins .exit)) (now (labels .exit)) (now (greyed .exit)) (now (counts .exit)) (now (sizes .exit))) ⌝ }
+    requires { ⌜ ReadyIn
+        (sweepOf plan (now fwd) (now bwd) (now couplings) (now order) [] (now temperatures) (now cuts)
+        (now references) (now seeds) (now flips) (now perms) (now greys))
+        k (lent (now spins) (now labels) (now greyed) (now counts) (now sizes)) ⌝ }
+    ensures { λ r. ⌜ Steps
+        (sweepOf plan (now (fwd .entry)) (now (bwd .entry)) (now (couplings .entry)) (now (order .entry)) []
+        (now (temperatures .entry)) (now (cuts .entry)) (now (references .entry)) (now (seeds .entry)) (now (flips .entry)) (now (perms .entry)) (now (greys .entry)))
+        k (lent (now (spins .entry)) (now (labels .entry)) (now (greyed .entry)) (now (counts .entry)) (now (sizes .entry))) r
+        (lent (now (spins .exit)) (now (labels .exit)) (now (greyed .exit)) (now (counts .exit)) (now (sizes .exit))) ⌝ }
 {
     let n = plan.n;
     let label = tasks::bounds(labels.len(), k, n);
@@ -173,8 +183,15 @@ fn step(
     counts: &mut [u32],
     sizes: &mut [u32],
 ) -> Tally
-    requires { ⌜ Turn (sweepOf plan (now fwd) (now bwd) (now couplings) (now order) (now masks) (now temperatures) (now cuts) (now references) (now seeds) (now flips) (now perms) (now greys)) plan k tally (lent (now spins) (now labels) (now greyed) (now counts) (now sizes)) ⌝ }
-    ensures { λ r. ⌜ Turned (sweepOf plan (now (fwd .entry)) (now (bwd .entry)) (now (couplings .entry)) (now (order .entry)) (now (masks .entry)) (now (temperatures .entry)) (now (cuts .entry)) (now (references .entry)) (now (seeds .entry)) (now (flips .entry)) (now (perms .entry)) (now (greys .entry))) k tally (lent (now (spins .entry)) (now (labels .entry)) (now (greyed .entry)) (now (counts .entry)) (now (sizes .entry))) r (lent (now (spins .exit)) (now (labels .exit)) (now (greyed .exit)) (now (counts .exit)) (now (sizes .exit))) ⌝ }
+    requires { ⌜ Turn
+        (sweepOf plan (now fwd) (now bwd) (now couplings) (now order) (now masks) (now temperatures) (now cuts)
+        (now references) (now seeds) (now flips) (now perms) (now greys))
+        k tally (lent (now spins) (now labels) (now greyed) (now counts) (now sizes)) ⌝ }
+    ensures { λ r. ⌜ Turned
+        (sweepOf plan (now (fwd .entry)) (now (bwd .entry)) (now (couplings .entry)) (now (order .entry)) (now (masks .entry))
+        (now (temperatures .entry)) (now (cuts .entry)) (now (references .entry)) (now (seeds .entry)) (now (flips .entry)) (now (perms .entry)) (now (greys .entry)))
+        k tally (lent (now (spins .entry)) (now (labels .entry)) (now (greyed .entry)) (now (counts .entry)) (now (sizes .entry))) r
+        (lent (now (spins .exit)) (now (labels .exit)) (now (greyed .exit)) (now (counts .exit)) (now (sizes .exit))) ⌝ }
 {
     if tasks::masked(plan, masks, k) {
         return tally;
@@ -223,8 +240,15 @@ fn run_tasks(
     counts: &mut [u32],
     sizes: &mut [u32],
 ) -> SweepAnswer
-    requires { ⌜ Kept (sweepRules (sweepOf plan (now fwd) (now bwd) (now couplings) (now order) (now masks) (now temperatures) (now cuts) (now references) (now seeds) (now flips) (now perms) (now greys)) (lent (now spins) (now labels) (now greyed) (now counts) (now sizes))) ⌝ }
-    ensures { λ r. ⌜ SweepAnswers (sweepOf plan (now (fwd .entry)) (now (bwd .entry)) (now (couplings .entry)) (now (order .entry)) (now (masks .entry)) (now (temperatures .entry)) (now (cuts .entry)) (now (references .entry)) (now (seeds .entry)) (now (flips .entry)) (now (perms .entry)) (now (greys .entry))) (lent (now (spins .entry)) (now (labels .entry)) (now (greyed .entry)) (now (counts .entry)) (now (sizes .entry))) r (lent (now (spins .exit)) (now (labels .exit)) (now (greyed .exit)) (now (counts .exit)) (now (sizes .exit))) ⌝ }
+    requires { ⌜ Kept (sweepRules
+        (sweepOf plan (now fwd) (now bwd) (now couplings) (now order) (now masks) (now temperatures) (now cuts)
+        (now references) (now seeds) (now flips) (now perms) (now greys))
+        (lent (now spins) (now labels) (now greyed) (now counts) (now sizes))) ⌝ }
+    ensures { λ r. ⌜ SweepAnswers
+        (sweepOf plan (now (fwd .entry)) (now (bwd .entry)) (now (couplings .entry)) (now (order .entry)) (now (masks .entry))
+        (now (temperatures .entry)) (now (cuts .entry)) (now (references .entry)) (now (seeds .entry)) (now (flips .entry)) (now (perms .entry)) (now (greys .entry)))
+        (lent (now (spins .entry)) (now (labels .entry)) (now (greyed .entry)) (now (counts .entry)) (now (sizes .entry))) r
+        (lent (now (spins .exit)) (now (labels .exit)) (now (greyed .exit)) (now (counts .exit)) (now (sizes .exit))) ⌝ }
 {
     let count = tasks::task_count(plan);
     let mut tally = Tally { idle: 0, moved: 0 };
@@ -257,48 +281,6 @@ fn run_tasks(
     SweepAnswer::Swept(tally.idle, tally.moved)
 }
 
-fn measure(
-    spins: &[i8],
-    fwd: &[u32],
-    bwd: &[u32],
-    couplings: &[i32],
-    order: &[u32],
-    masks: &[u8],
-    temperatures: &[f32],
-    cuts: &[f32],
-    references: &[u32],
-    seeds: &[u32],
-    flips: &[u8],
-    perms: &[u8],
-    greys: &[u8],
-    labels: &[u32],
-    greyed: &[u32],
-    counts: &[u32],
-    sizes: &[u32],
-) -> SweepLengths
-    ensures { λ r. ⌜ r ≡ measured (now (spins .entry)) (now (fwd .entry)) (now (bwd .entry)) (now (couplings .entry)) (now (order .entry)) (now (masks .entry)) (now (temperatures .entry)) (now (cuts .entry)) (now (references .entry)) (now (seeds .entry)) (now (flips .entry)) (now (perms .entry)) (now (greys .entry)) (now (labels .entry)) (now (greyed .entry)) (now (counts .entry)) (now (sizes .entry)) ⌝ }
-{
-    SweepLengths {
-        spins: spins.len(),
-        fwd: fwd.len(),
-        bwd: bwd.len(),
-        couplings: couplings.len(),
-        order: order.len(),
-        masks: masks.len(),
-        temperatures: temperatures.len(),
-        cuts: cuts.len(),
-        references: references.len(),
-        seeds: seeds.len(),
-        flips: flips.len(),
-        perms: perms.len(),
-        greys: greys.len(),
-        labels: labels.len(),
-        greyed: greyed.len(),
-        counts: counts.len(),
-        sizes: sizes.len(),
-    }
-}
-
 // Everything is tested before anything is written.
 fn update(
     plan: Plan,
@@ -320,9 +302,14 @@ fn update(
     counts: &mut [u32],
     sizes: &mut [u32],
 ) -> SweepAnswer
-    ensures { λ r. ⌜ SweepAnswers (sweepOf plan (now (fwd .entry)) (now (bwd .entry)) (now (couplings .entry)) (now (order .entry)) (now (masks .entry)) (now (temperatures .entry)) (now (cuts .entry)) (now (references .entry)) (now (seeds .entry)) (now (flips .entry)) (now (perms .entry)) (now (greys .entry))) (lent (now (spins .entry)) (now (labels .entry)) (now (greyed .entry)) (now (counts .entry)) (now (sizes .entry))) r (lent (now (spins .exit)) (now (labels .exit)) (now (greyed .exit)) (now (counts .exit)) (now (sizes .exit))) ⌝ }
+    ensures { λ r. ⌜ SweepAnswers
+        (sweepOf plan (now (fwd .entry)) (now (bwd .entry)) (now (couplings .entry)) (now (order .entry)) (now (masks .entry))
+        (now (temperatures .entry)) (now (cuts .entry)) (now (references .entry)) (now (seeds .entry)) (now (flips .entry)) (now (perms .entry)) (now (greys .entry)))
+        (lent (now (spins .entry)) (now (labels .entry)) (now (greyed .entry)) (now (counts .entry)) (now (sizes .entry))) r
+        (lent (now (spins .exit)) (now (labels .exit)) (now (greyed .exit)) (now (counts .exit)) (now (sizes .exit))) ⌝ }
 {
-    let l = measure(
+    let fault = sweep_tests::test_sweep(
+        plan,
         spins,
         fwd,
         bwd,
@@ -340,32 +327,6 @@ fn update(
         greyed,
         counts,
         sizes,
-    );
-    let fault = sweep_tests::test_sweep(
-        plan,
-        spins,
-        fwd,
-        bwd,
-        couplings,
-        order,
-        masks,
-        temperatures,
-        l,
-    );
-    if fault != 0 {
-        return SweepAnswer::Fault(fault);
-    }
-    let fault = sweep_tests::test_tasks(
-        plan,
-        spins,
-        order,
-        masks,
-        cuts,
-        references,
-        seeds,
-        flips,
-        perms,
-        greys,
     );
     if fault != 0 {
         return SweepAnswer::Fault(fault);
@@ -420,7 +381,11 @@ pub fn overlap_update(
     counts: &mut [u32],
     sizes: &mut [u32],
 ) -> SweepAnswer
-    ensures { λ a. ⌜ SweepAnswers (sweepFor mode form n d s t r members (now (fwd .entry)) (now (bwd .entry)) (now (couplings .entry)) (now (order .entry)) (now (masks .entry)) (now (temperatures .entry)) (now (cuts .entry)) (now (references .entry)) (now (seeds .entry)) (now (flips .entry)) (now (perms .entry)) (now (greys .entry))) (lent (now (spins .entry)) (now (labels .entry)) (now («grey_labels» .entry)) (now (counts .entry)) (now (sizes .entry))) a (lent (now (spins .exit)) (now (labels .exit)) (now («grey_labels» .exit)) (now (counts .exit)) (now (sizes .exit))) ⌝ }
+    ensures { λ a. ⌜ SweepAnswers
+        (sweepFor mode form n d s t r members (now (fwd .entry)) (now (bwd .entry)) (now (couplings .entry)) (now (order .entry)) (now (masks .entry))
+        (now (temperatures .entry)) (now (cuts .entry)) (now (references .entry)) (now (seeds .entry)) (now (flips .entry)) (now (perms .entry)) (now (greys .entry)))
+        (lent (now (spins .entry)) (now (labels .entry)) (now («grey_labels» .entry)) (now (counts .entry)) (now (sizes .entry))) a
+        (lent (now (spins .exit)) (now (labels .exit)) (now («grey_labels» .exit)) (now (counts .exit)) (now (sizes .exit))) ⌝ }
 {
     let plan = Plan {
         mode,

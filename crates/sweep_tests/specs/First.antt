@@ -13,6 +13,7 @@ use Rattle.paper.specs.Refusal.Rules.{When, Spins, Inverse, Permutes, SmallCoup
 use Rattle.paper.specs.Refusal.Verdict.{Verdict, broken-first}
 use Rattle.paper.specs.Answer.Task.{Sweep}
 use Rattle.tasks.specs.declared.Plan.{Plan}
+use Rattle.tasks.specs.Plan.{planOf}
 use Rattle.sweep_sizes.specs.declared.SweepLengths.{SweepLengths}
 use Rattle.sweep_sizes.specs.Lengths.{sizeRules}
 
@@ -66,11 +67,11 @@ lengthsAll w b = record {
   sizes = length (b .sizes);
 }
 
-abbrev pub firstRules : Plan → Sweep → Buffers → List Rule
-firstRules q w b =
-    sizeRules q (lengthsAll w b)
-    ++ (panelRules q (b .spins) (w .lattice .fwd) (w .lattice .bwd) (w .order)
-    ++ heatRules q (w .lattice .couplings) (w .temperatures) (w .masks))
+abbrev pub firstRules : Sweep → Buffers → List Rule
+firstRules w b =
+    sizeRules (planOf w) (lengthsAll w b)
+    ++ (panelRules (planOf w) (b .spins) (w .lattice .fwd) (w .lattice .bwd) (w .order)
+    ++ heatRules (planOf w) (w .lattice .couplings) (w .temperatures) (w .masks))
 
 -- ---- a list of rules after another
 pub first-broken : (rs qs : List Rule) (r : ℕ) → (r ≡ 0 → ⊥) → Verdict rs r → Verdict (rs ++ qs) r

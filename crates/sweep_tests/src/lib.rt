@@ -87,9 +87,9 @@ fn test_first(
     counts: &[u32],
     sizes: &[u32],
 ) -> u8
-    ensures { λ r. ⌜ Verdict (firstRules plan
+    ensures { λ r. ⌜ Verdict (firstRules
         (sweepOf plan (now (fwd .entry)) (now (bwd .entry)) (now (couplings .entry)) (now (order .entry)) (now (masks .entry))
-            (now (temperatures .entry)) (now (cuts .entry)) (now (references .entry)) (now (seeds .entry)) (now (flips .entry)) (now (perms .entry)) (now (greys .entry)))
+        (now (temperatures .entry)) (now (cuts .entry)) (now (references .entry)) (now (seeds .entry)) (now (flips .entry)) (now (perms .entry)) (now (greys .entry)))
         (lent (now (spins .entry)) (now (labels .entry)) (now (greyed .entry)) (now (counts .entry)) (now (sizes .entry)))) r ⌝ }
 {
     let l = SweepLengths {
@@ -224,7 +224,7 @@ pub fn test_sweep(
 ) -> u8
     ensures { λ r. ⌜ Verdict (sweepRules
         (sweepOf plan (now (fwd .entry)) (now (bwd .entry)) (now (couplings .entry)) (now (order .entry)) (now (masks .entry))
-            (now (temperatures .entry)) (now (cuts .entry)) (now (references .entry)) (now (seeds .entry)) (now (flips .entry)) (now (perms .entry)) (now (greys .entry)))
+        (now (temperatures .entry)) (now (cuts .entry)) (now (references .entry)) (now (seeds .entry)) (now (flips .entry)) (now (perms .entry)) (now (greys .entry)))
         (lent (now (spins .entry)) (now (labels .entry)) (now (greyed .entry)) (now (counts .entry)) (now (sizes .entry)))) r ⌝ }
 {
     let fault = test_first(
@@ -251,6 +251,15 @@ pub fn test_sweep(
         return fault;
     }
     test_tasks(
-        plan, spins, order, masks, cuts, references, seeds, flips, perms, greys,
+        plan,
+        spins,
+        order,
+        masks,
+        cuts,
+        references,
+        seeds,
+        flips,
+        perms,
+        greys,
     )
 }

@@ -46,6 +46,10 @@ sweepOf q fwd bwd couplings order masks temperatures cuts references seeds flips
   greys = greys;
 }
 
+-- and its numbers
+abbrev pub planOf : Sweep → Plan
+planOf w = record { mode = w .mode; form = w .form; n = w .lattice .n; d = w .lattice .d; s = w .lattice .s; t = w .t; r = w .r; members = w .members }
+
 abbrev pub lent : List ℤ → List ℕ → List ℕ → List ℕ → List ℕ → Buffers
 lent spins labels greyLabels counts sizes = record { spins = spins; labels = labels; greyLabels = greyLabels; counts = counts; sizes = sizes }
 

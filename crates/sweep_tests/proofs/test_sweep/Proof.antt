@@ -21,24 +21,24 @@ W s =
 abbrev B : tie.Start → Buffers
 B s = let a = s .args in lent (now (a .spins)) (now (a .labels)) (now (a .greyed)) (now (a .counts)) (now (a .sizes))
 
-passed : (e : tie.Else1) → let s = S (e .before) in Kept (firstRules (s .args .plan) (W s) (B s))
-passed e = let t = e .before in let s = S t in kept-of (firstRules (s .args .plan) (W s) (B s)) (t .test-first .result) (e .if1 .left) (t .test-first .ensures)
+passed : (e : tie.Else1) → let s = S (e .before) in Kept (firstRules (W s) (B s))
+passed e = let t = e .before in let s = S t in kept-of (firstRules (W s) (B s)) (t .test-first .result) (e .if1 .left) (t .test-first .ensures)
 
 test-first-requires : tie.Need-test-first-requires
 test-first-requires c κs = search needs
 
 returns : tie.Need-returns
-returns c = let t = c .before in let s = S t in whole-first (s .args .plan) (now (s .args .fwd)) (now (s .args .bwd)) (now (s .args .couplings)) (now (s .args .order)) (now (s .args .masks)) (now (s .args .temperatures)) (now (s .args .cuts)) (now (s .args .references)) (now (s .args .seeds)) (now (s .args .flips)) (now (s .args .perms)) (now (s .args .greys)) (B s) (t .test-first .result) (c .if1 .taken) (t .test-first .ensures)
+returns c = let t = c .before in let s = S t in whole-first (W s) (B s) (t .test-first .result) (c .if1 .taken) (t .test-first .ensures)
 
 test-tasks-requires : tie.Need-test-tasks-requires
-test-tasks-requires c κs = let s = S (c .before) in tested-of (s .args .plan) (now (s .args .fwd)) (now (s .args .bwd)) (now (s .args .couplings)) (now (s .args .order)) (now (s .args .masks)) (now (s .args .temperatures)) (now (s .args .cuts)) (now (s .args .references)) (now (s .args .seeds)) (now (s .args .flips)) (now (s .args .perms)) (now (s .args .greys)) (B s) (passed c)
+test-tasks-requires c κs = let s = S (c .before) in tested-of (W s) (B s) (passed c)
 
 returns-2 : tie.Need-returns-2
 returns-2 c =
     let e = c .before in
     let s = S (e .before) in
     let a = s .args in
-    whole-later (s .args .plan) (now (s .args .fwd)) (now (s .args .bwd)) (now (s .args .couplings)) (now (s .args .order)) (now (s .args .masks)) (now (s .args .temperatures)) (now (s .args .cuts)) (now (s .args .references)) (now (s .args .seeds)) (now (s .args .flips)) (now (s .args .perms)) (now (s .args .greys)) (B s) (passed e) (c .test-tasks .result)
+    whole-later (W s) (B s) (passed e) (c .test-tasks .result)
     (c .test-tasks .ensures .is (now (a .fwd)) (now (a .bwd)) (now (a .couplings)) (now (a .temperatures)) (now (a .labels)) (now (a .greyed)) (now (a .counts)) (now (a .sizes)))
 
 pub test-sweep-spec : {M : Type 1} → statement M
