@@ -1,5 +1,5 @@
 -- Tasks in ascending order: what holds once the first K have run, and what one more does to it. Assumes nothing.
-use Prim.Native.Nat.{ℕ, zero, suc, _+_, _*_, _<_, _≤_}
+use Prim.Native.Nat.{ℕ, _+_, _<_, _≤_}
 use mathlib.Core.Path.{_≡_, refl, sym, _∙_, ap}
 use mathlib.Core.Logic.{_⊎_, inl, inr, _≢_}
 use mathlib.Core.Bool.{Bool, true, false, not, _&&_}
@@ -7,11 +7,10 @@ use mathlib.Core.List.{List}
 use native.Mathlib.Omega.{arith}
 use native.Mathlib.Numerals.{add-one}
 use native.Mathlib.Decide.{ℕ-discrete}
-use lib.ListN.{length}
 use lib.IntN.{ℤ}
 use Rattle.paper.specs.declared.Answer.{Answer}
 use Rattle.paper.specs.declared.Answer.the-variants.{Refused, Idle, Moved}
-use Rattle.paper.specs.Panel.Input.{Call, Choices, Buffers, pattern, spin, size, system}
+use Rattle.paper.specs.Panel.Input.{Call, Choices, Buffers, pattern, spin, system}
 use Rattle.paper.specs.Panel.Takes.{takesGreys}
 use Rattle.paper.specs.Component.Sizes.{bit, countWhere}
 use Rattle.paper.specs.Refusal.Rule.{Kept}
@@ -28,7 +27,7 @@ use Rattle.paper.specs.Law.SweepTasks.{task-valid}
 use Rattle.paper.specs.Law.SweepAscending.{tasks-apart, done}
 use Rattle.paper.specs.Law.SweepCounts.{SaysIdle, counted-as}
 use Rattle.paper.specs.Demand3.Step.{Accepted, Accepted.idle, Accepted.moved}
-use Rattle.sweep.specs.Spinning.{spins-after, length-after, valid-there}
+use Rattle.sweep.specs.Spinning.{spins-after, valid-there}
 
 -- ---- the two counts of the first K tasks
 abbrev pub isIdle : Sweep → List ℤ → ℕ → Bool
@@ -151,7 +150,8 @@ module _ (w : Sweep) (b : Buffers) (v : Kept (sweepRules w b)) where
 
     -- a task that has not run meets its rows as they were before the sweep
     own-rows : (i : ℕ) → i < w .lattice .n → Agree (w .members) (pattern (taskCall w K) (b′ .spins) i) (pattern (taskCall w K) (b .spins) i)
-    own-rows i hi x hx = h .others i (system (taskCall w K) x) hi (λ k y l q hy e. let z = tasks-apart w b v K k x y below (omega arith) hx hy e in omega (arith, z))
+    own-rows i hi x hx =
+        h .others i (system (taskCall w K) x) hi (λ k y l q hy e. let z = tasks-apart w b v K k x y below (omega arith) hx hy e in omega (arith, z))
 
     own-areas : areas w b′ (b′ .spins) K ≡ withSpins (areas w b (b .spins) K) (b′ .spins)
     own-areas = respun w b b′ (b .spins) (b′ .spins) K (h .still K below (inr (omega arith)))
@@ -160,14 +160,19 @@ module _ (w : Sweep) (b : Buffers) (v : Kept (sweepRules w b)) where
     pub ran-valid : masked w K ≡ false → Valid (taskCall w K) (taskChoices w K) (areas w b′ (b′ .spins) K)
     ran-valid e =
         rw own-areas
-        (valid-there (taskCall w K) (taskChoices w K) (areas w b (b .spins) K) (b′ .spins) (h .lengths .spins) (h .spins) own-rows (valid-of (taskCall w K) (taskChoices w K) (areas w b (b .spins) K) (task-valid w b v K below e)))
+        (valid-there (taskCall w K) (taskChoices w K) (areas w b (b .spins) K) (b′ .spins) (h .lengths .spins) (h .spins) own-rows
+        (valid-of (taskCall w K) (taskChoices w K) (areas w b (b .spins) K) (task-valid w b v K below e)))
 
     module _ (e : masked w K ≡ false) (a : Answer) (b″ : Buffers) (s : Steps w K b′ a b″) where
       accepted : Accepted a
-      accepted = accept (taskCall w K) (taskChoices w K) (areas w b′ (b′ .spins) K) (areas w b″ (b″ .spins) K) a (valid-kept (taskCall w K) (taskChoices w K) (areas w b′ (b′ .spins) K) (ran-valid e)) (s .answers)
+      accepted =
+          accept (taskCall w K) (taskChoices w K) (areas w b′ (b′ .spins) K) (areas w b″ (b″ .spins) K) a
+          (valid-kept (taskCall w K) (taskChoices w K) (areas w b′ (b′ .spins) K) (ran-valid e)) (s .answers)
 
       -- the other systems' rows
-      out : (i t : ℕ) → i < w .lattice .n → ((x : ℕ) → x < w .members → t ≢ system (taskCall w K) x) → spin (w .lattice .n) (b″ .spins) t i ≡ spin (w .lattice .n) (b′ .spins) t i
+      out :
+          (i t : ℕ) → i < w .lattice .n → ((x : ℕ) → x < w .members → t ≢ system (taskCall w K) x)
+          → spin (w .lattice .n) (b″ .spins) t i ≡ spin (w .lattice .n) (b′ .spins) t i
       out = others-kept (taskCall w K) (taskChoices w K) (areas w b′ (b′ .spins) K) (areas w b″ (b″ .spins) K) a (s .answers)
 
       done-now : Done w b b″ K
@@ -182,14 +187,18 @@ module _ (w : Sweep) (b : Buffers) (v : Kept (sweepRules w b)) where
             answer = d .answer;
             spins = d .spins;
             answers = rw (respun w b′ b″ (b′ .spins) (d .spins) k (s .apart k (λ z. omega (arith, z)))) (d .answers);
-            rows = λ i x hi hx. out i (system (taskCall w k) x) hi (λ y hy z. let r = tasks-apart w b v k K x y (omega arith) below hx hy z in omega (arith, r)) ∙ d .rows i x hi hx;
+            rows =
+                λ i x hi hx. out i (system (taskCall w k) x) hi
+                (λ y hy z. let r = tasks-apart w b v k K x y (omega arith) below hx hy z in omega (arith, r))
+                ∙ d .rows i x hi hx;
           }
 
       -- alone on the spins before the sweep it would answer the same
       same-answer : done-now .answer ≡ a
       same-answer =
           determined (taskCall w K) (taskChoices w K) (areas w b (b′ .spins) K) (areas w b″ (b″ .spins) K) (areas w b″ (b″ .spins) K) (d .answer) a
-          (local (taskCall w K) (taskChoices w K) (areas w b (b .spins) K) (areas w b″ (d .spins) K) (b′ .spins) (h .lengths .spins) (h .spins) own-rows (d .answer) acc (d .answers) (b″ .spins) there)
+          (local (taskCall w K) (taskChoices w K) (areas w b (b .spins) K) (areas w b″ (d .spins) K) (b′ .spins) (h .lengths .spins) (h .spins) own-rows
+          (d .answer) acc (d .answers) (b″ .spins) there)
           (rw own-areas at (s .answers))
           .answer
         where

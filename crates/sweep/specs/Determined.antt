@@ -16,4 +16,5 @@ pub overlap-update-determined :
     (references seeds flips perms greys : List ℕ) (b y z : Buffers) (a a′ : SweepAnswer)
     → let w = sweepFor mode form n d s t r members fwd bwd couplings order masks temperatures cuts references seeds flips perms greys in
     SweepAnswers w b a y → SweepAnswers w b a′ z → SameSweep a y a′ z
-overlap-update-determined mode form n d s t r members fwd bwd couplings order masks temperatures cuts references seeds flips perms greys = sweep-determined (sweepFor mode form n d s t r members fwd bwd couplings order masks temperatures cuts references seeds flips perms greys)
+overlap-update-determined mode form n d s t r members fwd bwd couplings order masks temperatures cuts references seeds flips perms greys =
+    sweep-determined (sweepFor mode form n d s t r members fwd bwd couplings order masks temperatures cuts references seeds flips perms greys)

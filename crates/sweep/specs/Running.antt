@@ -15,7 +15,7 @@ use Rattle.paper.specs.Panel.Takes.{takesGreys, entries}
 use Rattle.paper.specs.Refusal.Kept.{Valid}
 use Rattle.paper.specs.Answer.Move.{Answers}
 use Rattle.paper.specs.Answer.Task.{Sweep, temperatureOf, part, groupOf, taskCall, taskChoices, areas}
-use Rattle.paper.specs.Answer.Sweep.{common, SameLengths}
+use Rattle.paper.specs.Answer.Sweep.{common}
 use Rattle.paper.specs.Law.Determined.{buffers-equal}
 use Rattle.moves.specs.Task.{callOf, choicesOf}
 use Rattle.tasks.specs.Plan.{Placing, Bounding, planOf, lent}
@@ -48,21 +48,38 @@ pub record Parts (w : Sweep) (k : ℕ) (g : Group) (t : Float) (cs : List Float)
   pub greys : gs ≡ part k (entries (w .form) (w .lattice .n)) (w .greys)
 
 module _ {w : Sweep} {k : ℕ} {g : Group} {t : Float} {cs : List Float} {a b : ℕ} {fs ps gs : List ℕ} (e : Parts w k g t cs a b fs ps gs) where
-  pub valid-parts : {x : Buffers} → Valid (taskCall w k) (taskChoices w k) x → Valid (callOf (w .mode) (w .form) (w .lattice .n) (w .lattice .d) (w .lattice .s) (w .lattice .fwd) (w .lattice .bwd) (w .lattice .couplings) g t cs a b) (choicesOf fs ps gs) x
+  pub valid-parts :
+      {x : Buffers} → Valid (taskCall w k) (taskChoices w k) x
+      → Valid
+      (callOf (w .mode) (w .form) (w .lattice .n) (w .lattice .d) (w .lattice .s) (w .lattice .fwd) (w .lattice .bwd) (w .lattice .couplings) g t cs a b)
+      (choicesOf fs ps gs) x
   valid-parts v = rw (e .group, e .temperature, e .cuts, e .reference, e .seed, e .flips, e .perms, e .greys) v
 
-  pub answers-parts : (x y : Buffers) (r : Answer) → Answers (callOf (w .mode) (w .form) (w .lattice .n) (w .lattice .d) (w .lattice .s) (w .lattice .fwd) (w .lattice .bwd) (w .lattice .couplings) g t cs a b) (choicesOf fs ps gs) x r y → Answers (taskCall w k) (taskChoices w k) x r y
+  pub answers-parts :
+      (x y : Buffers) (r : Answer)
+      → Answers
+      (callOf (w .mode) (w .form) (w .lattice .n) (w .lattice .d) (w .lattice .s) (w .lattice .fwd) (w .lattice .bwd) (w .lattice .couplings) g t cs a b)
+      (choicesOf fs ps gs) x r y
+      → Answers (taskCall w k) (taskChoices w k) x r y
   answers-parts x y r h = rw (e .group, e .temperature, e .cuts, e .reference, e .seed, e .flips, e .perms, e .greys) at h
 
 -- ---- the task's areas, lent and put back
-module _ (w : Sweep) (k : ℕ) (b : Buffers) {la lb ga gb ca cb za zb : ℕ} (hl : Bounding (length (b .labels)) k (w .lattice .n) la lb) (hg : Bounding (length (b .greyLabels)) k (w .lattice .n) ga gb) (hc : Bounding (length (b .counts)) k (w .lattice .n + 1) ca cb) (hz : Bounding (length (b .sizes)) k 4 za zb) where
+module _ (w : Sweep) (k : ℕ) (b : Buffers) {la lb ga gb ca cb za zb : ℕ} (hl : Bounding (length (b .labels)) k (w .lattice .n) la lb)
+    (hg : Bounding (length (b .greyLabels)) k (w .lattice .n) ga gb) (hc : Bounding (length (b .counts)) k (w .lattice .n + 1) ca cb)
+    (hz : Bounding (length (b .sizes)) k 4 za zb) where
   abbrev pub lentAreas : Buffers
-  lentAreas = lent (b .spins) (take (lb - la) (drop la (b .labels))) (take (gb - ga) (drop ga (b .greyLabels))) (take (cb - ca) (drop ca (b .counts))) (take (zb - za) (drop za (b .sizes)))
+  lentAreas =
+      lent (b .spins) (take (lb - la) (drop la (b .labels))) (take (gb - ga) (drop ga (b .greyLabels))) (take (cb - ca) (drop ca (b .counts)))
+      (take (zb - za) (drop za (b .sizes)))
 
   pub areas-lent : areas w b (b .spins) k ≡ lentAreas
-  areas-lent = buffers-equal _ _ refl (sym (lent-part (b .labels) k (w .lattice .n) la lb hl)) (sym (lent-part (b .greyLabels) k (w .lattice .n) ga gb hg)) (sym (lent-part (b .counts) k (w .lattice .n + 1) ca cb hc)) (sym (lent-part (b .sizes) k 4 za zb hz))
+  areas-lent =
+      buffers-equal _ _ refl (sym (lent-part (b .labels) k (w .lattice .n) la lb hl)) (sym (lent-part (b .greyLabels) k (w .lattice .n) ga gb hg))
+      (sym (lent-part (b .counts) k (w .lattice .n + 1) ca cb hc)) (sym (lent-part (b .sizes) k 4 za zb hz))
 
-  module _ (xs : List ℤ) (ls gs cs zs : List ℕ) (kl : length ls ≡ length (lentAreas .labels)) (kg : length gs ≡ length (lentAreas .greyLabels)) (kc : length cs ≡ length (lentAreas .counts)) (kz : length zs ≡ length (lentAreas .sizes)) (r : Answer) (h : Answers (taskCall w k) (taskChoices w k) lentAreas r (lent xs ls gs cs zs)) where
+  module _ (xs : List ℤ) (ls gs cs zs : List ℕ) (kl : length ls ≡ length (lentAreas .labels)) (kg : length gs ≡ length (lentAreas .greyLabels))
+      (kc : length cs ≡ length (lentAreas .counts)) (kz : length zs ≡ length (lentAreas .sizes)) (r : Answer)
+      (h : Answers (taskCall w k) (taskChoices w k) lentAreas r (lent xs ls gs cs zs)) where
     el : length ls ≡ lb - la
     el = kl ∙ lent-length (b .labels) k (w .lattice .n) la lb hl
 
@@ -79,12 +96,19 @@ module _ (w : Sweep) (k : ℕ) (b : Buffers) {la lb ga gb ca cb za zb : ℕ} (hl
     put = lent xs (back (b .labels) la lb ls) (back (b .greyLabels) ga gb gs) (back (b .counts) ca cb cs) (back (b .sizes) za zb zs)
 
     areas-put : areas w put xs k ≡ lent xs ls gs cs zs
-    areas-put = buffers-equal _ _ refl (back-own (b .labels) k (w .lattice .n) la lb hl ls el) (back-own (b .greyLabels) k (w .lattice .n) ga gb hg gs eg) (back-own (b .counts) k (w .lattice .n + 1) ca cb hc cs ec) (back-own (b .sizes) k 4 za zb hz zs ez)
+    areas-put =
+        buffers-equal _ _ refl (back-own (b .labels) k (w .lattice .n) la lb hl ls el) (back-own (b .greyLabels) k (w .lattice .n) ga gb hg gs eg)
+        (back-own (b .counts) k (w .lattice .n + 1) ca cb hc cs ec) (back-own (b .sizes) k 4 za zb hz zs ez)
 
     areas-apart : (j : ℕ) → j ≢ k → areas w put (b .spins) j ≡ areas w b (b .spins) j
-    areas-apart j ne = buffers-equal _ _ refl (back-other (b .labels) k (w .lattice .n) la lb hl ls el 0 j ne) (back-other (b .greyLabels) k (w .lattice .n) ga gb hg gs eg 0 j ne) (back-other (b .counts) k (w .lattice .n + 1) ca cb hc cs ec 0 j ne) (back-other (b .sizes) k 4 za zb hz zs ez 0 j ne)
+    areas-apart j ne =
+        buffers-equal _ _ refl (back-other (b .labels) k (w .lattice .n) la lb hl ls el 0 j ne)
+        (back-other (b .greyLabels) k (w .lattice .n) ga gb hg gs eg 0 j ne) (back-other (b .counts) k (w .lattice .n + 1) ca cb hc cs ec 0 j ne)
+        (back-other (b .sizes) k 4 za zb hz zs ez 0 j ne)
 
-    grey-still : (r : Answer) → Answers (taskCall w k) (taskChoices w k) lentAreas r (lent xs ls gs cs zs) → takesGreys (common w) ≡ false → gs ≡ take (gb - ga) (drop ga (b .greyLabels))
+    grey-still :
+        (r : Answer) → Answers (taskCall w k) (taskChoices w k) lentAreas r (lent xs ls gs cs zs) → takesGreys (common w) ≡ false
+        → gs ≡ take (gb - ga) (drop ga (b .greyLabels))
     grey-still (Refused n) a e = ap (λ (z : Buffers). z .greyLabels) (a .kept)
     grey-still Idle a e = a .seen .grey-kept e
     grey-still Moved a e = a .seen .grey-kept e

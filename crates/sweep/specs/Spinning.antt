@@ -1,31 +1,29 @@
 -- A task keeps every spin +1 or -1, and what was accepted on the spins before the sweep is accepted on any with the same rows. Assumes nothing.
-use Prim.Native.Nat.{ℕ, _+_, _*_, _/_, _%_, _<_, _≤_}
-use mathlib.Core.Path.{_≡_, refl, sym, _∙_, ap}
+use Prim.Native.Nat.{ℕ, _+_, _*_, _/_, _%_, _<_}
+use mathlib.Core.Path.{_≡_, sym, _∙_, ap}
 use mathlib.Core.Logic.{_⊎_, inl, inr, _≢_}
 use mathlib.Core.Bool.{Bool, true, false, cond, _&&_}
 use mathlib.Core.List.{List}
 use native.Mathlib.Omega.{arith}
 use native.Mathlib.Nat.{div-add-mod', mod-lt}
-use lib.ListN.{length, getD}
+use lib.ListN.{length}
 use lib.IntN.{ℤ}
 use Rattle.paper.specs.declared.Answer.{Answer}
 use Rattle.paper.specs.declared.Answer.the-variants.{Refused, Idle, Moved}
 use Rattle.paper.specs.Panel.Input.{graph, Call, Choices, Buffers, pattern, spin, size, system}
 use Rattle.paper.specs.Panel.Takes.{moves, takesGreys}
-use Rattle.paper.specs.Site.Acting.{SomeActs}
 use Rattle.paper.specs.Site.Bonds.{holds}
 use Rattle.paper.specs.Component.Sizes.{labelOf}
 use Rattle.paper.specs.Move.Moving.{greyBit, greyAt, flipSome, reached, after, final}
-use Rattle.paper.specs.Refusal.Rule.{Kept}
-use Rattle.paper.specs.Refusal.Rules.{Spin, Spins, Exact, Seeded, rules}
-use Rattle.paper.specs.Refusal.Kept.{Sound, Fit, Valid, valid-of}
+use Rattle.paper.specs.Refusal.Rules.{Spin, Spins, Exact, Seeded}
+use Rattle.paper.specs.Refusal.Kept.{Valid, valid-of}
 use Rattle.paper.specs.Answer.Move.{Answers, Goes}
 use Rattle.paper.specs.Law.Patterns.{flip-spin}
 use Rattle.paper.specs.Law.Unique.{Placed, place, label-lt}
 use Rattle.paper.specs.Law.Local.{Agree, Alike, acts-local}
 use Rattle.paper.specs.Law.AnswersLocal.{withSpins}
 use Rattle.paper.specs.Demand3.Step.{Accepted, Accepted.idle, Accepted.moved, rows}
-use Rattle.moves.specs.Ready.{ReadyFor, ready}
+use Rattle.moves.specs.Ready.{ready}
 use Rattle.moves.specs.Moved.{Rows, after-spin}
 
 -- ---- every spin is +1 or -1 after a task
@@ -51,12 +49,16 @@ module _ (c : Call) (p : Choices) (b b′ : Buffers) (w : Goes c p b b′) where
       go false = after-is i k hi hk
 
   moved-spins : Spins (b′ .spins)
-  moved-spins x l = rw (← div-add-mod' x n) (at (x / n) (x % n) (mod-lt x (w .valid .0 .lattice .n-low)) (rw (div-add-mod' x n) (omega (arith, w .moved .long))) (place (size c) (system c) (x / n)))
+  moved-spins x l =
+      rw (← div-add-mod' x n)
+      (at (x / n) (x % n) (mod-lt x (w .valid .0 .lattice .n-low)) (rw (div-add-mod' x n) (omega (arith, w .moved .long))) (place (size c) (system c) (x / n)))
     where
       n : ℕ
       n = c .lattice .n
 
-      at : (t i : ℕ) → i < n → t * n + i < length (b .spins) → Placed (size c) (system c) t ⊎ ((k : ℕ) → k < size c → t ≢ system c k) → Spin (spin n (b′ .spins) t i)
+      at :
+          (t i : ℕ) → i < n → t * n + i < length (b .spins) → Placed (size c) (system c) t ⊎ ((k : ℕ) → k < size c → t ≢ system c k)
+          → Spin (spin n (b′ .spins) t i)
       at t i hi q (inl r) = rw (r .2, w .moved .group i (r .0) hi (r .1)) (final-is i (r .0) hi (r .1))
       at t i hi q (inr r) = rw (w .moved .others i t hi r) (w .valid .1 .1 .0 (t * n + i) q)
 
@@ -70,7 +72,8 @@ length-after c p b b′ Idle w = ap length (w .still)
 length-after c p b b′ Moved w = w .moved .long
 
 -- ---- other rows than the group's do not matter
-module _ (c : Call) (p : Choices) (b : Buffers) (xs : List ℤ) (long : length xs ≡ length (b .spins)) (spinning : Spins xs) (same : (i : ℕ) → i < c .lattice .n → Agree (size c) (pattern c xs i) (pattern c (b .spins) i)) where
+module _ (c : Call) (p : Choices) (b : Buffers) (xs : List ℤ) (long : length xs ≡ length (b .spins)) (spinning : Spins xs)
+    (same : (i : ℕ) → i < c .lattice .n → Agree (size c) (pattern c xs i) (pattern c (b .spins) i)) where
   alike : Valid c p b → Alike c xs (b .spins)
   alike v = record {
     patterns = same;
@@ -101,7 +104,10 @@ module _ (c : Call) (p : Choices) (b : Buffers) (xs : List ℤ) (long : length x
       let s = v .fit .seeded in
       record {
         below = s .below;
-        acting = λ t q. acts-local c xs (b .spins) (alike v) (c .seed) (s .below t) ∙ s .acting t (record { site = q .site; below = q .below; does = sym (acts-local c xs (b .spins) (alike v) (q .site) (q .below)) ∙ q .does });
+        acting =
+            λ t q. acts-local c xs (b .spins) (alike v) (c .seed) (s .below t)
+            ∙ s .acting t
+            (record { site = q .site; below = q .below; does = sym (acts-local c xs (b .spins) (alike v) (q .site) (q .below)) ∙ q .does });
       }
 
   pub valid-there : Valid c p b → Valid c p (withSpins b xs)

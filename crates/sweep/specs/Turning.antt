@@ -1,6 +1,6 @@
 -- One turn of the sweep's loop. Assumes nothing.
 use Prim.Native.Nat.{ℕ, zero, suc, _+_, _≤_, _<_}
-use mathlib.Core.Path.{_≡_, refl, sym, _∙_}
+use mathlib.Core.Path.{_≡_}
 use mathlib.Core.Bool.{Bool, true, false}
 use mathlib.Core.List.{List}
 use native.Mathlib.Omega.{arith}
@@ -59,7 +59,9 @@ remask w masks s = record { answers = s .answers; lengths = s .lengths; apart = 
 pub turned-masked : (w : Sweep) (k : ℕ) (t : Tally) (b : Buffers) → masked w k ≡ true → Turned w k t b t b
 turned-masked w k t b e = record { further = λ b₀ v l h. ran-masked w b₀ v k (t .idle) (t .moved) b l h e }
 
-pub turned-one : (w : Sweep) (k : ℕ) (t : Tally) (b : Buffers) (a : Answer) (t′ : Tally) (b′ : Buffers) → masked w k ≡ false → Steps w k b a b′ → Added t a t′ → Turned w k t b t′ b′
+pub turned-one :
+    (w : Sweep) (k : ℕ) (t : Tally) (b : Buffers) (a : Answer) (t′ : Tally) (b′ : Buffers) → masked w k ≡ false → Steps w k b a b′ → Added t a t′
+    → Turned w k t b t′ b′
 turned-one w k t b a t′ b′ e s d = record { further = λ b₀ v l h. rw (d .idle, d .moved) (ran-more w b₀ v k (t .idle) (t .moved) b l h e a b′ s) }
 
 -- no more are counted than there are
@@ -73,4 +75,7 @@ count-most f (suc m) = more (f m) (count-most f m)
     more false h = omega arith
 
 pub room-of : (w : Sweep) (b : Buffers) (k : ℕ) (t : Tally) (b′ : Buffers) → tasks w ≤ 64 → Ran w b k (t .idle) (t .moved) b′ → Room t
-room-of w b k t b′ few h = record { idle = omega (arith, h .reached, h .idles, count-most (isIdle w (b .spins)) k); moved = omega (arith, h .reached, h .moveds, count-most (isMoved w (b .spins)) k) }
+room-of w b k t b′ few h = record {
+  idle = omega (arith, h .reached, h .idles, count-most (isIdle w (b .spins)) k);
+  moved = omega (arith, h .reached, h .moveds, count-most (isMoved w (b .spins)) k);
+}

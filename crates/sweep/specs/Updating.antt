@@ -6,13 +6,15 @@ use lib.IntN.{ℤ}
 use lib.Ieee.{Float}
 use Rattle.paper.specs.declared.Mode.{Mode}
 use Rattle.paper.specs.declared.Form.{Form}
-use Rattle.paper.specs.Panel.Input.{Lattice, Buffers}
+use Rattle.paper.specs.Panel.Input.{Buffers}
 use Rattle.paper.specs.Refusal.Verdict.{Verdict}
 use Rattle.paper.specs.Answer.Task.{Sweep}
 use Rattle.paper.specs.Answer.Sweep.{sweepRules, SweepRefuses}
 
 -- the paper's sweep of these inputs
-abbrev pub sweepFor : Mode → Form → ℕ → ℕ → ℕ → ℕ → ℕ → ℕ → List ℕ → List ℕ → List ℤ → List ℕ → List ℕ → List Float → List Float → List ℕ → List ℕ → List ℕ → List ℕ → List ℕ → Sweep
+abbrev pub sweepFor :
+    Mode → Form → ℕ → ℕ → ℕ → ℕ → ℕ → ℕ → List ℕ → List ℕ → List ℤ → List ℕ → List ℕ → List Float → List Float → List ℕ → List ℕ → List ℕ → List ℕ
+    → List ℕ → Sweep
 sweepFor mode form n d s t r members fwd bwd couplings order masks temperatures cuts references seeds flips perms greys = record {
   mode = mode;
   form = form;

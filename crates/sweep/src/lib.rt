@@ -40,7 +40,8 @@ fn run_parts(
         k (lent (now spins) (now labels) (now greyed) (now counts) (now sizes)) ⌝ }
     ensures { λ r. ⌜ TaskAnswers
         (sweepOf plan (now (fwd .entry)) (now (bwd .entry)) (now (couplings .entry)) (now (order .entry)) []
-        (now (temperatures .entry)) (now (cuts .entry)) (now (references .entry)) (now (seeds .entry)) (now (flips .entry)) (now (perms .entry)) (now (greys .entry)))
+        (now (temperatures .entry)) (now (cuts .entry)) (now (references .entry)) (now (seeds .entry))
+        (now (flips .entry)) (now (perms .entry)) (now (greys .entry)))
         k (lent (now (spins .entry)) (now (labels .entry)) (now (greyed .entry)) (now (counts .entry)) (now (sizes .entry))) r
         (lent (now (spins .exit)) (now (labels .exit)) (now (greyed .exit)) (now (counts .exit)) (now (sizes .exit))) ⌝ }
 {
@@ -98,7 +99,8 @@ fn run_one(
         k (lent (now spins) (now labels) (now greyed) (now counts) (now sizes)) ⌝ }
     ensures { λ r. ⌜ Steps
         (sweepOf plan (now (fwd .entry)) (now (bwd .entry)) (now (couplings .entry)) (now (order .entry)) []
-        (now (temperatures .entry)) (now (cuts .entry)) (now (references .entry)) (now (seeds .entry)) (now (flips .entry)) (now (perms .entry)) (now (greys .entry)))
+        (now (temperatures .entry)) (now (cuts .entry)) (now (references .entry)) (now (seeds .entry))
+        (now (flips .entry)) (now (perms .entry)) (now (greys .entry)))
         k (lent (now (spins .entry)) (now (labels .entry)) (now (greyed .entry)) (now (counts .entry)) (now (sizes .entry))) r
         (lent (now (spins .exit)) (now (labels .exit)) (now (greyed .exit)) (now (counts .exit)) (now (sizes .exit))) ⌝ }
 {
@@ -189,7 +191,8 @@ fn step(
         k tally (lent (now spins) (now labels) (now greyed) (now counts) (now sizes)) ⌝ }
     ensures { λ r. ⌜ Turned
         (sweepOf plan (now (fwd .entry)) (now (bwd .entry)) (now (couplings .entry)) (now (order .entry)) (now (masks .entry))
-        (now (temperatures .entry)) (now (cuts .entry)) (now (references .entry)) (now (seeds .entry)) (now (flips .entry)) (now (perms .entry)) (now (greys .entry)))
+        (now (temperatures .entry)) (now (cuts .entry)) (now (references .entry)) (now (seeds .entry))
+        (now (flips .entry)) (now (perms .entry)) (now (greys .entry)))
         k tally (lent (now (spins .entry)) (now (labels .entry)) (now (greyed .entry)) (now (counts .entry)) (now (sizes .entry))) r
         (lent (now (spins .exit)) (now (labels .exit)) (now (greyed .exit)) (now (counts .exit)) (now (sizes .exit))) ⌝ }
 {
@@ -246,7 +249,8 @@ fn run_tasks(
         (lent (now spins) (now labels) (now greyed) (now counts) (now sizes))) ⌝ }
     ensures { λ r. ⌜ SweepAnswers
         (sweepOf plan (now (fwd .entry)) (now (bwd .entry)) (now (couplings .entry)) (now (order .entry)) (now (masks .entry))
-        (now (temperatures .entry)) (now (cuts .entry)) (now (references .entry)) (now (seeds .entry)) (now (flips .entry)) (now (perms .entry)) (now (greys .entry)))
+        (now (temperatures .entry)) (now (cuts .entry)) (now (references .entry)) (now (seeds .entry))
+        (now (flips .entry)) (now (perms .entry)) (now (greys .entry)))
         (lent (now (spins .entry)) (now (labels .entry)) (now (greyed .entry)) (now (counts .entry)) (now (sizes .entry))) r
         (lent (now (spins .exit)) (now (labels .exit)) (now (greyed .exit)) (now (counts .exit)) (now (sizes .exit))) ⌝ }
 {
@@ -304,7 +308,8 @@ fn update(
 ) -> SweepAnswer
     ensures { λ r. ⌜ SweepAnswers
         (sweepOf plan (now (fwd .entry)) (now (bwd .entry)) (now (couplings .entry)) (now (order .entry)) (now (masks .entry))
-        (now (temperatures .entry)) (now (cuts .entry)) (now (references .entry)) (now (seeds .entry)) (now (flips .entry)) (now (perms .entry)) (now (greys .entry)))
+        (now (temperatures .entry)) (now (cuts .entry)) (now (references .entry)) (now (seeds .entry))
+        (now (flips .entry)) (now (perms .entry)) (now (greys .entry)))
         (lent (now (spins .entry)) (now (labels .entry)) (now (greyed .entry)) (now (counts .entry)) (now (sizes .entry))) r
         (lent (now (spins .exit)) (now (labels .exit)) (now (greyed .exit)) (now (counts .exit)) (now (sizes .exit))) ⌝ }
 {
@@ -383,7 +388,8 @@ pub fn overlap_update(
 ) -> SweepAnswer
     ensures { λ a. ⌜ SweepAnswers
         (sweepFor mode form n d s t r members (now (fwd .entry)) (now (bwd .entry)) (now (couplings .entry)) (now (order .entry)) (now (masks .entry))
-        (now (temperatures .entry)) (now (cuts .entry)) (now (references .entry)) (now (seeds .entry)) (now (flips .entry)) (now (perms .entry)) (now (greys .entry)))
+        (now (temperatures .entry)) (now (cuts .entry)) (now (references .entry)) (now (seeds .entry))
+        (now (flips .entry)) (now (perms .entry)) (now (greys .entry)))
         (lent (now (spins .entry)) (now (labels .entry)) (now («grey_labels» .entry)) (now (counts .entry)) (now (sizes .entry))) a
         (lent (now (spins .exit)) (now (labels .exit)) (now («grey_labels» .exit)) (now (counts .exit)) (now (sizes .exit))) ⌝ }
 {

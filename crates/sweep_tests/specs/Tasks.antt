@@ -1,9 +1,9 @@
 -- Tests 8, 9 and 10 of unmasked tasks in ascending order. Assumes nothing.
-use Prim.Native.Nat.{ℕ, zero, suc, _+_, _*_, _/_, _%_, _≤_, _<_}
-use mathlib.Core.Path.{_≡_, refl, sym, _∙_}
+use Prim.Native.Nat.{ℕ, zero, suc, _+_, _*_, _/_, _≤_, _<_}
+use mathlib.Core.Path.{_≡_, refl, _∙_}
 use mathlib.Core.Logic.{_⊎_, inl, inr}
-use mathlib.Core.Bool.{Bool, true, false, cond}
-use mathlib.Core.List.{List, [], _++_}
+use mathlib.Core.Bool.{true, false, cond}
+use mathlib.Core.List.{List, []}
 use native.Mathlib.Omega.{arith}
 use native.Mathlib.Numerals.{add-one}
 use native.Mathlib.Nat.{mul-le-mul-right, suc-mul, eq-or-lt-of-le, le-of-suc-le-suc}
@@ -44,20 +44,27 @@ pub record TaskTested (q : Plan) (k : ℕ) (spins : List ℤ) (order : List ℕ)
   pub below : k < tasksOf q
 
 -- what the test of its choices leans on
-module _ {q : Plan} {k : ℕ} {spins : List ℤ} {order : List ℕ} {cuts : List Float} {flips perms greys : List ℕ} (h : TaskTested q k spins order cuts flips perms greys) where
+module _ {q : Plan} {k : ℕ} {spins : List ℤ} {order : List ℕ} {cuts : List Float} {flips perms greys : List ℕ}
+    (h : TaskTested q k spins order cuts flips perms greys) where
   ranged : Ranged (q .n) (q .d) (q .s) (q .mode) (q .members)
   ranged = h .tested .planned .ranged
 
   member-is : (x : ℕ) → x < q .members → member (groupAt q order k) x ≡ orderAt (ordered q order []) k x
-  member-is x l = table-at 8 (λ x. cond (ltb x (q .members)) (orderAt (ordered q order []) k x) 0) x (omega (arith, ranged .size-high)) ∙ rw (lt-ltb x (q .members) l) refl
+  member-is x l =
+      table-at 8 (λ x. cond (ltb x (q .members)) (orderAt (ordered q order []) k x) 0) x (omega (arith, ranged .size-high))
+      ∙ rw (lt-ltb x (q .members) l) refl
 
   member-lt : (x : ℕ) → x < q .members → member (groupAt q order k) x < q .s
   member-lt x l = rw (member-is x l) (h .tested .permuted .within _ (entry-lt q (h .tested .planned) k (h .below) x l))
 
   inside : Inside (q .n) (groupAt q order k) spins
-  inside x l = let z : suc (member (groupAt q order k) x) ≤ q .s = member-lt x l in omega (arith, mul-le-mul-right (q .n) z, suc-mul (member (groupAt q order k) x) (q .n), h .tested .spins-long)
+  inside x l =
+      let z : suc (member (groupAt q order k) x) ≤ q .s = member-lt x l in
+      omega (arith, mul-le-mul-right (q .n) z, suc-mul (member (groupAt q order k) x) (q .n), h .tested .spins-long)
 
-  pub task-tested : Tested (q .mode) (q .form) (q .n) (groupAt q order k) spins (part k (q .n) flips) (part k (entries (q .form) (q .n) * q .members) perms) (part k (entries (q .form) (q .n)) greys)
+  pub task-tested :
+      Tested (q .mode) (q .form) (q .n) (groupAt q order k) spins (part k (q .n) flips) (part k (entries (q .form) (q .n) * q .members) perms)
+      (part k (entries (q .form) (q .n)) greys)
   task-tested = record {
     n-low = ranged .lattice .n-low;
     n-high = ranged .lattice .n-high;
@@ -75,12 +82,20 @@ abbrev pub oneTask : Sweep → List ℤ → ℕ → List Rule
 oneTask w xs k = cond (masked w k) [] (choiceRules (taskCall w k) (taskChoices w k) xs)
 
 -- r is the verdict on the task k, whatever the panel's tables, couplings and temperatures are
-pub record TaskTold (q : Plan) (k : ℕ) (spins : List ℤ) (order masks : List ℕ) (cuts : List Float) (references seeds flips perms greys : List ℕ) (r : ℕ) : Type 0 where
-  pub is : (fwd bwd : List ℕ) (couplings : List ℤ) (temperatures : List Float) → Verdict (oneTask (sweepOf q fwd bwd couplings order masks temperatures cuts references seeds flips perms greys) spins k) r
+pub record TaskTold (q : Plan) (k : ℕ) (spins : List ℤ) (order masks : List ℕ) (cuts : List Float) (references seeds flips perms greys : List ℕ) (r : ℕ) :
+    Type 0 where
+  pub is :
+      (fwd bwd : List ℕ) (couplings : List ℤ) (temperatures : List Float)
+      → Verdict (oneTask (sweepOf q fwd bwd couplings order masks temperatures cuts references seeds flips perms greys) spins k) r
 
 -- and on the tasks below K, whatever the outputs hold
-pub record TasksTold (q : Plan) (K : ℕ) (spins : List ℤ) (order masks : List ℕ) (cuts : List Float) (references seeds flips perms greys : List ℕ) (r : ℕ) : Type 0 where
-  pub is : (fwd bwd : List ℕ) (couplings : List ℤ) (temperatures : List Float) (labels greyLabels counts sizes : List ℕ) → Verdict (taskRules (sweepOf q fwd bwd couplings order masks temperatures cuts references seeds flips perms greys) (lent spins labels greyLabels counts sizes) K) r
+pub record TasksTold (q : Plan) (K : ℕ) (spins : List ℤ) (order masks : List ℕ) (cuts : List Float) (references seeds flips perms greys : List ℕ) (r : ℕ) :
+    Type 0 where
+  pub is :
+      (fwd bwd : List ℕ) (couplings : List ℤ) (temperatures : List Float) (labels greyLabels counts sizes : List ℕ)
+      → Verdict
+      (taskRules (sweepOf q fwd bwd couplings order masks temperatures cuts references seeds flips perms greys) (lent spins labels greyLabels counts sizes) K)
+      r
 
 -- a masked task keeps its rules; an unmasked one has the verdict on its parts
 module _ {q : Plan} {k : ℕ} {spins : List ℤ} {order masks : List ℕ} {cuts : List Float} {references seeds flips perms greys : List ℕ} where
@@ -93,7 +108,8 @@ module _ {q : Plan} {k : ℕ} {spins : List ℤ} {order masks : List ℕ} {cuts 
       → fs ≡ part k (q .n) flips → ps ≡ part k (entries (q .form) (q .n) * q .members) perms → gs ≡ part k (entries (q .form) (q .n)) greys
       → EveryCall (q .mode) (q .form) (q .n) g cs a b (λ c. Verdict (choiceRules c (choicesOf fs ps gs) spins) r)
       → TaskTold q k spins order masks cuts references seeds flips perms greys r
-  told-parts {g} {cs} {a} {b} {fs} {ps} {gs} {r} e e₁ e₂ e₃ e₄ e₅ e₆ e₇ h = record { is = λ fwd bwd js ts. rw e (rw (e₁, e₂, e₃, e₄, e₅, e₆, e₇) at (h (q .d) (q .s) fwd bwd js (getD ts (k / (q .r / q .members)) nan))) }
+  told-parts {g} {cs} {a} {b} {fs} {ps} {gs} {r} e e₁ e₂ e₃ e₄ e₅ e₆ e₇ h =
+      record { is = λ fwd bwd js ts. rw e (rw (e₁, e₂, e₃, e₄, e₅, e₆, e₇) at (h (q .d) (q .s) fwd bwd js (getD ts (k / (q .r / q .members)) nan))) }
 
 -- ---- one task more
 more-kept : (w : Sweep) (b : Buffers) (K : ℕ) → Kept (taskRules w b K) → Kept (oneTask w (b .spins) K) → Kept (taskRules w b (K + 1))
@@ -111,9 +127,23 @@ module _ {q : Plan} {spins : List ℤ} {order masks : List ℕ} {cuts : List Flo
   pub told-none : TasksTold q 0 spins order masks cuts references seeds flips perms greys 0
   told-none = record { is = λ fwd bwd js ts labels greyed counts sizes. tt }
 
-  pub told-more : {K r : ℕ} → TasksTold q K spins order masks cuts references seeds flips perms greys 0 → r ≡ 0 → TaskTold q K spins order masks cuts references seeds flips perms greys r → TasksTold q (K + 1) spins order masks cuts references seeds flips perms greys 0
-  told-more {K} {r} h e t = record { is = λ fwd bwd js ts labels greyed counts sizes. more-kept (sweepOf q fwd bwd js order masks ts cuts references seeds flips perms greys) (lent spins labels greyed counts sizes) K (h .is fwd bwd js ts labels greyed counts sizes) (rw e at (t .is fwd bwd js ts)) }
+  pub told-more :
+      {K r : ℕ} → TasksTold q K spins order masks cuts references seeds flips perms greys 0 → r ≡ 0
+      → TaskTold q K spins order masks cuts references seeds flips perms greys r
+      → TasksTold q (K + 1) spins order masks cuts references seeds flips perms greys 0
+  told-more {K} {r} h e t = record {
+    is = λ fwd bwd js ts labels greyed counts sizes.
+        more-kept (sweepOf q fwd bwd js order masks ts cuts references seeds flips perms greys) (lent spins labels greyed counts sizes) K
+        (h .is fwd bwd js ts labels greyed counts sizes) (rw e at (t .is fwd bwd js ts));
+  }
 
-  pub told-broken : {K M r : ℕ} → K < M → TasksTold q K spins order masks cuts references seeds flips perms greys 0 → (r ≡ 0 → ⊥) → TaskTold q K spins order masks cuts references seeds flips perms greys r → TasksTold q M spins order masks cuts references seeds flips perms greys r
+  pub told-broken :
+      {K M r : ℕ} → K < M → TasksTold q K spins order masks cuts references seeds flips perms greys 0 → (r ≡ 0 → ⊥)
+      → TaskTold q K spins order masks cuts references seeds flips perms greys r
+      → TasksTold q M spins order masks cuts references seeds flips perms greys r
   told-broken {K} {M} {r = zero} l h ne t = absurd (ne refl)
-  told-broken {K} {M} {r = suc r} l h ne t = record { is = λ fwd bwd js ts labels greyed counts sizes. more-broken (sweepOf q fwd bwd js order masks ts cuts references seeds flips perms greys) (lent spins labels greyed counts sizes) K M (suc r) l (h .is fwd bwd js ts labels greyed counts sizes) (t .is fwd bwd js ts) }
+  told-broken {K} {M} {r = suc r} l h ne t = record {
+    is = λ fwd bwd js ts labels greyed counts sizes.
+        more-broken (sweepOf q fwd bwd js order masks ts cuts references seeds flips perms greys) (lent spins labels greyed counts sizes) K M (suc r) l
+        (h .is fwd bwd js ts labels greyed counts sizes) (t .is fwd bwd js ts);
+  }

@@ -15,7 +15,9 @@ use Rattle.sweep_tests.specs.Tasks.{SweepTested}
 
 module _ (w : Sweep) (b : Buffers) where
   abbrev middle : List Rule
-  middle = panelRules (planOf w) (b .spins) (w .lattice .fwd) (w .lattice .bwd) (w .order) ++ heatRules (planOf w) (w .lattice .couplings) (w .temperatures) (w .masks)
+  middle =
+      panelRules (planOf w) (b .spins) (w .lattice .fwd) (w .lattice .bwd) (w .order) ++ heatRules (planOf w) (w .lattice .couplings)
+      (w .temperatures) (w .masks)
 
   abbrev last : List Rule
   last = taskRules w b (tasks w)
@@ -28,7 +30,17 @@ module _ (w : Sweep) (b : Buffers) where
 
   fitting-of : SweepExact w b → Fitting (planOf w) (lengthsAll w b)
   fitting-of e = record {
-    always = record { spins = e .spins; fwd = e .fwd; bwd = e .bwd; order = e .order; masks = e .masks; labels = e .labels; counts = e .counts; sizes = e .sizes };
+    always =
+        record {
+          spins = e .spins;
+          fwd = e .fwd;
+          bwd = e .bwd;
+          order = e .order;
+          masks = e .masks;
+          labels = e .labels;
+          counts = e .counts;
+          sizes = e .sizes;
+        };
     drawn = record { couplings = e .couplings; temperatures = e .temperatures; cuts = e .cuts };
     chosen = record { flips = e .flips; perms = e .perms; greys = e .greys; greyed = e .grey-labels; references = e .references; seeds = e .seeds };
   }

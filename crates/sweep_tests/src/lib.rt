@@ -89,7 +89,8 @@ fn test_first(
 ) -> u8
     ensures { λ r. ⌜ Verdict (firstRules
         (sweepOf plan (now (fwd .entry)) (now (bwd .entry)) (now (couplings .entry)) (now (order .entry)) (now (masks .entry))
-        (now (temperatures .entry)) (now (cuts .entry)) (now (references .entry)) (now (seeds .entry)) (now (flips .entry)) (now (perms .entry)) (now (greys .entry)))
+        (now (temperatures .entry)) (now (cuts .entry)) (now (references .entry)) (now (seeds .entry))
+        (now (flips .entry)) (now (perms .entry)) (now (greys .entry)))
         (lent (now (spins .entry)) (now (labels .entry)) (now (greyed .entry)) (now (counts .entry)) (now (sizes .entry)))) r ⌝ }
 {
     let l = SweepLengths {
@@ -224,7 +225,8 @@ pub fn test_sweep(
 ) -> u8
     ensures { λ r. ⌜ Verdict (sweepRules
         (sweepOf plan (now (fwd .entry)) (now (bwd .entry)) (now (couplings .entry)) (now (order .entry)) (now (masks .entry))
-        (now (temperatures .entry)) (now (cuts .entry)) (now (references .entry)) (now (seeds .entry)) (now (flips .entry)) (now (perms .entry)) (now (greys .entry)))
+        (now (temperatures .entry)) (now (cuts .entry)) (now (references .entry)) (now (seeds .entry))
+        (now (flips .entry)) (now (perms .entry)) (now (greys .entry)))
         (lent (now (spins .entry)) (now (labels .entry)) (now (greyed .entry)) (now (counts .entry)) (now (sizes .entry)))) r ⌝ }
 {
     let fault = test_first(

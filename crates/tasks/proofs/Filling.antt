@@ -1,8 +1,8 @@
 -- A table of eight numbers filled from the front. Assumes nothing.
-use Prim.Native.Nat.{ℕ, zero, suc, _+_, _≤_, _<_}
+use Prim.Native.Nat.{ℕ, zero, suc, _+_, _<_}
 use mathlib.Core.Path.{_≡_, refl, sym, _∙_, ap}
 use mathlib.Core.Logic.{_≢_}
-use mathlib.Core.Bool.{Bool, cond}
+use mathlib.Core.Bool.{cond}
 use mathlib.Core.List.{List}
 use native.Mathlib.Omega.{arith}
 use native.Mathlib.Decide.{ℕ-discrete, decLt}
@@ -50,4 +50,6 @@ fill-more {f} {x} {xs} v h l e = record { long = simp length-set (h .long); at =
     go y ly (no q) = getD-set-other xs x y v 0 q ∙ (h .at y ly ∙ sym (past y q))
 
 pub fill-done : {f : ℕ → ℕ} {x : ℕ} {xs : List ℕ} → Filled f x xs → xs ≡ table 8 (upTo f x)
-fill-done {f} {x} {xs} h = ext-getD 0 xs (table 8 (upTo f x)) (h .long ∙ sym (length-table 8 (upTo f x))) (λ y l. let q : y < 8 = omega (arith, h .long) in h .at y q ∙ sym (table-at 8 (upTo f x) y q))
+fill-done {f} {x} {xs} h =
+    ext-getD 0 xs (table 8 (upTo f x)) (h .long ∙ sym (length-table 8 (upTo f x)))
+    (λ y l. let q : y < 8 = omega (arith, h .long) in h .at y q ∙ sym (table-at 8 (upTo f x) y q))

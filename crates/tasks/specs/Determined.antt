@@ -18,16 +18,21 @@ abbrev span : ℕ → ℕ → Span
 span a e = record { start = a; end = e }
 
 pub bounds-determined : (len k m : ℕ) (x y : Span) → Bounding len k m (x .start) (x .end) → Bounding len k m (y .start) (y .end) → x ≡ y
-bounds-determined len k m x y p q = ap (λ (a : ℕ). span a (x .end)) (one-value (p .starts) (q .starts)) ∙ ap (λ (e : ℕ). span (y .start) e) (one-value (p .ends) (q .ends))
+bounds-determined len k m x y p q =
+    ap (λ (a : ℕ). span a (x .end)) (one-value (p .starts) (q .starts)) ∙ ap (λ (e : ℕ). span (y .start) e) (one-value (p .ends) (q .ends))
 
 -- two slices that are the same part have the same elements
 pub task-flips-determined : (q : Plan) (flips : List ℕ) (k : ℕ) (x y : List ℕ) → x ≡ part k (q .n) flips → y ≡ part k (q .n) flips → x ≡ y
 task-flips-determined q flips k x y = one-value
 
-pub task-perms-determined : (q : Plan) (perms : List ℕ) (k : ℕ) (x y : List ℕ) → x ≡ part k (entries (q .form) (q .n) * q .members) perms → y ≡ part k (entries (q .form) (q .n) * q .members) perms → x ≡ y
+pub task-perms-determined :
+    (q : Plan) (perms : List ℕ) (k : ℕ) (x y : List ℕ) → x ≡ part k (entries (q .form) (q .n) * q .members) perms
+    → y ≡ part k (entries (q .form) (q .n) * q .members) perms → x ≡ y
 task-perms-determined q perms k x y = one-value
 
-pub task-greys-determined : (q : Plan) (greys : List ℕ) (k : ℕ) (x y : List ℕ) → x ≡ part k (entries (q .form) (q .n)) greys → y ≡ part k (entries (q .form) (q .n)) greys → x ≡ y
+pub task-greys-determined :
+    (q : Plan) (greys : List ℕ) (k : ℕ) (x y : List ℕ) → x ≡ part k (entries (q .form) (q .n)) greys → y ≡ part k (entries (q .form) (q .n)) greys
+    → x ≡ y
 task-greys-determined q greys k x y = one-value
 
 pub task-cuts-determined : (q : Plan) (cuts : List Float) (k : ℕ) (x y : List Float) → x ≡ part k (q .n * q .d) cuts → y ≡ part k (q .n * q .d) cuts → x ≡ y
@@ -39,7 +44,8 @@ word-at-determined xs k x y = one-value
 pub task-count-determined : (q : Plan) (x y : ℕ) → x ≡ tasksOf q → y ≡ tasksOf q → x ≡ y
 task-count-determined q x y = one-value
 
-pub task-temperature-determined : (q : Plan) (ts : List Float) (k : ℕ) (x y : Float) → x ≡ getD ts (k / (q .r / q .members)) nan → y ≡ getD ts (k / (q .r / q .members)) nan → x ≡ y
+pub task-temperature-determined :
+    (q : Plan) (ts : List Float) (k : ℕ) (x y : Float) → x ≡ getD ts (k / (q .r / q .members)) nan → y ≡ getD ts (k / (q .r / q .members)) nan → x ≡ y
 task-temperature-determined q ts k x y = one-value
 
 pub masked-determined : (q : Plan) (masks : List ℕ) (k : ℕ) (x y : Bool) → x ≡ maskedAt q masks k → y ≡ maskedAt q masks k → x ≡ y

@@ -1,12 +1,12 @@
 -- A part of a buffer that is lent and comes back written, also where the buffer ends before the part does. Assumes nothing.
-use Prim.Native.Nat.{ℕ, zero, suc, min, _+_, _-_, _*_, _≤_, _<_}
+use Prim.Native.Nat.{ℕ, min, _+_, _-_, _*_, _≤_, _<_}
 use mathlib.Core.Path.{_≡_, refl, sym, _∙_, ap}
 use mathlib.Core.Logic.{_⊎_, inl, inr, _≢_}
-use mathlib.Core.List.{List, [], _++_}
+use mathlib.Core.List.{List, _++_}
 use native.Mathlib.Omega.{arith}
 use native.Mathlib.Decide.{decLe, decLt}
 use native.Mathlib.Nat.{mul-le-mul, mul-le-mul-right, suc-mul}
-use lib.ListN.{length, getD, take, drop, length-append, length-take, length-drop, take-append-drop, List·getD-append, List·getD-eq-default, drop-of-length-le}
+use lib.ListN.{length, getD, take, drop, length-append, length-take, length-drop, take-append-drop, List·getD-append, drop-of-length-le}
 use lib.Seq.{take-all, take-nil, length-take-le, getD-append-add, getD-take, getD-drop, ext-getD, take-at, drop-at}
 use Rattle.paper.specs.Answer.Task.{part}
 use Rattle.tasks.specs.Plan.{Few, Bounding}
@@ -14,6 +14,11 @@ use Rattle.tasks.specs.Plan.{Few, Bounding}
 -- the elements of xs from a to e come back as ys
 abbrev pub back : {A : Type 0} → List A → ℕ → ℕ → List A → List A
 back xs a e ys = take a xs ++ (ys ++ drop (e - a) (drop a xs))
+
+pub record Lendable {A : Type 0} (xs : List A) (a e : ℕ) : Type 0 where
+  pub ordered : a ≤ e
+  pub inside : e ≤ length xs
+  pub few : a ≤ 2097152
 
 module _ {A : Type 0} (xs : List A) (k m a e : ℕ) (h : Bounding (length xs) k m a e) where
   pub in-order : a ≤ e
@@ -31,14 +36,17 @@ module _ {A : Type 0} (xs : List A) (k m a e : ℕ) (h : Bounding (length xs) k 
         where
           shorter : Dec (k * m + m ≤ length xs) → a ≡ k * m → take (e - k * m) (drop (k * m) xs) ≡ take m (drop (k * m) xs)
           shorter (yes f) q = let z : e - k * m ≡ m = omega (arith, h .ends) in rw z refl
-          shorter (no f) q = take-all (e - k * m) (drop (k * m) xs) (simp length-drop (omega (arith, h .ends))) ∙ sym (take-all m (drop (k * m) xs) (simp length-drop (omega arith)))
+          shorter (no f) q =
+              take-all (e - k * m) (drop (k * m) xs) (simp length-drop (omega (arith, h .ends)))
+              ∙ sym (take-all m (drop (k * m) xs) (simp length-drop (omega arith)))
       go (no l) = let z : e - a ≡ 0 = omega (arith, h .starts, h .ends) in rw (z, drop-of-length-le xs {i = k * m} (omega arith)) (sym (take-nil m))
 
   pub lent-length : length (take (e - a) (drop a xs)) ≡ e - a
   lent-length = simp (length-take, length-drop) (omega (arith, in-order, in-buffer))
 
-  pub start-few : Few k m → a ≤ 2097152
-  start-few f = omega (arith, h .starts, mul-le-mul (f .number) (f .elements))
+  -- so it can be lent, and its place is a small number
+  pub lendable : Few k m → Lendable xs a e
+  lendable f = record { ordered = in-order; inside = in-buffer; few = omega (arith, h .starts, mul-le-mul (f .number) (f .elements)) }
 
   module _ (ys : List A) (long : length ys ≡ e - a) where
     front : length (take a xs) ≡ a
@@ -58,14 +66,18 @@ module _ {A : Type 0} (xs : List A) (k m a e : ℕ) (h : Bounding (length xs) k 
       out p (inl l) = List·getD-append (take a xs) (ys ++ drop (e - a) (drop a xs)) d p (omega (arith, front)) ∙ getD-take a xs p d l
       out p (inr l) =
           let q : a + (e - a + (p - e)) ≡ p = omega (arith, in-order) in
-          rw (← q) (sym (getD-drop a (back xs a e ys) (e - a + (p - e)) d) ∙ (ap (λ (z : List A). getD z (e - a + (p - e)) d) behind ∙ (after (p - e) ∙ getD-drop a xs (e - a + (p - e)) d)))
+          rw (← q)
+          (sym (getD-drop a (back xs a e ys) (e - a + (p - e)) d)
+          ∙ (ap (λ (z : List A). getD z (e - a + (p - e)) d) behind ∙ (after (p - e) ∙ getD-drop a xs (e - a + (p - e)) d)))
         where
           after : (o : ℕ) → getD (ys ++ drop (e - a) (drop a xs)) (e - a + o) d ≡ getD (drop a xs) (e - a + o) d
           after o = rw long at (getD-append-add ys (drop (e - a) (drop a xs)) o d) ∙ getD-drop (e - a) (drop a xs) o d
 
       -- the other parts are as they were
       pub back-other : (j : ℕ) → j ≢ k → part j m (back xs a e ys) ≡ part j m xs
-      back-other j ne = ext-getD d (part j m (back xs a e ys)) (part j m xs) (simp (length-take, length-drop, back-length) refl) (λ o l. at o (rw (length-take, length-drop) at l))
+      back-other j ne =
+          ext-getD d (part j m (back xs a e ys)) (part j m xs) (simp (length-take, length-drop, back-length) refl)
+          (λ o l. at o (rw (length-take, length-drop) at l))
         where
           at : (o : ℕ) → o < min m (length (back xs a e ys) - j * m) → getD (part j m (back xs a e ys)) o d ≡ getD (part j m xs) o d
           at o l = element (back xs a e ys) ∙ (out (j * m + o) (side (decLt j k)) ∙ sym (element xs))

@@ -5,16 +5,16 @@ use mathlib.Core.Bool.{Bool}
 use mathlib.Core.List.{List, []}
 use native.Mathlib.Omega.{arith}
 use native.Mathlib.Nat.{mul-le-mul, mul-le-mul-left, mul-le-mul-right, suc-mul, div-add-mod', mod-lt, div-le-self, div-lt-iff-lt-mul, le-div-iff-mul-le}
-use lib.ListN.{length, getD}
+use lib.ListN.{length}
 use lib.IntN.{ℤ}
 use lib.Ieee.{Float}
 use Rattle.paper.specs.declared.Group.{Group}
 use Rattle.paper.specs.declared.Form.{Form}
 use Rattle.paper.specs.declared.Form.the-variants.{Sw, Wolff, Observe}
-use Rattle.paper.specs.Panel.Input.{Lattice, Buffers}
+use Rattle.paper.specs.Panel.Input.{Buffers}
 use Rattle.paper.specs.Panel.Takes.{entries}
 use Rattle.paper.specs.Refusal.Rules.{Ranged}
-use Rattle.paper.specs.Answer.Task.{Sweep, groups, tasks, orderAt, masked, groupOf}
+use Rattle.paper.specs.Answer.Task.{Sweep, tasks, masked, groupOf}
 use Rattle.tasks.specs.declared.Plan.{Plan}
 
 -- a part's number and its elements, few enough for their product
@@ -112,7 +112,15 @@ module _ (q : Plan) (h : Planned q) where
 
     -- the order entry of the task's place x
     pub entry-lt : (x : ℕ) → x < q .members → k / (q .r / q .members) * q .r + (k % (q .r / q .members)) * q .members + x < q .s
-    entry-lt x l = omega (arith, mul-le-mul-right (q .r) temperature-lt, suc-mul (k / (q .r / q .members)) (q .r), mul-le-mul-right (q .members) (mod-lt k some-groups), suc-mul (k % (q .r / q .members)) (q .members), div-add-mod' (q .r) (q .members), h .all)
+    entry-lt x l = omega (
+      arith,
+      mul-le-mul-right (q .r) temperature-lt,
+      suc-mul (k / (q .r / q .members)) (q .r),
+      mul-le-mul-right (q .members) (mod-lt k some-groups),
+      suc-mul (k % (q .r / q .members)) (q .members),
+      div-add-mod' (q .r) (q .members),
+      h .all,
+    )
 
     pub few : (m : ℕ) → m ≤ 32768 → Few k m
     few m l = record { number = omega (arith, below, few-tasks); elements = l }

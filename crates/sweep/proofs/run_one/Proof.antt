@@ -1,13 +1,12 @@
 use borrow.Author.Needs.{needs}
-use Prim.Native.Nat.{ℕ, _+_, _*_, _≤_}
-use mathlib.Core.List.{List, []}
+use Prim.Native.Nat.{ℕ, _+_, _≤_}
+use mathlib.Core.List.{[]}
 use native.Mathlib.Omega.{arith}
 use denote.Ref.{now}
-use lib.ListN.{length}
 use Rattle.paper.specs.Panel.Input.{Buffers}
 use Rattle.paper.specs.Answer.Task.{Sweep}
-use Rattle.tasks.specs.Plan.{Few, Bounding, few, sweepOf, lent}
-use Rattle.tasks.specs.Parts.{in-order, in-buffer, start-few}
+use Rattle.tasks.specs.Plan.{Few, few, sweepOf, lent}
+use Rattle.tasks.specs.Parts.{Lendable, lendable}
 use Rattle.sweep.specs.Running.{areas-lent, steps-put}
 use Rattle.sweep.proofs.run_one.Statement.{statement}
 use Rattle.sweep.proofs.run_one.Tie as tie
@@ -21,7 +20,8 @@ T t = S (t .before .before .before .before)
 abbrev W : tie.Start → Sweep
 W s =
     let a = s .args in
-    sweepOf (a .plan) (now (a .fwd)) (now (a .bwd)) (now (a .couplings)) (now (a .order)) [] (now (a .temperatures)) (now (a .cuts)) (now (a .references)) (now (a .seeds)) (now (a .flips)) (now (a .perms)) (now (a .greys))
+    sweepOf (a .plan) (now (a .fwd)) (now (a .bwd)) (now (a .couplings)) (now (a .order)) [] (now (a .temperatures)) (now (a .cuts))
+    (now (a .references)) (now (a .seeds)) (now (a .flips)) (now (a .perms)) (now (a .greys))
 
 abbrev B : tie.Start → Buffers
 B s = let a = s .args in lent (now (a .spins)) (now (a .labels)) (now (a .greyed)) (now (a .counts)) (now (a .sizes))
@@ -39,6 +39,19 @@ counts s = small s (s .args .plan .n + 1) (omega (arith, s .pre .placing .task .
 fours : (s : tie.Start) → Few (s .args .k) 4
 fours s = small s 4 (omega arith)
 
+-- each area can be lent
+labels-lent : (t : tie.After-bounds4) → let r = t .before .before .before .bounds .result in Lendable (now (T t .args .labels)) (r .start) (r .end)
+labels-lent t = lendable (now (T t .args .labels)) (T t .args .k) (T t .args .plan .n) _ _ (t .before .before .before .bounds .ensures) (sites (T t))
+
+greyed-lent : (t : tie.After-bounds4) → let r = t .before .before .bounds2 .result in Lendable (now (T t .args .greyed)) (r .start) (r .end)
+greyed-lent t = lendable (now (T t .args .greyed)) (T t .args .k) (T t .args .plan .n) _ _ (t .before .before .bounds2 .ensures) (sites (T t))
+
+counts-lent : (t : tie.After-bounds4) → let r = t .before .bounds3 .result in Lendable (now (T t .args .counts)) (r .start) (r .end)
+counts-lent t = lendable (now (T t .args .counts)) (T t .args .k) (T t .args .plan .n + 1) _ _ (t .before .bounds3 .ensures) (counts (T t))
+
+sizes-lent : (t : tie.After-bounds4) → let r = t .bounds4 .result in Lendable (now (T t .args .sizes)) (r .start) (r .end)
+sizes-lent t = lendable (now (T t .args .sizes)) (T t .args .k) 4 _ _ (t .bounds4 .ensures) (fours (T t))
+
 bounds-requires : tie.Need-bounds-requires
 bounds-requires c κs = sites (S c)
 
@@ -55,58 +68,60 @@ bounds-requires-4 : tie.Need-bounds-requires-4
 bounds-requires-4 c κs = fours (S (c .before .before .before))
 
 mul-run-parts : tie.Need-mul-run-parts
-mul-run-parts c = let t = c .before in omega (arith, start-few (now (T t .args .labels)) (T t .args .k) (T t .args .plan .n) _ _ (t .before .before .before .bounds .ensures) (sites (T t)))
+mul-run-parts c = omega (arith, labels-lent (c .before) .few)
 
 sub-run-parts : tie.Need-sub-run-parts
-sub-run-parts c = let t = c .before in in-order (now (T t .args .labels)) (T t .args .k) (T t .args .plan .n) _ _ (t .before .before .before .bounds .ensures)
+sub-run-parts c = labels-lent (c .before) .ordered
 
 part-run-parts-start : tie.Need-part-run-parts-start
-part-run-parts-start c = let t = c .before in in-order (now (T t .args .labels)) (T t .args .k) (T t .args .plan .n) _ _ (t .before .before .before .bounds .ensures)
+part-run-parts-start c = labels-lent (c .before) .ordered
 
 part-run-parts-end : tie.Need-part-run-parts-end
-part-run-parts-end c = let t = c .before in in-buffer (now (T t .args .labels)) (T t .args .k) (T t .args .plan .n) _ _ (t .before .before .before .bounds .ensures)
+part-run-parts-end c = labels-lent (c .before) .inside
 
 mul-run-parts-2 : tie.Need-mul-run-parts-2
-mul-run-parts-2 c = let t = c .before .before in omega (arith, start-few (now (T t .args .greyed)) (T t .args .k) (T t .args .plan .n) _ _ (t .before .before .bounds2 .ensures) (sites (T t)))
+mul-run-parts-2 c = omega (arith, greyed-lent (c .before .before) .few)
 
 sub-run-parts-2 : tie.Need-sub-run-parts-2
-sub-run-parts-2 c = let t = c .before .before in in-order (now (T t .args .greyed)) (T t .args .k) (T t .args .plan .n) _ _ (t .before .before .bounds2 .ensures)
+sub-run-parts-2 c = greyed-lent (c .before .before) .ordered
 
 part-run-parts-start-2 : tie.Need-part-run-parts-start-2
-part-run-parts-start-2 c = let t = c .before .before in in-order (now (T t .args .greyed)) (T t .args .k) (T t .args .plan .n) _ _ (t .before .before .bounds2 .ensures)
+part-run-parts-start-2 c = greyed-lent (c .before .before) .ordered
 
 part-run-parts-end-2 : tie.Need-part-run-parts-end-2
-part-run-parts-end-2 c = let t = c .before .before in in-buffer (now (T t .args .greyed)) (T t .args .k) (T t .args .plan .n) _ _ (t .before .before .bounds2 .ensures)
+part-run-parts-end-2 c = greyed-lent (c .before .before) .inside
 
 mul-run-parts-3 : tie.Need-mul-run-parts-3
-mul-run-parts-3 c = let t = c .before .before .before in omega (arith, start-few (now (T t .args .counts)) (T t .args .k) (T t .args .plan .n + 1) _ _ (t .before .bounds3 .ensures) (counts (T t)))
+mul-run-parts-3 c = omega (arith, counts-lent (c .before .before .before) .few)
 
 sub-run-parts-3 : tie.Need-sub-run-parts-3
-sub-run-parts-3 c = let t = c .before .before .before in in-order (now (T t .args .counts)) (T t .args .k) (T t .args .plan .n + 1) _ _ (t .before .bounds3 .ensures)
+sub-run-parts-3 c = counts-lent (c .before .before .before) .ordered
 
 part-run-parts-start-3 : tie.Need-part-run-parts-start-3
-part-run-parts-start-3 c = let t = c .before .before .before in in-order (now (T t .args .counts)) (T t .args .k) (T t .args .plan .n + 1) _ _ (t .before .bounds3 .ensures)
+part-run-parts-start-3 c = counts-lent (c .before .before .before) .ordered
 
 part-run-parts-end-3 : tie.Need-part-run-parts-end-3
-part-run-parts-end-3 c = let t = c .before .before .before in in-buffer (now (T t .args .counts)) (T t .args .k) (T t .args .plan .n + 1) _ _ (t .before .bounds3 .ensures)
+part-run-parts-end-3 c = counts-lent (c .before .before .before) .inside
 
 mul-run-parts-4 : tie.Need-mul-run-parts-4
-mul-run-parts-4 c = let t = c .before .before .before .before in omega (arith, start-few (now (T t .args .sizes)) (T t .args .k) 4 _ _ (t .bounds4 .ensures) (fours (T t)))
+mul-run-parts-4 c = omega (arith, sizes-lent (c .before .before .before .before) .few)
 
 sub-run-parts-4 : tie.Need-sub-run-parts-4
-sub-run-parts-4 c = let t = c .before .before .before .before in in-order (now (T t .args .sizes)) (T t .args .k) 4 _ _ (t .bounds4 .ensures)
+sub-run-parts-4 c = sizes-lent (c .before .before .before .before) .ordered
 
 part-run-parts-start-4 : tie.Need-part-run-parts-start-4
-part-run-parts-start-4 c = let t = c .before .before .before .before in in-order (now (T t .args .sizes)) (T t .args .k) 4 _ _ (t .bounds4 .ensures)
+part-run-parts-start-4 c = sizes-lent (c .before .before .before .before) .ordered
 
 part-run-parts-end-4 : tie.Need-part-run-parts-end-4
-part-run-parts-end-4 c = let t = c .before .before .before .before in in-buffer (now (T t .args .sizes)) (T t .args .k) 4 _ _ (t .bounds4 .ensures)
+part-run-parts-end-4 c = sizes-lent (c .before .before .before .before) .inside
 
 run-parts-requires : tie.Need-run-parts-requires
 run-parts-requires c κs =
     let t = c .before .before .before .before .before in
     let s = T t in
-    record { placing = s .pre .placing; valid = rw (areas-lent (W s) (s .args .k) (B s) (t .before .before .before .bounds .ensures) (t .before .before .bounds2 .ensures) (t .before .bounds3 .ensures) (t .bounds4 .ensures)) at (s .pre .valid) }
+    let lent = areas-lent (W s) (s .args .k) (B s) (t .before .before .before .bounds .ensures) (t .before .before .bounds2 .ensures)
+    (t .before .bounds3 .ensures) (t .bounds4 .ensures) in
+    record { placing = s .pre .placing; valid = rw lent at (s .pre .valid) }
 
 same-length : tie.Need-same-length
 same-length c = search needs
@@ -129,9 +144,12 @@ returns c =
     let t = p .before .before .before .before .before .before in
     let s = T t in
     let z = p .run-parts in
-    steps-put (W s) (s .args .k) (B s) (t .before .before .before .bounds .ensures) (t .before .before .bounds2 .ensures) (t .before .bounds3 .ensures) (t .bounds4 .ensures)
-    (z .last .1 .1 .0) (z .last .1 .1 .1 .1 .1 .1 .1 .1 .1 .1 .1 .1 .1 .1 .0) (z .last .1 .1 .1 .1 .1 .1 .1 .1 .1 .1 .1 .1 .1 .1 .1 .0) (z .last .1 .1 .1 .1 .1 .1 .1 .1 .1 .1 .1 .1 .1 .1 .1 .1 .0) (z .last .1 .1 .1 .1 .1 .1 .1 .1 .1 .1 .1 .1 .1 .1 .1 .1 .1 .0)
-    (z .kept .1 .1 .1 .1 .1 .1 .1 .1 .1 .1 .1 .1 .1 .1 .0) (z .kept .1 .1 .1 .1 .1 .1 .1 .1 .1 .1 .1 .1 .1 .1 .1 .0) (z .kept .1 .1 .1 .1 .1 .1 .1 .1 .1 .1 .1 .1 .1 .1 .1 .1 .0) (z .kept .1 .1 .1 .1 .1 .1 .1 .1 .1 .1 .1 .1 .1 .1 .1 .1 .1 .0)
+    steps-put (W s) (s .args .k) (B s) (t .before .before .before .bounds .ensures) (t .before .before .bounds2 .ensures)
+    (t .before .bounds3 .ensures) (t .bounds4 .ensures)
+    (z .last .1 .1 .0) (z .last .1 .1 .1 .1 .1 .1 .1 .1 .1 .1 .1 .1 .1 .1 .0) (z .last .1 .1 .1 .1 .1 .1 .1 .1 .1 .1 .1 .1 .1 .1 .1 .0)
+    (z .last .1 .1 .1 .1 .1 .1 .1 .1 .1 .1 .1 .1 .1 .1 .1 .1 .0) (z .last .1 .1 .1 .1 .1 .1 .1 .1 .1 .1 .1 .1 .1 .1 .1 .1 .1 .0)
+    (z .kept .1 .1 .1 .1 .1 .1 .1 .1 .1 .1 .1 .1 .1 .1 .0) (z .kept .1 .1 .1 .1 .1 .1 .1 .1 .1 .1 .1 .1 .1 .1 .1 .0)
+    (z .kept .1 .1 .1 .1 .1 .1 .1 .1 .1 .1 .1 .1 .1 .1 .1 .1 .0) (z .kept .1 .1 .1 .1 .1 .1 .1 .1 .1 .1 .1 .1 .1 .1 .1 .1 .1 .0)
     (z .result) (z .ensures)
 
 pub run-one-spec : {M : Type 1} → statement M

@@ -13,7 +13,8 @@ S g = g .before .before .before .before .before .before .before .before .before 
 abbrev W : tie.Start → Sweep
 W s =
     let a = s .args in
-    sweepOf (a .plan) (now (a .fwd)) (now (a .bwd)) (now (a .couplings)) (now (a .order)) [] (now (a .temperatures)) (now (a .cuts)) (now (a .references)) (now (a .seeds)) (now (a .flips)) (now (a .perms)) (now (a .greys))
+    sweepOf (a .plan) (now (a .fwd)) (now (a .bwd)) (now (a .couplings)) (now (a .order)) [] (now (a .temperatures)) (now (a .cuts))
+    (now (a .references)) (now (a .seeds)) (now (a .flips)) (now (a .perms)) (now (a .greys))
 
 task-group-requires : tie.Need-task-group-requires
 task-group-requires c κs = search needs
@@ -42,7 +43,11 @@ task-greys-requires c κs = let s = S (c .before .before .before .before .before
 abbrev G : tie.After-task-greys → tie.After-task-group
 G g = g .before .before .before .before .before .before .before
 
-parts : (g8 : tie.After-task-greys) → let g7 = g8 .before in let g6 = g7 .before in let g5 = g6 .before in let g4 = g5 .before in let g3 = g4 .before in let g2 = g3 .before in let g1 = g2 .before in Parts (W (S g1)) (S g1 .args .k) (g1 .task-group .result) (g2 .task-temperature .result) (now (g3 .task-cuts .result)) (g4 .word-at .result) (g5 .word-at2 .result) (now (g6 .task-flips .result)) (now (g7 .task-perms .result)) (now (g8 .task-greys .result))
+parts :
+    (g8 : tie.After-task-greys)
+    → let g7 = g8 .before in let g6 = g7 .before in let g5 = g6 .before in let g4 = g5 .before in let g3 = g4 .before in let g2 = g3 .before in let g1
+    = g2 .before in Parts (W (S g1)) (S g1 .args .k) (g1 .task-group .result) (g2 .task-temperature .result) (now (g3 .task-cuts .result))
+    (g4 .word-at .result) (g5 .word-at2 .result) (now (g6 .task-flips .result)) (now (g7 .task-perms .result)) (now (g8 .task-greys .result))
 parts g8 =
     let g7 = g8 .before in
     let g6 = g7 .before in

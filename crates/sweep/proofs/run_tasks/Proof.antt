@@ -1,7 +1,7 @@
 -- `run_tasks` meets its contract. The invariant: the first k tasks have run. Assumes nothing.
 use borrow.Author.Needs.{needs}
-use Prim.Native.Nat.{ℕ, _-_, _≤_, _<_}
-use mathlib.Core.Path.{_≡_, _∙_}
+use Prim.Native.Nat.{_-_, _<_}
+use mathlib.Core.Path.{_≡_}
 use native.Mathlib.Nat.{le-antisymm}
 use native.Mathlib.Omega.{arith}
 use denote.Ref.{now}
@@ -14,11 +14,14 @@ use Rattle.sweep.proofs.run_tasks.Statement.{statement}
 use Rattle.sweep.proofs.run_tasks.Tie as tie
 
 abbrev Inv-loop : tie.InvT-loop
-Inv-loop plan spins₀ fwd bwd couplings order masks temperatures cuts references seeds flips perms greys labels₀ greyed₀ counts₀ sizes₀ count tally₀ k₀ spins labels greyed counts sizes tally k =
-    Ran (sweepOf plan fwd bwd couplings order masks temperatures cuts references seeds flips perms greys) (lent spins₀ labels₀ greyed₀ counts₀ sizes₀) k (tally .idle) (tally .moved) (lent spins labels greyed counts sizes)
+Inv-loop plan spins₀ fwd bwd couplings order masks temperatures cuts references seeds flips perms greys labels₀ greyed₀ counts₀ sizes₀ count tally₀ k₀
+    spins labels greyed counts sizes tally k =
+    Ran (sweepOf plan fwd bwd couplings order masks temperatures cuts references seeds flips perms greys) (lent spins₀ labels₀ greyed₀ counts₀ sizes₀)
+    k (tally .idle) (tally .moved) (lent spins labels greyed counts sizes)
 
 abbrev μ-loop : tie.MeasureT-loop
-μ-loop plan spins₀ fwd bwd couplings order masks temperatures cuts references seeds flips perms greys labels₀ greyed₀ counts₀ sizes₀ count tally₀ k₀ spins labels greyed counts sizes tally k =
+μ-loop plan spins₀ fwd bwd couplings order masks temperatures cuts references seeds flips perms greys labels₀ greyed₀ counts₀ sizes₀ count tally₀ k₀
+    spins labels greyed counts sizes tally k =
     count - k
 
 abbrev S : tie.After-task-count Inv-loop μ-loop → tie.Start Inv-loop μ-loop
@@ -27,7 +30,8 @@ S t = t .before .before .before .before .before .before .before .before .before 
 abbrev W : tie.Start Inv-loop μ-loop → Sweep
 W s =
     let a = s .args in
-    sweepOf (a .plan) (now (a .fwd)) (now (a .bwd)) (now (a .couplings)) (now (a .order)) (now (a .masks)) (now (a .temperatures)) (now (a .cuts)) (now (a .references)) (now (a .seeds)) (now (a .flips)) (now (a .perms)) (now (a .greys))
+    sweepOf (a .plan) (now (a .fwd)) (now (a .bwd)) (now (a .couplings)) (now (a .order)) (now (a .masks)) (now (a .temperatures)) (now (a .cuts))
+    (now (a .references)) (now (a .seeds)) (now (a .flips)) (now (a .perms)) (now (a .greys))
 
 abbrev B : tie.Start Inv-loop μ-loop → Buffers
 B s = let a = s .args in lent (now (a .spins)) (now (a .labels)) (now (a .greyed)) (now (a .counts)) (now (a .sizes))
@@ -63,13 +67,22 @@ step-requires c κs =
     }
 
 add-k : tie.Need-add-k Inv-loop μ-loop
-add-k c = let l = c .before .before .before .before .before .before .before .before .before .before .before .before .before .before .before in let s = S (C l) in omega (arith, below l, few-tasks (s .args .plan) (planned s))
+add-k c =
+    let l = c .before .before .before .before .before .before .before .before .before .before .before .before .before .before .before in
+    let s = S (C l) in
+    omega (arith, below l, few-tasks (s .args .plan) (planned s))
 
 loop-less : tie.Need-loop-less Inv-loop μ-loop
-loop-less c = let l = c .before .before .before .before .before .before .before .before .before .before .before .before .before .before .before in omega (arith, l .loop-test .taken)
+loop-less c =
+    let l = c .before .before .before .before .before .before .before .before .before .before .before .before .before .before .before in
+    omega (arith, l .loop-test .taken)
 
 loop-again : tie.Need-loop-again Inv-loop μ-loop
-loop-again c = let t = c .before .before .before .before .before .before .before .before .before in let l = t .before .before .before .before .before .before in let s = S (C l) in t .step .ensures .further (B s) (s .pre) (below l) (l .before .loop .inv)
+loop-again c =
+    let t = c .before .before .before .before .before .before .before .before .before in
+    let l = t .before .before .before .before .before .before in
+    let s = S (C l) in
+    t .step .ensures .further (B s) (s .pre) (below l) (l .before .loop .inv)
 
 same-length : tie.Need-same-length Inv-loop μ-loop
 same-length c = search needs

@@ -17,7 +17,8 @@ S t = t .before .before .before .before .before .before .before .before .before 
 abbrev W : tie.Start → List ℕ → Sweep
 W s masks =
     let a = s .args in
-    sweepOf (a .plan) (now (a .fwd)) (now (a .bwd)) (now (a .couplings)) (now (a .order)) masks (now (a .temperatures)) (now (a .cuts)) (now (a .references)) (now (a .seeds)) (now (a .flips)) (now (a .perms)) (now (a .greys))
+    sweepOf (a .plan) (now (a .fwd)) (now (a .bwd)) (now (a .couplings)) (now (a .order)) masks (now (a .temperatures)) (now (a .cuts))
+    (now (a .references)) (now (a .seeds)) (now (a .flips)) (now (a .perms)) (now (a .greys))
 
 abbrev B : tie.Start → Buffers
 B s = let a = s .args in lent (now (a .spins)) (now (a .labels)) (now (a .greyed)) (now (a .counts)) (now (a .sizes))
@@ -26,16 +27,25 @@ unmasked : (e : tie.Else1) → let s = S (e .before) in maskedAt (s .args .plan)
 unmasked e = sym (e .before .masked .ensures) ∙ e .if1 .left
 
 masked-requires : tie.Need-masked-requires
-masked-requires c κs = let s = c .before .before .before .before .before .before .before .before .before .before .before .before .before .before .before in s .pre .placing .task .planned
+masked-requires c κs =
+    let s = c .before .before .before .before .before .before .before .before .before .before .before .before .before .before .before in
+    s .pre .placing .task .planned
 
 returns : tie.Need-returns
-returns c = let s = S (c .before) in turned-masked (W s (now (s .args .masks))) (s .args .k) (s .args .tally) (B s) (sym (c .before .masked .ensures) ∙ c .if1 .taken)
+returns c =
+    let s = S (c .before) in
+    turned-masked (W s (now (s .args .masks))) (s .args .k) (s .args .tally) (B s) (sym (c .before .masked .ensures) ∙ c .if1 .taken)
 
 run-one-requires : tie.Need-run-one-requires
-run-one-requires c κs = let e = c .before .before .before .before .before in let s = S (e .before) in record { placing = s .pre .placing; valid = s .pre .valid (unmasked e) }
+run-one-requires c κs =
+    let e = c .before .before .before .before .before in
+    let s = S (e .before) in
+    record { placing = s .pre .placing; valid = s .pre .valid (unmasked e) }
 
 add-requires : tie.Need-add-requires
-add-requires c κs = let r = c .before .before .before .before .before .before .before .before .before in S (r .before .before .before .before .before .before .before) .pre .room
+add-requires c κs =
+    let r = c .before .before .before .before .before .before .before .before .before in
+    S (r .before .before .before .before .before .before .before) .pre .room
 
 same-length : tie.Need-same-length
 same-length c = search needs
@@ -57,7 +67,8 @@ returns-2 c =
     let r = c .before .before .before .before .before .before .before .before .before .before in
     let e = r .before .before .before .before .before .before in
     let s = S (e .before) in
-    turned-one (W s (now (s .args .masks))) (s .args .k) (s .args .tally) (B s) (r .run-one .result) (c .add .result) _ (unmasked e) (remask (W s []) (now (s .args .masks)) (r .run-one .ensures)) (c .add .ensures)
+    turned-one (W s (now (s .args .masks))) (s .args .k) (s .args .tally) (B s) (r .run-one .result) (c .add .result) _ (unmasked e)
+    (remask (W s []) (now (s .args .masks)) (r .run-one .ensures)) (c .add .ensures)
 
 pub step-spec : {M : Type 1} → statement M
 step-spec =

@@ -10,7 +10,9 @@ use Rattle.sweep.proofs.update.Statement.{statement}
 use Rattle.sweep.proofs.update.Tie as tie
 
 abbrev S : tie.After-test-sweep → tie.Start
-S t = t .before .before .before .before .before .before .before .before .before .before .before .before .before .before .before .before .before .before .before .before .before
+S t =
+    t .before .before .before .before .before .before .before .before .before .before .before .before .before .before .before .before .before .before
+    .before .before .before
 
 abbrev W : tie.Start → Sweep
 W s =
@@ -43,7 +45,11 @@ returns : tie.Need-returns
 returns c = let t = c .before in let s = S t in refused-sweep (W s) (B s) (t .test-sweep .result) (c .if1 .taken) (t .test-sweep .ensures)
 
 run-tasks-requires : tie.Need-run-tasks-requires
-run-tasks-requires c κs = let e = c .before .before .before .before .before in let t = e .before in let s = S t in kept-of (sweepRules (W s) (B s)) (t .test-sweep .result) (e .if1 .left) (t .test-sweep .ensures)
+run-tasks-requires c κs =
+    let e = c .before .before .before .before .before in
+    let t = e .before in
+    let s = S t in
+    kept-of (sweepRules (W s) (B s)) (t .test-sweep .result) (e .if1 .left) (t .test-sweep .ensures)
 
 same-length-6 : tie.Need-same-length-6
 same-length-6 c = search needs

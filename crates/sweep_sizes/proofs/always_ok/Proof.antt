@@ -43,9 +43,20 @@ returns c =
     let k = tasksOf q in
     rw (d .task-count .ensures)
     (same (Always q l)
-    (λ h. record { spins = h .0 .0 .0 .0 .0 .0 .0; fwd = h .0 .0 .0 .0 .0 .0 .1; bwd = h .0 .0 .0 .0 .0 .1; order = h .0 .0 .0 .0 .1; masks = h .0 .0 .0 .1; labels = h .0 .0 .1; counts = h .0 .1; sizes = h .1 })
+    (λ h. record {
+      spins = h .0 .0 .0 .0 .0 .0 .0;
+      fwd = h .0 .0 .0 .0 .0 .0 .1;
+      bwd = h .0 .0 .0 .0 .0 .1;
+      order = h .0 .0 .0 .0 .1;
+      masks = h .0 .0 .0 .1;
+      labels = h .0 .0 .1;
+      counts = h .0 .1;
+      sizes = h .1;
+    })
     (λ z. (((((((z .spins, z .fwd), z .bwd), z .order), z .masks), z .labels), z .counts), z .sizes))
-    (both (both (both (both (both (both (both (test-eq (l .spins) (q .s * q .n)) (test-eq (l .fwd) (q .n * q .d))) (test-eq (l .bwd) (q .n * q .d))) (test-eq (l .order) (q .s))) (test-eq (l .masks) (q .t))) (test-eq (l .labels) (k * q .n))) (test-eq (l .counts) (k * (q .n + 1)))) (test-eq (l .sizes) (k * 4)))
+    (both (both (both (both (both (both (both (test-eq (l .spins) (q .s * q .n)) (test-eq (l .fwd) (q .n * q .d))) (test-eq (l .bwd) (q .n * q .d)))
+    (test-eq (l .order) (q .s))) (test-eq (l .masks) (q .t))) (test-eq (l .labels) (k * q .n))) (test-eq (l .counts) (k * (q .n + 1))))
+    (test-eq (l .sizes) (k * 4)))
     .says)
 
 pub always-ok-spec : {M : Type 1} → statement M

@@ -1,5 +1,5 @@
 use borrow.Author.Needs.{needs}
-use Prim.Native.Nat.{_+_, _*_, _≤_}
+use Prim.Native.Nat.{_*_, _≤_}
 use mathlib.Core.Path.{_≡_}
 use native.Mathlib.Nat.{mul-le-mul}
 use native.Mathlib.Omega.{arith}
@@ -94,10 +94,14 @@ returns c =
     (λ h. record { flips = h .0 .0 .0 .0 .0; perms = h .0 .0 .0 .0 .1; greys = h .0 .0 .0 .1; greyed = h .0 .0 .1; references = h .0 .1; seeds = h .1 })
     (λ z. (((((z .flips, z .perms), z .greys), z .greyed), z .references), z .seeds))
     (both (both (both (both (both
-    (said (p .before .fits2 .result) (When (flipsBy (q .mode) (q .form)) (l .flips ≡ tasksOf q * q .n)) (rw (p .before .before .flips-by .ensures, k) at (p .before .fits2 .ensures)))
-    (said (f4 .before .fits3 .result) (When (permsBy (q .mode) (q .form)) (l .perms ≡ tasksOf q * (entries (q .form) (q .n) * q .members))) (rw (p .perms-by .ensures, k, rows) at (f4 .before .fits3 .ensures))))
-    (said (f4 .fits4 .result) (When (greysBy (q .mode) (q .form)) (l .greys ≡ tasksOf q * entries (q .form) (q .n))) (rw (grey, k, rows) at (f4 .fits4 .ensures))))
-    (said (f6 .before .before .fits5 .result) (When (greysBy (q .mode) (q .form)) (l .greyed ≡ tasksOf q * q .n)) (rw (grey, k) at (f6 .before .before .fits5 .ensures))))
+    (said (p .before .fits2 .result) (When (flipsBy (q .mode) (q .form)) (l .flips ≡ tasksOf q * q .n))
+    (rw (p .before .before .flips-by .ensures, k) at (p .before .fits2 .ensures)))
+    (said (f4 .before .fits3 .result) (When (permsBy (q .mode) (q .form)) (l .perms ≡ tasksOf q * (entries (q .form) (q .n) * q .members)))
+    (rw (p .perms-by .ensures, k, rows) at (f4 .before .fits3 .ensures))))
+    (said (f4 .fits4 .result) (When (greysBy (q .mode) (q .form)) (l .greys ≡ tasksOf q * entries (q .form) (q .n)))
+    (rw (grey, k, rows) at (f4 .fits4 .ensures))))
+    (said (f6 .before .before .fits5 .result) (When (greysBy (q .mode) (q .form)) (l .greyed ≡ tasksOf q * q .n))
+    (rw (grey, k) at (f6 .before .before .fits5 .ensures))))
     (said (f6 .fits6 .result) (When (isGperm (q .mode)) (l .references ≡ tasksOf q)) (rw (f6 .before .is-gperm .ensures, k) at (f6 .fits6 .ensures))))
     (said (c .fits7 .result) (When (isWolff (q .form)) (l .seeds ≡ tasksOf q)) (rw (c .before .is-wolff .ensures, k) at (c .fits7 .ensures))))
     .says

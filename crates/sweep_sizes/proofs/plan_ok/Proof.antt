@@ -1,6 +1,5 @@
 use borrow.Author.Needs.{needs}
-use Prim.Native.Nat.{ℕ, _+_, _*_, _≤_, _<_}
-use mathlib.Core.Path.{_≡_}
+use Prim.Native.Nat.{ℕ, _*_, _≤_, _<_}
 use mathlib.Core.Logic.{_⊎_, inl, inr, ⊎-elim}
 use mathlib.Core.Bool.{_||_}
 use lib.Dec.{ltb}
@@ -24,7 +23,9 @@ wide : (t r s : ℕ) → Test (ltb s t || ltb s r) ((s < t) ⊎ (s < r))
 wide t r s = either (test-lt s t) (test-lt s r)
 
 returns-2 : tie.Need-returns-2
-returns-2 c = λ p. let q = c .before .before .before .args .plan in ⊎-elim (λ l. omega (arith, t-fits q p)) (λ l. omega (arith, r-fits q p)) (told (c .if2 .taken) (wide (q .t) (q .r) (q .s) .says))
+returns-2 c =
+    λ p. let q = c .before .before .before .args .plan in ⊎-elim (λ l. omega (arith, t-fits q p)) (λ l. omega (arith, r-fits q p))
+    (told (c .if2 .taken) (wide (q .t) (q .r) (q .s) .says))
 
 ranged : (e : tie.Else1) → let q = e .before .before .args .plan in Ranged (q .n) (q .d) (q .s) (q .mode) (q .members)
 ranged e = passed (e .before .ranged .result) (e .if1 .left) (e .before .ranged .ensures)
@@ -44,7 +45,8 @@ returns-3 : tie.Need-returns-3
 returns-3 c =
     let e = c .before .before in
     let q = e .before .before .args .plan in
-    same (Planned q) (λ h. record { ranged = ranged e; all = h .0; enough = h .1 }) (λ z. (z .all, z .enough)) (both (test-eq (q .t * q .r) (q .s)) (test-le (q .members) (q .r))) .says
+    same (Planned q) (λ h. record { ranged = ranged e; all = h .0; enough = h .1 }) (λ z. (z .all, z .enough))
+    (both (test-eq (q .t * q .r) (q .s)) (test-le (q .members) (q .r))) .says
 
 pub plan-ok-spec : {M : Type 1} → statement M
 plan-ok-spec = tie.close (tie.spec ranged-requires returns returns-2 mul-result returns-3)

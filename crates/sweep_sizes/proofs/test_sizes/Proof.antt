@@ -12,7 +12,10 @@ use Rattle.sweep_sizes.proofs.test_sizes.Tie as tie
 planned : (e : tie.Else1) → Planned (e .before .before .args .plan)
 planned e = passed (e .before .plan-ok .result) (e .if1 .left) (e .before .plan-ok .ensures)
 
-fitting : (c : tie.After-chosen-ok) → let d = c .before in let a = d .before in let s = a .before .before .before .args in Test (a .always-ok .result && d .drawn-ok .result && c .chosen-ok .result) (Fitting (s .plan) (s .l))
+fitting :
+    (c : tie.After-chosen-ok)
+    → let d = c .before in let a = d .before in let s = a .before .before .before .args in Test
+    (a .always-ok .result && d .drawn-ok .result && c .chosen-ok .result) (Fitting (s .plan) (s .l))
 fitting c =
     let d = c .before in
     let a = d .before in
@@ -20,7 +23,8 @@ fitting c =
     same (Fitting (s .plan) (s .l))
     (λ h. record { always = h .0 .0; drawn = h .0 .1; chosen = h .1 })
     (λ z. ((z .always, z .drawn), z .chosen))
-    (both (both (said (a .always-ok .result) (Always (s .plan) (s .l)) (a .always-ok .ensures)) (said (d .drawn-ok .result) (Drawn (s .plan) (s .l)) (d .drawn-ok .ensures)))
+    (both (both (said (a .always-ok .result) (Always (s .plan) (s .l)) (a .always-ok .ensures))
+    (said (d .drawn-ok .result) (Drawn (s .plan) (s .l)) (d .drawn-ok .ensures)))
     (said (c .chosen-ok .result) (Chosen (s .plan) (s .l)) (c .chosen-ok .ensures)))
 
 plan-ok-requires : tie.Need-plan-ok-requires

@@ -10,7 +10,9 @@ temperatures-ok-requires : tie.Need-temperatures-ok-requires
 temperatures-ok-requires c κs = search needs
 
 returns : tie.Need-returns
-returns c = let ts = now (c .before .before .before .args .temperatures) in when-taken (c .temperatures-ok .result) (AllWarm (length ts) ts) (c .before .if1 .taken) (c .temperatures-ok .ensures)
+returns c =
+    let ts = now (c .before .before .before .args .temperatures) in
+    when-taken (c .temperatures-ok .result) (AllWarm (length ts) ts) (c .before .if1 .taken) (c .temperatures-ok .ensures)
 
 returns-2 : tie.Need-returns-2
 returns-2 c = when-not (c .if1 .left)

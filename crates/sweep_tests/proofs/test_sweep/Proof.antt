@@ -39,7 +39,8 @@ returns-2 c =
     let s = S (e .before) in
     let a = s .args in
     whole-later (W s) (B s) (passed e) (c .test-tasks .result)
-    (c .test-tasks .ensures .is (now (a .fwd)) (now (a .bwd)) (now (a .couplings)) (now (a .temperatures)) (now (a .labels)) (now (a .greyed)) (now (a .counts)) (now (a .sizes)))
+    (c .test-tasks .ensures .is (now (a .fwd)) (now (a .bwd)) (now (a .couplings)) (now (a .temperatures))
+    (now (a .labels)) (now (a .greyed)) (now (a .counts)) (now (a .sizes)))
 
 pub test-sweep-spec : {M : Type 1} → statement M
 test-sweep-spec = tie.close (tie.spec test-first-requires returns test-tasks-requires returns-2)

@@ -1,6 +1,6 @@
 -- `test_tasks` meets its contract. The invariant: the tasks below k keep their rules. Assumes nothing.
 use borrow.Author.Needs.{needs}
-use Prim.Native.Nat.{ℕ, _-_, _≤_, _<_}
+use Prim.Native.Nat.{_-_, _≤_, _<_}
 use mathlib.Core.Path.{_≡_}
 use native.Mathlib.Nat.{le-antisymm}
 use native.Mathlib.Omega.{arith}
@@ -10,7 +10,8 @@ use Rattle.sweep_tests.proofs.test_tasks.Statement.{statement}
 use Rattle.sweep_tests.proofs.test_tasks.Tie as tie
 
 abbrev Inv-loop : tie.InvT-loop
-Inv-loop plan spins order masks cuts references seeds flips perms greys count k₀ k = (k ≤ count) × TasksTold plan k spins order masks cuts references seeds flips perms greys 0
+Inv-loop plan spins order masks cuts references seeds flips perms greys count k₀ k =
+    (k ≤ count) × TasksTold plan k spins order masks cuts references seeds flips perms greys 0
 
 abbrev μ-loop : tie.MeasureT-loop
 μ-loop plan spins order masks cuts references seeds flips perms greys count k₀ k = count - k
@@ -43,7 +44,10 @@ loop-less : tie.Need-loop-less Inv-loop μ-loop
 loop-less c = let l = c .before .before in omega (arith, l .loop-test .taken)
 
 loop-again : tie.Need-loop-again Inv-loop μ-loop
-loop-again c = let t = c .before in let l = t .before in (omega (arith, l .loop-test .taken), told-more (l .before .loop .inv .1) (c .if1 .left) (t .test-task .ensures))
+loop-again c =
+    let t = c .before in
+    let l = t .before in
+    (omega (arith, l .loop-test .taken), told-more (l .before .loop .inv .1) (c .if1 .left) (t .test-task .ensures))
 
 returns-2 : tie.Need-returns-2 Inv-loop μ-loop
 returns-2 c =

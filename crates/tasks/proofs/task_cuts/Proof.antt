@@ -9,7 +9,10 @@ mul-part-f32 : tie.Need-mul-part-f32
 mul-part-f32 c = let s = c .before in omega (arith, few-bonds (s .args .plan) (s .pre .planned))
 
 part-f32-requires : tie.Need-part-f32-requires
-part-f32-requires c κs = let s = c .before in let q = s .args .plan in few q (s .pre .planned) (s .args .k) (s .pre .below) (q .n * q .d) (few-bonds q (s .pre .planned))
+part-f32-requires c κs =
+    let s = c .before in
+    let q = s .args .plan in
+    few q (s .pre .planned) (s .args .k) (s .pre .below) (q .n * q .d) (few-bonds q (s .pre .planned))
 
 returns : tie.Need-returns
 returns c = search needs

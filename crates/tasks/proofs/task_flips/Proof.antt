@@ -5,7 +5,10 @@ use Rattle.tasks.proofs.task_flips.Statement.{statement}
 use Rattle.tasks.proofs.task_flips.Tie as tie
 
 part-u8-requires : tie.Need-part-u8-requires
-part-u8-requires c κs = let s = c .before in let q = s .args .plan in few q (s .pre .planned) (s .args .k) (s .pre .below) (q .n) (omega (arith, s .pre .planned .ranged .lattice .n-high))
+part-u8-requires c κs =
+    let s = c .before in
+    let q = s .args .plan in
+    few q (s .pre .planned) (s .args .k) (s .pre .below) (q .n) (omega (arith, s .pre .planned .ranged .lattice .n-high))
 
 returns : tie.Need-returns
 returns c = search needs

@@ -8,7 +8,10 @@ entries-of-requires : tie.Need-entries-of-requires
 entries-of-requires c κs = search needs
 
 part-u8-requires : tie.Need-part-u8-requires
-part-u8-requires c κs = let s = c .before .before in let q = s .args .plan in rw (c .entries-of .ensures) (few q (s .pre .planned) (s .args .k) (s .pre .below) _ (omega (arith, few-rows q (s .pre .planned))))
+part-u8-requires c κs =
+    let s = c .before .before in
+    let q = s .args .plan in
+    rw (c .entries-of .ensures) (few q (s .pre .planned) (s .args .k) (s .pre .below) _ (omega (arith, few-rows q (s .pre .planned))))
 
 returns : tie.Need-returns
 returns c = rw (c .before .entries-of .ensures) at (c .part-u8 .ensures)

@@ -1,11 +1,10 @@
 -- `task_group` meets its contract. The invariant: the systems of the first x places are read. Assumes nothing.
 use borrow.Author.Needs.{needs}
 use Prim.Native.Nat.{ℕ, _+_, _-_, _*_, _/_, _%_, _≤_, _<_}
-use mathlib.Core.Path.{_≡_, refl, ap}
+use mathlib.Core.Path.{_≡_, ap}
 use mathlib.Core.List.{List}
 use native.Mathlib.Omega.{arith}
 use native.Mathlib.Nat.{le-antisymm}
-use denote.Ref.{now}
 use lib.ListN.{getD}
 use Rattle.paper.specs.declared.Group.{Group}
 use Rattle.paper.specs.Answer.Task.{table}
@@ -27,10 +26,14 @@ abbrev S : tie.In-loop Inv-loop μ-loop → tie.Start Inv-loop μ-loop
 S l = l .before .before .before .before .before
 
 -- the order entries that a turn reads are there
-entry : (s : tie.Start Inv-loop μ-loop) (x : ℕ) → x < s .args .plan .members → let q = s .args .plan in s .args .k / (q .r / q .members) * q .r + (s .args .k % (q .r / q .members)) * q .members + x < q .s
+entry :
+    (s : tie.Start Inv-loop μ-loop) (x : ℕ) → x < s .args .plan .members
+    → let q = s .args .plan in s .args .k / (q .r / q .members) * q .r + (s .args .k % (q .r / q .members)) * q .members + x < q .s
 entry s x l = entry-lt (s .args .plan) (s .pre .task .planned) (s .args .k) (s .pre .task .below) x l
 
-first : (s : tie.Start Inv-loop μ-loop) → let q = s .args .plan in s .args .k / (q .r / q .members) * q .r + (s .args .k % (q .r / q .members)) * q .members < 64
+first :
+    (s : tie.Start Inv-loop μ-loop)
+    → let q = s .args .plan in s .args .k / (q .r / q .members) * q .r + (s .args .k % (q .r / q .members)) * q .members < 64
 first s = omega (arith, entry s 0 (some-members (s .args .plan) (s .pre .task .planned)), s .pre .task .planned .ranged .lattice .s-high)
 
 div-groups : tie.Need-div-groups Inv-loop μ-loop
@@ -83,7 +86,9 @@ loop-less : tie.Need-loop-less Inv-loop μ-loop
 loop-less c = search needs
 
 loop-again : tie.Need-loop-again Inv-loop μ-loop
-loop-again c = let l = c .before .before in (omega (arith, l .loop-test .taken), fill-more (c .wide .result) (l .before .loop .inv .1) (below l) (c .wide .ensures))
+loop-again c =
+    let l = c .before .before in
+    (omega (arith, l .loop-test .taken), fill-more (c .wide .result) (l .before .loop .inv .1) (below l) (c .wide .ensures))
 
 returns : tie.Need-returns Inv-loop μ-loop
 returns c =

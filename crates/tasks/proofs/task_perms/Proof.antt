@@ -1,5 +1,4 @@
 use borrow.Author.Needs.{needs}
-use Prim.Native.Nat.{_*_}
 use native.Mathlib.Omega.{arith}
 use Rattle.tasks.specs.Plan.{few, few-places}
 use Rattle.tasks.proofs.task_perms.Statement.{statement}
@@ -12,7 +11,10 @@ mul-part-u8 : tie.Need-mul-part-u8
 mul-part-u8 c = let s = c .before .before in rw (c .entries-of .ensures) (omega (arith, few-places (s .args .plan) (s .pre .planned)))
 
 part-u8-requires : tie.Need-part-u8-requires
-part-u8-requires c κs = let s = c .before .before in let q = s .args .plan in rw (c .entries-of .ensures) (few q (s .pre .planned) (s .args .k) (s .pre .below) _ (few-places q (s .pre .planned)))
+part-u8-requires c κs =
+    let s = c .before .before in
+    let q = s .args .plan in
+    rw (c .entries-of .ensures) (few q (s .pre .planned) (s .args .k) (s .pre .below) _ (few-places q (s .pre .planned)))
 
 returns : tie.Need-returns
 returns c = rw (c .before .entries-of .ensures) at (c .part-u8 .ensures)
