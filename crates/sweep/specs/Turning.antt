@@ -12,7 +12,7 @@ use Rattle.paper.specs.Refusal.Kept.{Valid}
 use Rattle.paper.specs.Answer.Task.{Sweep, tasks, masked, taskCall, taskChoices, areas}
 use Rattle.paper.specs.Answer.Sweep.{sweepRules}
 use Rattle.tasks.specs.Plan.{Placing, planOf}
-use Rattle.sweep.specs.declared.Tally.{Tally}
+use Rattle.sweep.specs.declared.run.Tally.{Tally}
 use Rattle.sweep.specs.Ascending.{Ran, Steps, isIdle, isMoved, idleBy, movedBy, ran-masked, ran-more}
 
 -- the counts can grow

@@ -1,7 +1,7 @@
 use borrow.Author.Needs.{needs}
 use native.Mathlib.Omega.{arith}
-use Rattle.sweep.proofs.add.Statement.{statement}
-use Rattle.sweep.proofs.add.Tie as tie
+use Rattle.sweep.proofs.run.add.Statement.{statement}
+use Rattle.sweep.proofs.run.add.Tie as tie
 
 enum-told : tie.Need-enum-told
 enum-told c = search needs

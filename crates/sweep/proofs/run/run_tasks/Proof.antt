@@ -10,8 +10,8 @@ use Rattle.paper.specs.Answer.Task.{Sweep}
 use Rattle.tasks.specs.Plan.{Planned, tasksOf, few-tasks, sweepOf, lent}
 use Rattle.sweep.specs.Ascending.{Ran, ran-none, ran-valid, ran-all}
 use Rattle.sweep.specs.Turning.{room-of}
-use Rattle.sweep.proofs.run_tasks.Statement.{statement}
-use Rattle.sweep.proofs.run_tasks.Tie as tie
+use Rattle.sweep.proofs.run.run_tasks.Statement.{statement}
+use Rattle.sweep.proofs.run.run_tasks.Tie as tie
 
 abbrev Inv-loop : tie.InvT-loop
 Inv-loop plan spins₀ fwd bwd couplings order masks temperatures cuts references seeds flips perms greys labels₀ greyed₀ counts₀ sizes₀ count tally₀ k₀

@@ -8,8 +8,8 @@ use Rattle.paper.specs.Answer.Task.{Sweep}
 use Rattle.tasks.specs.Plan.{Few, few, sweepOf, lent}
 use Rattle.tasks.specs.Parts.{Lendable, lendable}
 use Rattle.sweep.specs.Running.{areas-lent, steps-put}
-use Rattle.sweep.proofs.run_one.Statement.{statement}
-use Rattle.sweep.proofs.run_one.Tie as tie
+use Rattle.sweep.proofs.run.run_one.Statement.{statement}
+use Rattle.sweep.proofs.run.run_one.Tie as tie
 
 abbrev S : tie.After-slice-known4 → tie.Start
 S t = t .before .before .before .before .before .before .before .before .before .before .before .before .before .before

@@ -4,8 +4,8 @@ use denote.Ref.{now}
 use Rattle.paper.specs.Answer.Task.{Sweep}
 use Rattle.tasks.specs.Plan.{sweepOf}
 use Rattle.sweep.specs.Running.{Parts, valid-parts, answers-parts}
-use Rattle.sweep.proofs.run_parts.Statement.{statement}
-use Rattle.sweep.proofs.run_parts.Tie as tie
+use Rattle.sweep.proofs.run.run_parts.Statement.{statement}
+use Rattle.sweep.proofs.run.run_parts.Tie as tie
 
 abbrev S : tie.After-task-group → tie.Start
 S g = g .before .before .before .before .before .before .before .before .before .before .before .before .before .before .before .before

@@ -8,8 +8,8 @@ use Rattle.paper.specs.Panel.Input.{Buffers}
 use Rattle.paper.specs.Answer.Task.{Sweep}
 use Rattle.tasks.specs.Plan.{sweepOf, maskedAt, lent}
 use Rattle.sweep.specs.Turning.{remask, turned-masked, turned-one}
-use Rattle.sweep.proofs.step.Statement.{statement}
-use Rattle.sweep.proofs.step.Tie as tie
+use Rattle.sweep.proofs.run.step.Statement.{statement}
+use Rattle.sweep.proofs.run.step.Tie as tie
 
 abbrev S : tie.After-masked → tie.Start
 S t = t .before .before .before .before .before .before .before .before .before .before .before .before .before .before .before .before
