@@ -6,3 +6,12 @@ use Rattle.paper.specs.Law.Determined.{Same, determined}
 
 pub overlap-step-determined : (c : Call) (p : Choices) (b y z : Buffers) (a a′ : Answer) → Answers c p b a y → Answers c p b a′ z → Same a y a′ z
 overlap-step-determined = determined
+
+pub houdayer-step-determined : (c : Call) (p : Choices) (b y z : Buffers) (a a′ : Answer) → Answers c p b a y → Answers c p b a′ z → Same a y a′ z
+houdayer-step-determined = determined
+
+pub jorg-step-determined : (c : Call) (p : Choices) (b y z : Buffers) (a a′ : Answer) → Answers c p b a y → Answers c p b a′ z → Same a y a′ z
+jorg-step-determined = determined
+
+pub cmr-step-determined : (c : Call) (p : Choices) (b y z : Buffers) (a a′ : Answer) → Answers c p b a y → Answers c p b a′ z → Same a y a′ z
+cmr-step-determined = determined

@@ -1,7 +1,7 @@
 -- From the verdicts of the tests to a move's answer. Assumes nothing.
 use Prim.Native.Nat.{ℕ, zero, suc}
 use mathlib.Core.Path.{_≡_, refl}
-use mathlib.Core.List.{List, _++_}
+use mathlib.Core.List.{List, [], _∷_, _++_}
 use native.Mathlib.Omega.{arith}
 use lib.ListN.{length}
 use lib.IntN.{ℤ}
@@ -53,3 +53,7 @@ refused-panel c p b r w = record { why = broken-first (soundRules c p b) (choice
 
 pub refused-choices : (c : Call) (p : Choices) (b : Buffers) (r : ℕ) → Kept (soundRules c p b) → Broken (choiceRules c p (b .spins)) r → Answers c p b (Refused r) b
 refused-choices c p b r k w = record { why = broken-later (soundRules c p b) (choiceRules c p (b .spins)) r k w; kept = refl }
+
+pub empty : (xs : List ℕ) → length xs ≡ 0 → xs ≡ []
+empty [] e = refl
+empty (x ∷ xs) e = absurd (omega (arith, e))

@@ -5,8 +5,31 @@ use paper::Group;
 use paper::Lengths;
 use paper::Mode;
 ghost use mathlib.Core.Path.{_≡_};
+ghost use mathlib.Core.List.{[]};
+ghost use Rattle.paper.specs.declared.Mode.the-variants.{Jorg, Cmr};
+ghost use Rattle.paper.specs.Site.Bonds.{whole};
 ghost use Rattle.paper.specs.Answer.Move.{Answers};
 ghost use Rattle.moves.specs.Task.{callOf, choicesOf, buffersOf};
+ghost use Rattle.steps.specs.Rule.{modeOf};
+
+// The rules that need no drawn bond, under their published names.
+pub enum ActiveRule {
+    Balanced,
+    Pairwise,
+    Permutation,
+    GaugedPermutation,
+}
+
+fn mode_of(rule: ActiveRule) -> Mode
+    ensures { λ r. ⌜ r ≡ modeOf rule ⌝ }
+{
+    match rule {
+        ActiveRule::Balanced => Mode::Houd,
+        ActiveRule::Pairwise => Mode::Pair,
+        ActiveRule::Permutation => Mode::Perm,
+        ActiveRule::GaugedPermutation => Mode::Gperm,
+    }
+}
 
 // One move or observation in any mode and form. An input that the mode and form do not take is ignored, whatever it holds.
 pub fn overlap_step(
@@ -103,6 +126,166 @@ pub fn overlap_step(
         seed,
         flips,
         perms,
+        greys,
+        labels,
+        grey_labels,
+        counts,
+        sizes,
+    )
+}
+
+// One move or observation whose bonds hold wherever both ends act. No temperature is taken: the one handed on is ignored.
+pub fn houdayer_step(
+    rule: ActiveRule,
+    form: Form,
+    n: usize,
+    d: usize,
+    s: usize,
+    spins: &mut [i8],
+    fwd: &[u32],
+    bwd: &[u32],
+    group: Group,
+    reference: usize,
+    seed: usize,
+    flips: &[u8],
+    perms: &[u8],
+    labels: &mut [u32],
+    counts: &mut [u32],
+    sizes: &mut [u32],
+) -> Answer
+    ensures { λ r. ⌜ Answers
+        (callOf (modeOf rule) form n d s (now (fwd .entry)) (now (bwd .entry)) [] group (whole 1) [] reference seed)
+        (choicesOf (now (flips .entry)) (now (perms .entry)) [])
+        (buffersOf (now (spins .entry)) (now (labels .entry)) [] (now (counts .entry)) (now (sizes .entry)))
+        r
+        (buffersOf (now (spins .exit)) (now (labels .exit)) [] (now (counts .exit)) (now (sizes .exit))) ⌝ }
+{
+    let couplings = [0i32; 1];
+    let cuts = [0.0f32; 1];
+    let mut grey_labels = [0u32; 1];
+    let mode = mode_of(rule);
+    overlap_step(
+        mode,
+        form,
+        n,
+        d,
+        s,
+        spins,
+        fwd,
+        bwd,
+        &couplings[..0],
+        group,
+        1.0,
+        &cuts[..0],
+        reference,
+        seed,
+        flips,
+        perms,
+        &flips[..0],
+        labels,
+        &mut grey_labels[..0],
+        counts,
+        sizes,
+    )
+}
+
+// One move or observation over pairs, on drawn bonds.
+pub fn jorg_step(
+    form: Form,
+    n: usize,
+    d: usize,
+    s: usize,
+    spins: &mut [i8],
+    fwd: &[u32],
+    bwd: &[u32],
+    couplings: &[i32],
+    group: Group,
+    temperature: f32,
+    cuts: &[f32],
+    seed: usize,
+    flips: &[u8],
+    labels: &mut [u32],
+    counts: &mut [u32],
+    sizes: &mut [u32],
+) -> Answer
+    ensures { λ r. ⌜ Answers
+        (callOf Jorg form n d s (now (fwd .entry)) (now (bwd .entry)) (now (couplings .entry)) group temperature (now (cuts .entry)) 0 seed)
+        (choicesOf (now (flips .entry)) [] [])
+        (buffersOf (now (spins .entry)) (now (labels .entry)) [] (now (counts .entry)) (now (sizes .entry)))
+        r
+        (buffersOf (now (spins .exit)) (now (labels .exit)) [] (now (counts .exit)) (now (sizes .exit))) ⌝ }
+{
+    let mut grey_labels = [0u32; 1];
+    overlap_step(
+        Mode::Jorg,
+        form,
+        n,
+        d,
+        s,
+        spins,
+        fwd,
+        bwd,
+        couplings,
+        group,
+        temperature,
+        cuts,
+        0,
+        seed,
+        flips,
+        &flips[..0],
+        &flips[..0],
+        labels,
+        &mut grey_labels[..0],
+        counts,
+        sizes,
+    )
+}
+
+// One move or observation of two replicas, on blue and grey bonds.
+pub fn cmr_step(
+    form: Form,
+    n: usize,
+    d: usize,
+    s: usize,
+    spins: &mut [i8],
+    fwd: &[u32],
+    bwd: &[u32],
+    couplings: &[i32],
+    group: Group,
+    temperature: f32,
+    cuts: &[f32],
+    seed: usize,
+    flips: &[u8],
+    greys: &[u8],
+    labels: &mut [u32],
+    grey_labels: &mut [u32],
+    counts: &mut [u32],
+    sizes: &mut [u32],
+) -> Answer
+    ensures { λ r. ⌜ Answers
+        (callOf Cmr form n d s (now (fwd .entry)) (now (bwd .entry)) (now (couplings .entry)) group temperature (now (cuts .entry)) 0 seed)
+        (choicesOf (now (flips .entry)) [] (now (greys .entry)))
+        (buffersOf (now (spins .entry)) (now (labels .entry)) (now («grey_labels» .entry)) (now (counts .entry)) (now (sizes .entry)))
+        r
+        (buffersOf (now (spins .exit)) (now (labels .exit)) (now («grey_labels» .exit)) (now (counts .exit)) (now (sizes .exit))) ⌝ }
+{
+    overlap_step(
+        Mode::Cmr,
+        form,
+        n,
+        d,
+        s,
+        spins,
+        fwd,
+        bwd,
+        couplings,
+        group,
+        temperature,
+        cuts,
+        0,
+        seed,
+        flips,
+        &flips[..0],
         greys,
         labels,
         grey_labels,
