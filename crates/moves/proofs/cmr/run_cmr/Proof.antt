@@ -1,6 +1,6 @@
 use borrow.Author.Needs.{needs}
-use Rattle.moves.proofs.run_cmr.Statement.{statement}
-use Rattle.moves.proofs.run_cmr.Tie as tie
+use Rattle.moves.proofs.cmr.run_cmr.Statement.{statement}
+use Rattle.moves.proofs.cmr.run_cmr.Tie as tie
 
 slice-aggregate-work-cmr-in : tie.Need-slice-aggregate-work-cmr-in
 slice-aggregate-work-cmr-in c = search needs

@@ -10,8 +10,8 @@ use Rattle.paper.specs.Panel.Input.{Call}
 use Rattle.moves.specs.Task.{callOf}
 use Rattle.moves.specs.Looked.{acts-flags, acts-tells}
 use Rattle.moves.specs.Held.{held-labels}
-use Rattle.moves.proofs.label_task.Statement.{statement}
-use Rattle.moves.proofs.label_task.Tie as tie
+use Rattle.moves.proofs.plain.label_task.Statement.{statement}
+use Rattle.moves.proofs.plain.label_task.Tie as tie
 
 abbrev S : tie.After-look → tie.Start
 S o = o .before .before .before .before .before .before .before .before .before .before .before .before

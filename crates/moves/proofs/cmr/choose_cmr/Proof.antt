@@ -9,8 +9,8 @@ use Rattle.paper.specs.Component.Marks.{marked}
 use Rattle.paper.specs.Law.Unique.{label-lt}
 use Rattle.label.specs.Contract.{graphOf}
 use Rattle.moves.specs.Cmr.{flips-narrow}
-use Rattle.moves.proofs.choose_cmr.Statement.{statement}
-use Rattle.moves.proofs.choose_cmr.Tie as tie
+use Rattle.moves.proofs.cmr.choose_cmr.Statement.{statement}
+use Rattle.moves.proofs.cmr.choose_cmr.Tie as tie
 
 abbrev S : tie.After-choose-columns → tie.Start
 S k = k .before .before .before .before .before .before .before .before .before .before .before .before .before .before .before

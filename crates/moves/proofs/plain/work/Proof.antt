@@ -17,8 +17,8 @@ use Rattle.moves.specs.Work.{LabelDone}
 use Rattle.moves.specs.Looked.{none-acts}
 use Rattle.moves.specs.Choices.{places-of, rows-of, columns-narrow, chosen-by}
 use Rattle.moves.specs.Finish.{observed, no-move, once}
-use Rattle.moves.proofs.work.Statement.{statement}
-use Rattle.moves.proofs.work.Tie as tie
+use Rattle.moves.proofs.plain.work.Statement.{statement}
+use Rattle.moves.proofs.plain.work.Tie as tie
 
 -- the start, and the place past the labelling
 abbrev S : tie.After-label-task → tie.Start

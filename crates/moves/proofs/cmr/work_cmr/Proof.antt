@@ -18,8 +18,8 @@ use Rattle.moves.specs.Choices.{columns-narrow}
 use Rattle.moves.specs.Finish.{observed, no-move}
 use Rattle.moves.specs.Cmr.{all-act}
 use Rattle.moves.specs.CmrLaws.{cmr-moves, cmr-greys}
-use Rattle.moves.proofs.work_cmr.Statement.{statement}
-use Rattle.moves.proofs.work_cmr.Tie as tie
+use Rattle.moves.proofs.cmr.work_cmr.Statement.{statement}
+use Rattle.moves.proofs.cmr.work_cmr.Tie as tie
 
 -- the start, and the place past the labelling
 abbrev S : tie.After-label-cmr → tie.Start

@@ -1,6 +1,6 @@
 use borrow.Author.Needs.{needs}
-use Rattle.moves.proofs.run_plain.Statement.{statement}
-use Rattle.moves.proofs.run_plain.Tie as tie
+use Rattle.moves.proofs.plain.run_plain.Statement.{statement}
+use Rattle.moves.proofs.plain.run_plain.Tie as tie
 
 slice-aggregate-work-in : tie.Need-slice-aggregate-work-in
 slice-aggregate-work-in c = search needs

@@ -12,8 +12,8 @@ use Rattle.moves.specs.Task.{callOf}
 use Rattle.moves.specs.Looked.{acts-flags}
 use Rattle.moves.specs.Held.{blue-labels}
 use Rattle.moves.specs.Cmr.{with-sampler}
-use Rattle.moves.proofs.label_cmr.Statement.{statement}
-use Rattle.moves.proofs.label_cmr.Tie as tie
+use Rattle.moves.proofs.cmr.label_cmr.Statement.{statement}
+use Rattle.moves.proofs.cmr.label_cmr.Tie as tie
 
 abbrev S : tie.After-look → tie.Start
 S e = e .before .before .before .before .before .before .before .before .before .before .before .before .before
