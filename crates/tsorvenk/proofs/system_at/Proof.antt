@@ -1,0 +1,24 @@
+-- `system_at` meets its contract. Assumes nothing.
+use borrow.Author.Needs.{needs}
+use mathlib.Core.Path.{sym}
+use lib.ListN.{List·getD-eq-default}
+use Rattle.tsorvenk.proofs.system_at.Statement.{statement}
+use Rattle.tsorvenk.proofs.system_at.Tie as tie
+
+mul-wide : tie.Need-mul-wide
+mul-wide c = search needs
+
+shared-slice-read-wide : tie.Need-shared-slice-read-wide
+shared-slice-read-wide c = search needs
+
+wide-requires : tie.Need-wide-requires
+wide-requires c κs = search needs
+
+returns : tie.Need-returns
+returns c = search needs
+
+returns-2 : tie.Need-returns-2
+returns-2 c = sym (List·getD-eq-default (c .before .before .args .group .now) 0 (c .if1 .left))
+
+pub system-at-spec : {M : Type 1} → statement M
+system-at-spec = tie.close (tie.spec mul-wide shared-slice-read-wide wide-requires returns returns-2)

@@ -1,0 +1,75 @@
+-- The numbers of the C interface: codes of modes and forms, and the answer that a returned number stands for. Assumes nothing.
+use Prim.Native.Nat.{ℕ, zero, suc, _≤_, _<_}
+use mathlib.Core.Path.{_≡_, refl, sym, _∙_, ap}
+use mathlib.Core.Logic.{inl, inr}
+use mathlib.Core.Bool.{Bool, true, false, cond, _&&_}
+use mathlib.Core.List.{List, [], _∷_}
+use native.Mathlib.Omega.{arith}
+use native.Mathlib.Decide.{decLe}
+use borrow.Author.Tests.{eqb-true}
+use lib.Dec.{eqb}
+use lib.ListN.{length, getD}
+use Rattle.paper.specs.declared.Group.{Group}
+use Rattle.paper.specs.declared.Mode.{Mode}
+use Rattle.paper.specs.declared.Mode.the-variants.{Houd, Pair, Perm, Gperm, Jorg, Cmr}
+use Rattle.paper.specs.declared.Form.{Form}
+use Rattle.paper.specs.declared.Form.the-variants.{Sw, Wolff, Observe}
+use Rattle.paper.specs.declared.Answer.{Answer}
+use Rattle.paper.specs.declared.Answer.the-variants.{Refused, Idle, Moved}
+use Rattle.paper.specs.Answer.Task.{table}
+
+-- 0 houd, 1 pair, 2 perm, 3 gperm, 4 Jörg, 5 CMR; 0 SW, 1 Wolff, 2 observe
+pub record Coded (mode form : ℕ) : Type 0 where
+  pub mode-known : mode ≤ 5
+  pub form-known : form ≤ 2
+
+abbrev pub modeOf : ℕ → Mode
+modeOf zero = Houd
+modeOf (suc zero) = Pair
+modeOf (suc (suc zero)) = Perm
+modeOf (suc (suc (suc zero))) = Gperm
+modeOf (suc (suc (suc (suc zero)))) = Jorg
+modeOf (suc (suc (suc (suc (suc k))))) = Cmr
+
+abbrev pub formOf : ℕ → Form
+formOf zero = Sw
+formOf (suc zero) = Wolff
+formOf (suc (suc k)) = Observe
+
+-- as many systems as are lent. A group has room for eight; more are refused for their number
+abbrev pub groupOf : List ℕ → Group
+groupOf xs = record { len = length xs; systems = table 8 (λ k. getD xs k 0) }
+
+-- 0 moved, 64 idle, any other a refusal
+abbrev pub answerOf : ℕ → Answer
+answerOf r = cond (eqb r 0) Moved (cond (eqb r 64) Idle (Refused r))
+
+abbrev pub numberOf : Answer → ℕ
+numberOf (Refused r) = r
+numberOf Idle = 64
+numberOf Moved = 0
+
+-- ---- laws
+
+pub coded : (mode form : ℕ) → Dec (Coded mode form)
+coded mode form = go (decLe mode 5) (decLe form 2)
+  where
+    go : Dec (mode ≤ 5) → Dec (form ≤ 2) → Dec (Coded mode form)
+    go (yes m) (yes f) = yes (record { mode-known = m; form-known = f })
+    go (yes m) (no f) = no (λ k. f (k .form-known))
+    go (no m) f = no (λ k. m (k .mode-known))
+
+-- a number is told by its answer
+number-of : (r : ℕ) → numberOf (answerOf r) ≡ r
+number-of r = zeroth (eqb r 0) refl
+  where
+    idle : (t : Bool) → eqb r 64 ≡ t → numberOf (cond t Idle (Refused r)) ≡ r
+    idle true e = sym (eqb-true r 64 e)
+    idle false e = refl
+
+    zeroth : (t : Bool) → eqb r 0 ≡ t → numberOf (cond t Moved (cond (eqb r 64) Idle (Refused r))) ≡ r
+    zeroth true e = sym (eqb-true r 0 e)
+    zeroth false e = idle (eqb r 64) refl
+
+pub number-answer : {r r′ : ℕ} → answerOf r ≡ answerOf r′ → r ≡ r′
+number-answer {r} {r′} e = sym (number-of r) ∙ (ap numberOf e ∙ number-of r′)

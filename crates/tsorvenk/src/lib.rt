@@ -1,0 +1,142 @@
+// The library as C and Rust call it. Each function is a shell over a proved one: numbers in, a number out, and no caller is trusted.
+use paper::Answer;
+use paper::Form;
+use paper::Group;
+use paper::Mode;
+ghost use mathlib.Core.Path.{_≡_};
+ghost use Prim.Native.Nat.{_≤_};
+ghost use lib.ListN.{getD};
+ghost use Rattle.moves.specs.Task.{callOf, choicesOf, buffersOf};
+ghost use Rattle.tsorvenk.specs.Number.{modeOf, formOf, groupOf, numberOf};
+ghost use Rattle.tsorvenk.specs.Step.{StepAnswers};
+
+fn mode_of(code: u8) -> Mode
+    requires { ⌜ code ≤ 5 ⌝ }
+    ensures { λ r. ⌜ r ≡ modeOf code ⌝ }
+{
+    match code {
+        0 => Mode::Houd,
+        1 => Mode::Pair,
+        2 => Mode::Perm,
+        3 => Mode::Gperm,
+        4 => Mode::Jorg,
+        _ => Mode::Cmr,
+    }
+}
+
+fn form_of(code: u8) -> Form
+    requires { ⌜ code ≤ 2 ⌝ }
+    ensures { λ r. ⌜ r ≡ formOf code ⌝ }
+{
+    match code {
+        0 => Form::Sw,
+        1 => Form::Wolff,
+        _ => Form::Observe,
+    }
+}
+
+fn wide(x: u32) -> usize
+    ensures { λ r. ⌜ r ≡ x ⌝ }
+{
+    x as usize
+}
+
+fn system_at(group: &[u32], k: usize) -> usize
+    ensures { λ r. ⌜ r ≡ getD (now (group .entry)) k 0 ⌝ }
+{
+    if k < group.len() { wide(group[k]) } else { 0 }
+}
+
+fn group_of(group: &[u32]) -> Group
+    ensures { λ r. ⌜ r ≡ groupOf (now (group .entry)) ⌝ }
+{
+    let systems = [
+        system_at(group, 0),
+        system_at(group, 1),
+        system_at(group, 2),
+        system_at(group, 3),
+        system_at(group, 4),
+        system_at(group, 5),
+        system_at(group, 6),
+        system_at(group, 7),
+    ];
+    Group {
+        len: group.len(),
+        systems,
+    }
+}
+
+fn number_of(answer: Answer) -> u8
+    ensures { λ r. ⌜ r ≡ numberOf answer ⌝ }
+{
+    match answer {
+        Answer::Refused(r) => r,
+        Answer::Idle => 64,
+        Answer::Moved => 0,
+    }
+}
+
+// One move or observation. The length of `group` is the number of its systems.
+#[no_mangle]
+pub extern "C" fn tsorvenk_step(
+    mode: u8,
+    form: u8,
+    n: usize,
+    d: usize,
+    s: usize,
+    spins: &mut [i8],
+    fwd: &[u32],
+    bwd: &[u32],
+    couplings: &[i32],
+    group: &[u32],
+    temperature: f32,
+    cuts: &[f32],
+    reference: usize,
+    seed: usize,
+    flips: &[u8],
+    perms: &[u8],
+    greys: &[u8],
+    labels: &mut [u32],
+    grey_labels: &mut [u32],
+    counts: &mut [u32],
+    sizes: &mut [u32],
+) -> u8
+    ensures { λ r. ⌜ StepAnswers mode form
+        (callOf (modeOf mode) (formOf form) n d s (now (fwd .entry)) (now (bwd .entry)) (now (couplings .entry)) (groupOf (now (group .entry))) temperature
+        (now (cuts .entry)) reference seed)
+        (choicesOf (now (flips .entry)) (now (perms .entry)) (now (greys .entry)))
+        (buffersOf (now (spins .entry)) (now (labels .entry)) (now («grey_labels» .entry)) (now (counts .entry)) (now (sizes .entry)))
+        r
+        (buffersOf (now (spins .exit)) (now (labels .exit)) (now («grey_labels» .exit)) (now (counts .exit)) (now (sizes .exit))) ⌝ }
+{
+    if 5 < mode {
+        return 1;
+    }
+    if 2 < form {
+        return 1;
+    }
+    let answer = steps::overlap_step(
+        mode_of(mode),
+        form_of(form),
+        n,
+        d,
+        s,
+        spins,
+        fwd,
+        bwd,
+        couplings,
+        group_of(group),
+        temperature,
+        cuts,
+        reference,
+        seed,
+        flips,
+        perms,
+        greys,
+        labels,
+        grey_labels,
+        counts,
+        sizes,
+    );
+    number_of(answer)
+}
