@@ -1,15 +1,11 @@
 -- What accepted choices tell the choosing functions. Assumes nothing.
-use Prim.Native.Nat.{ℕ, zero, suc, _+_, _*_, _/_, _%_, _^_, _≤_, _<_}
-use mathlib.Core.Path.{_≡_, refl, sym, _∙_, ap}
-use mathlib.Core.Bool.{Bool, true, false, cond, _&&_}
+use Prim.Native.Nat.{ℕ, _+_, _*_, _/_, _%_, _^_, _<_}
+use mathlib.Core.Path.{_≡_, refl, _∙_, ap}
+use mathlib.Core.Bool.{Bool, true, cond, _&&_}
 use mathlib.Core.List.{List}
-use native.Mathlib.Omega.{arith}
 use native.Mathlib.Nat.{div-add-mod', mod-lt, div-lt-iff-lt-mul}
 use lib.ListN.{length, getD}
 use lib.IntN.{ℤ}
-use Rattle.paper.specs.declared.Mode.{Mode}
-use Rattle.paper.specs.declared.Form.{Form}
-use Rattle.paper.specs.declared.Form.the-variants.{Sw, Wolff, Observe}
 use Rattle.paper.specs.Panel.Input.{Call, Choices, Pattern, pattern, size, graph}
 use Rattle.paper.specs.Panel.Takes.{isPerm, isGperm, moves, entries, entry, permsBy}
 use Rattle.paper.specs.Site.Acting.{gauge, acts}
@@ -19,8 +15,8 @@ use Rattle.paper.specs.Component.Sizes.{labelOf}
 use Rattle.paper.specs.Component.Marks.{Flags}
 use Rattle.paper.specs.Move.Moving.{permAt, reached, reachedBy, after}
 use Rattle.paper.specs.Refusal.Rules.{Permutes}
-use Rattle.paper.specs.Law.ByTest.{never, and-right}
 use Rattle.paper.specs.Law.Unique.{label-lt}
+use Rattle.paper.specs.Demand3.Step.{entry-lt}
 use Rattle.columns.specs.Column.{Columns, column-lt}
 use Rattle.choose.specs.Chosen.{Becomes, reachedAt}
 use Rattle.moves.specs.Ready.{ReadyFor}
@@ -32,11 +28,6 @@ use Rattle.moves.specs.Task.{chosenAt}
 pub places-of : (rows m : ℕ) (perms : List ℕ) → 0 < m → length perms ≡ rows * m → ((r : ℕ) → r < rows → Permutes m (λ k. getD perms (r * m + k) 0)) → (x : ℕ) → x < length perms → getD perms x 0 < m
 places-of rows m perms some long each x h =
     rw (← div-add-mod' x m) (each (x / m) (div-lt-iff-lt-mul some .1 (rw long at h)) .within (x % m) (mod-lt x some))
-
-entry-lt : (f : Form) (n r : ℕ) → moves f ≡ true → r < n → entry f r < entries f n
-entry-lt Sw n r e h = h
-entry-lt Wolff n r e h = omega arith
-entry-lt Observe n r e h = never e
 
 -- the permutation of every label
 pub rows-of :

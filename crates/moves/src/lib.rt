@@ -9,7 +9,6 @@ use paper::Group;
 use paper::Mode;
 use paper::Sampler;
 use plain::run_plain;
-ghost use Rattle.paper.specs.declared.Form.{Form};
 ghost use Rattle.paper.specs.Site.Bonds.{samplerOf};
 ghost use Rattle.paper.specs.Refusal.Kept.{Valid};
 ghost use Rattle.paper.specs.Answer.Move.{Answers};

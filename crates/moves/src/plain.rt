@@ -11,7 +11,6 @@ ghost use mathlib.Core.Path.{_≡_};
 ghost use mathlib.Core.List.{List};
 ghost use Prim.Native.Nat.{ℕ};
 ghost use lib.ListN.{length};
-ghost use Rattle.paper.specs.declared.Form.{Form};
 ghost use Rattle.moves.specs.Task.{callOf, choicesOf};
 ghost use Rattle.moves.specs.Work.{LabelGiven, Room, LabelDone, ChoiceGiven, Outputs, Arrays, WorkDone};
 
