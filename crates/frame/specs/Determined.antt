@@ -8,6 +8,7 @@ use lib.IntN.{ℤ}
 use Rattle.paper.specs.declared.Group.{Group}
 use Rattle.paper.specs.Refusal.Rule.{broken-unique, broken-not-kept}
 use Rattle.paper.specs.Answer.Frame.{bytes, words, signed, refusal}
+use Rattle.paper.specs.Law.FramesDetermined.{frames-determined}
 use Rattle.frame.specs.declared.Sizes.{Sizes}
 use Rattle.frame.specs.declared.Found.{Found}
 use Rattle.frame.specs.declared.Found.the-variants.{Fault, Panel}
@@ -17,6 +18,7 @@ use Rattle.frame.specs.declared.Written.the-variants.{Wrote, NoRoom}
 use Rattle.frame.specs.Spelling.{line2, line3, line5, spellingRules}
 use Rattle.frame.specs.Reading.{Held, FoundAs, ReadAs}
 use Rattle.frame.specs.Writing.{WrittenAs, resultOf}
+use Rattle.frame.specs.Run.{RunAs}
 
 pub record SameRead (r r′ : Frames) (a a′ : Held) : Type 0 where
   pub answer : r ≡ r′
@@ -75,3 +77,9 @@ write-determined labels counts spins out w w′ a a′ p q = written-same (resul
 pub write-refusal-determined : (r : ℕ) (out : List ℕ) (w w′ : Written) (a a′ : List ℕ) → WrittenAs (refusal r) out w a
     → WrittenAs (refusal r) out w′ a′ → SameWritten w w′ a a′
 write-refusal-determined r out w w′ a a′ p q = written-same (refusal r) out w w′ a a′ p q
+
+pub run-determined : (text out : List ℕ) (w w′ : Written) (a a′ : List ℕ) → RunAs text out w a → RunAs text out w′ a′ → SameWritten w w′ a a′
+run-determined text out w w′ a a′ p q = written-same (p .answer) out w w′ a a′ (p .written) (rw same (q .written))
+  where
+    same : p .answer ≡ q .answer
+    same = frames-determined text (p .answer) (q .answer) (p .answers) (q .answers)

@@ -11,5 +11,6 @@ pub mod RoundTrip
 pub mod Joined
 pub mod Values
 pub mod Back
+pub mod Run
 pub mod Worked
 pub mod Determined

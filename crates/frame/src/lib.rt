@@ -2,6 +2,7 @@
 mod back;
 mod fill;
 mod lines;
+mod panel;
 mod put;
 mod scan;
 
@@ -9,6 +10,7 @@ use fill::fill_bytes;
 use fill::fill_spins;
 use fill::fill_words;
 use fill::read_group;
+use panel::run_panel;
 use paper::Group;
 use put::put_spins;
 use put::put_words;
@@ -18,6 +20,7 @@ ghost use lib.ListN.{length};
 ghost use Rattle.paper.specs.Answer.Frame.{refusal};
 ghost use Rattle.frame.specs.Writing.{TwoByte, resultOf, WrittenAs};
 ghost use Rattle.frame.specs.Reading.{Rooms, Ready, noGroup, ReadAs};
+ghost use Rattle.frame.specs.Run.{Blank, RunAs};
 
 // The sizes that the first line says.
 pub struct Sizes {
@@ -160,4 +163,53 @@ pub fn write_refusal(r: u8, out: &mut [u8]) -> Written
     out[3] = b'0' + r % 10;
     out[4] = b'\n';
     Written::Wrote(5)
+}
+
+// A text's answer, on lent work arrays.
+fn run_in(
+    text: &[u8],
+    spins: &mut [i8],
+    fwd: &mut [u32],
+    perms: &mut [u8],
+    bwd: &mut [u32],
+    labels: &mut [u32],
+    counts: &mut [u32],
+    sizes: &mut [u32],
+    out: &mut [u8],
+) -> Written
+    requires { ⌜ Rooms (length (now spins)) (length (now fwd)) (length (now perms)) ⌝ }
+    requires { ⌜ Blank (now bwd) (now labels) (now counts) (now sizes) ⌝ }
+    ensures { λ w. ⌜ RunAs (now (text .entry)) (now (out .entry)) w (now (out .exit)) ⌝ }
+{
+    let frames = read(text, spins, fwd, perms);
+    let found = frames.found;
+    let group = frames.group;
+    match found {
+        Found::Fault(r) => write_refusal(r, out),
+        Found::Panel(z) => run_panel(z, group, spins, fwd, perms, bwd, labels, counts, sizes, out),
+    }
+}
+
+// The program: reads the text, runs its move and writes the answer, or writes what is wrong.
+pub fn run(text: &[u8], out: &mut [u8]) -> Written
+    ensures { λ w. ⌜ RunAs (now (text .entry)) (now (out .entry)) w (now (out .exit)) ⌝ }
+{
+    let mut spins = [0i8; 2048];
+    let mut fwd = [0u32; 1024];
+    let mut perms = [0u8; 2048];
+    let mut bwd = [0u32; 1024];
+    let mut labels = [0u32; 256];
+    let mut counts = [0u32; 257];
+    let mut sizes = [0u32; 4];
+    run_in(
+        text,
+        &mut spins,
+        &mut fwd,
+        &mut perms,
+        &mut bwd,
+        &mut labels,
+        &mut counts,
+        &mut sizes,
+        out,
+    )
 }

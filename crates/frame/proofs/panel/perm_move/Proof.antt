@@ -1,0 +1,78 @@
+-- `frame::panel::perm_move` meets its contract: it is the library's move, with the table that was worked out. Assumes nothing.
+use lib.Ieee.{ofInt, ofBits}
+use borrow.Author.Needs.{needs}
+use Rattle.frame.proofs.panel.perm_move.Statement.{statement}
+use Rattle.frame.proofs.panel.perm_move.Tie as tie
+
+backward-requires : tie.Need-backward-requires
+backward-requires c κs = search needs
+
+array-share-prefix-couplings : tie.Need-array-share-prefix-couplings
+array-share-prefix-couplings c = search needs
+
+slice-aggregate-overlap-step : tie.Need-slice-aggregate-overlap-step
+slice-aggregate-overlap-step c = search needs
+
+array-share-prefix-cuts : tie.Need-array-share-prefix-cuts
+array-share-prefix-cuts c = search needs
+
+slice-aggregate-overlap-step-2 : tie.Need-slice-aggregate-overlap-step-2
+slice-aggregate-overlap-step-2 c = search needs
+
+slice-aggregate-overlap-step-3 : tie.Need-slice-aggregate-overlap-step-3
+slice-aggregate-overlap-step-3 c = search needs
+
+slice-aggregate-overlap-step-4 : tie.Need-slice-aggregate-overlap-step-4
+slice-aggregate-overlap-step-4 c = search needs
+
+array-borrow-prefix-grey-labels : tie.Need-array-borrow-prefix-grey-labels
+array-borrow-prefix-grey-labels c = search needs
+
+slice-aggregate-overlap-step-5 : tie.Need-slice-aggregate-overlap-step-5
+slice-aggregate-overlap-step-5 c = search needs
+
+overlap-step-requires : tie.Need-overlap-step-requires
+overlap-step-requires c κs = search needs
+
+same-length : tie.Need-same-length
+same-length c = search needs
+
+same-length-2 : tie.Need-same-length-2
+same-length-2 c = search needs
+
+same-length-3 : tie.Need-same-length-3
+same-length-3 c = search needs
+
+same-length-4 : tie.Need-same-length-4
+same-length-4 c = search needs
+
+same-length-5 : tie.Need-same-length-5
+same-length-5 c = search needs
+
+returns : tie.Need-returns
+unfolding ofInt ofBits
+returns c =
+    let o = c .before .before .before .before .before .before .before .before in
+    let k = o .before .before .before .before .before .before .before .before .before .before .before .before .before in
+    record { long = search needs; reversed = k .backward .ensures; grey = _; answers = o .overlap-step .ensures }
+
+pub perm-move-spec : {M : Type 1} → statement M
+perm-move-spec =
+    tie.close
+    (tie.spec
+    backward-requires
+    array-share-prefix-couplings
+    slice-aggregate-overlap-step
+    array-share-prefix-cuts
+    slice-aggregate-overlap-step-2
+    slice-aggregate-overlap-step-3
+    slice-aggregate-overlap-step-4
+    array-borrow-prefix-grey-labels
+    slice-aggregate-overlap-step-5
+    overlap-step-requires
+    same-length
+    same-length-2
+    same-length-3
+    same-length-4
+    same-length-5
+    returns)

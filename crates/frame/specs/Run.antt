@@ -1,0 +1,229 @@
+-- The whole program on a text: what its functions promise, and why that answers the text. Assumes nothing.
+use Prim.Native.Nat.{ℕ, zero, suc, _+_, _*_, _≤_, _<_}
+use mathlib.Core.Path.{_≡_, refl, sym, _∙_, ap, subst}
+use mathlib.Core.Logic.{inl, inr}
+use mathlib.Core.List.{List, [], _∷_, _++_}
+use native.Mathlib.Omega.{arith}
+use lib.ListN.{length, getD, take, drop, replicate, length-replicate, getD-replicate, length-append, length-drop}
+use lib.Seq.{take-all}
+use lib.IntN.{ℤ}
+use Rattle.paper.specs.declared.Group.{Group}
+use Rattle.paper.specs.declared.Answer.{Answer}
+use Rattle.paper.specs.declared.Answer.the-variants.{Refused, Idle, Moved}
+use Rattle.paper.specs.declared.Mode.the-variants.{Perm}
+use Rattle.paper.specs.declared.Form.the-variants.{Sw}
+use Rattle.paper.specs.Panel.Input.{Lattice, Call, Choices, Buffers}
+use Rattle.paper.specs.Site.Bonds.{whole}
+use Rattle.paper.specs.Refusal.Rule.{Kept, Broken}
+use Rattle.paper.specs.Refusal.Rules.{Inverse}
+use Rattle.paper.specs.Answer.Move.{Answers, Refuses, Rests, Goes}
+use Rattle.paper.specs.Answer.Task.{table}
+use Rattle.paper.specs.Answer.Frame.{frameLattice, frameCall, frameChoices, frameBuffers, HasBack, refusal, FrameAnswers}
+use Rattle.paper.specs.Demand3.Step.{Accepted.idle, Accepted.moved}
+use Rattle.moves.specs.Task.{callOf, choicesOf, buffersOf}
+use Rattle.frame.specs.declared.Sizes.{Sizes}
+use Rattle.frame.specs.declared.Found.{Found}
+use Rattle.frame.specs.declared.Found.the-variants.{Fault, Panel}
+use Rattle.frame.specs.declared.Written.{Written}
+use Rattle.frame.specs.declared.Written.the-variants.{Wrote, NoRoom}
+use Rattle.frame.specs.Spelling.{spellingRules, Spelling, spelling-of, misspelt, misvalued, all-kept}
+use Rattle.frame.specs.Scan.{sizesIn}
+use Rattle.frame.specs.Reading.{Rooms, Held, Misread, Readout, FoundAs}
+use Rattle.frame.specs.Writing.{resultOf, TwoByte, WrittenAs, fitted-take, fitted-drop}
+use Rattle.frame.specs.Back.{Reversed, back-complete}
+use Rattle.frame.specs.Values.{values-kept, values-broken}
+use Rattle.frame.specs.Joined.{spins-count, fwd-count, perms-count, spins-part, fwd-part, perms-part, seen-small}
+
+-- the text's answer is written, if there is room for it
+pub record RunAs (text before : List ℕ) (w : Written) (after : List ℕ) : Type 0 where
+  pub answer : List ℕ
+  pub answers : FrameAnswers text answer
+  pub written : WrittenAs answer before w after
+
+-- what that says of the lent buffer: the answer is its front and the rest is kept, or it has no room and all is kept
+pub record Said (text before : List ℕ) (m : ℕ) (after : List ℕ) : Type 0 where
+  pub fits : m ≤ length before
+  pub answers : FrameAnswers text (take m after)
+  pub kept : drop m after ≡ drop m before
+
+pub record Unsaid (text before after : List ℕ) : Type 0 where
+  pub answer : List ℕ
+  pub answers : FrameAnswers text answer
+  pub short : length before < length answer
+  pub kept : after ≡ before
+
+abbrev pub Says : List ℕ → List ℕ → Written → List ℕ → Type 0
+Says text before (Wrote m) after = Said text before m after
+Says text before NoRoom after = Unsaid text before after
+
+pub run-says : (text before : List ℕ) (w : Written) (after : List ℕ) → RunAs text before w after → Says text before w after
+run-says text before (Wrote m) after r = record {
+  fits = omega (arith, r .written .fits, r .written .count);
+  answers = rw (fitted-take (r .answer) before m after (r .written)) (r .answers);
+  kept = fitted-drop (r .answer) before m after (r .written);
+}
+run-says text before NoRoom after r = record { answer = r .answer; answers = r .answers; short = r .written .short; kept = r .written .kept }
+
+-- ---- one perm move, whose backward table is worked out
+abbrev pub permCall : ℕ → ℕ → ℕ → List ℕ → List ℕ → Group → Call
+permCall n d s fwd bwd g = callOf Perm Sw n d s fwd bwd [] g (whole 1) [] 0 0
+
+pub record MoveGiven (n d : ℕ) (fwd bwd : List ℕ) : Type 0 where
+  pub few : n ≤ 4096
+  pub fwd-long : length fwd ≡ n * d
+  pub bwd-long : length bwd ≡ n * d
+
+pub record PermMoved (n d s : ℕ) (g : Group) (fwd perms : List ℕ) (b : Buffers) (r : Answer) (bwd : List ℕ) (spins : List ℤ) (labels counts sizes : List ℕ) : Type 0 where
+  pub long : length bwd ≡ n * d
+  pub reversed : Reversed n d fwd bwd
+  pub grey : List ℕ
+  pub answers : Answers (permCall n d s fwd bwd g) (choicesOf [] perms []) b r (buffersOf spins labels grey counts sizes)
+
+-- what is written for a move's answer
+abbrev pub answerText : Answer → List ℕ → List ℕ → List ℤ → List ℕ
+answerText (Refused c) labels counts spins = refusal c
+answerText Idle labels counts spins = resultOf labels counts spins
+answerText Moved labels counts spins = resultOf labels counts spins
+
+-- two bytes hold each label and count that is written
+abbrev pub Writable : Answer → List ℕ → List ℕ → Type 0
+Writable (Refused c) labels counts = Unit
+Writable Idle labels counts = TwoByte labels counts
+Writable Moved labels counts = TwoByte labels counts
+
+pub writable : {n d s : ℕ} {g : Group} {fwd perms : List ℕ} {b : Buffers} (r : Answer) {bwd : List ℕ} {spins : List ℤ} {labels counts sizes : List ℕ}
+    → n ≤ 4096 → PermMoved n d s g fwd perms b r bwd spins labels counts sizes → Writable r labels counts
+writable (Refused c) h m = tt
+writable {b = b} Idle {spins = spins} {labels} {counts} {sizes} h m = seen-small _ b (buffersOf spins labels (m .grey) counts sizes) (m .answers .seen) h
+writable {b = b} Moved {spins = spins} {labels} {counts} {sizes} h m = seen-small _ b (buffersOf spins labels (m .grey) counts sizes) (m .answers .seen) h
+
+-- the move ran, and its answer is written
+pub record MoveWritten (n d s : ℕ) (g : Group) (fwd perms : List ℕ) (b : Buffers) (out : List ℕ) (w : Written) (out′ : List ℕ) : Type 0 where
+  pub answer : Answer
+  pub bwd : List ℕ
+  pub after : Buffers
+  pub moved : PermMoved n d s g fwd perms b answer bwd (after .spins) (after .labels) (after .counts) (after .sizes)
+  pub written : WrittenAs (answerText answer (after .labels) (after .counts) (after .spins)) out w out′
+
+-- ---- a text that is spelt well: its move answers it
+module _ (text bwd : List ℕ) (k : Kept (spellingRules text)) (long : length bwd ≡ frameLattice text [] .n * frameLattice text [] .d)
+    (reversed : Reversed (frameLattice text [] .n) (frameLattice text [] .d) (frameLattice text [] .fwd) bwd) where
+  inverse : HasBack text → Inverse (frameLattice text [] .n) (frameLattice text [] .d) (frameLattice text [] .fwd) bwd
+  inverse h = back-complete text bwd reversed h
+
+  pub moves-answer : (r : Answer) (after : Buffers) → Answers (frameCall text bwd) (frameChoices text) (frameBuffers text) r after
+      → FrameAnswers text (answerText r (after .labels) (after .counts) (after .spins))
+  moves-answer (Refused c) after w = inl (record {
+    number = c;
+    why = misvalued text c k (values-broken text bwd (spelling-of text k) long inverse c (w .why));
+    written = refl;
+  })
+  moves-answer Idle after w =
+      let v = values-kept text bwd (spelling-of text k) long (w .valid) in
+      inr (record { valid = all-kept text k v; back = record { bwd = bwd; long = long; inverse = inverse (v .1 .0) }; answer = Idle; after = after; accepted = idle; answers = w; written = refl })
+  moves-answer Moved after w =
+      let v = values-kept text bwd (spelling-of text k) long (w .valid) in
+      inr (record { valid = all-kept text k v; back = record { bwd = bwd; long = long; inverse = inverse (v .1 .0) }; answer = Moved; after = after; accepted = moved; answers = w; written = refl })
+
+-- ---- work arrays for every panel, whose outputs are 0
+abbrev pub Zeros : List ℕ → Type 0
+Zeros xs = (k : ℕ) → k < length xs → getD xs k 0 ≡ 0
+
+pub record Blank (bwd labels counts sizes : List ℕ) : Type 0 where
+  pub bwd-long : length bwd ≡ 1024
+  pub labels-long : length labels ≡ 256
+  pub counts-long : length counts ≡ 257
+  pub sizes-long : length sizes ≡ 4
+  pub labels-zero : Zeros labels
+  pub counts-zero : Zeros counts
+  pub sizes-zero : Zeros sizes
+
+pub record PanelGiven (z : Sizes) (g : Group) (spins : List ℤ) (fwd perms bwd labels counts sizes : List ℕ) : Type 0 where
+  pub n-high : z .n ≤ 256
+  pub d-high : z .d ≤ 4
+  pub s-high : z .s ≤ 8
+  pub size-high : g .len ≤ 8
+  pub rooms : Rooms (length spins) (length fwd) (length perms)
+  pub blank : Blank bwd labels counts sizes
+
+-- so it is as it is made
+pub made : (m : ℕ) → Zeros (replicate m 0)
+made m k l = getD-replicate m k 0 0 (rw length-replicate at l)
+
+-- the used part of an output
+pub zeros-part : (m : ℕ) (xs : List ℕ) → m ≤ length xs → Zeros xs → take m xs ≡ table m (λ k. 0)
+unfolding table
+zeros-part zero xs l h = refl
+zeros-part (suc m) [] l h = absurd (omega arith)
+zeros-part (suc m) (x ∷ xs) l h = λ i. h 0 (omega arith) i ∷ zeros-part m xs (omega arith) (λ k s. h (suc k) (omega arith)) i
+
+-- the same on what was read
+abbrev pub buffersRead : Sizes → List ℤ → List ℕ → List ℕ → List ℕ → Buffers
+buffersRead z spins labels counts sizes = buffersOf (take (z .s * z .n) spins) (take (z .n) labels) [] (take (z .n + 1) counts) sizes
+
+module _ {text : List ℕ} {b : Held} {z : Sizes} {g : Group} {a : Held} (h : Readout text b z g a) {bwd labels counts sizes : List ℕ} (k : Blank bwd labels counts sizes) (few : z .n ≤ 256) where
+  is-labels : take (z .n) labels ≡ table (z .n) (λ k. 0)
+  is-labels = zeros-part (z .n) labels (omega (arith, k .labels-long)) (k .labels-zero)
+
+  is-counts : take (z .n + 1) counts ≡ table (z .n + 1) (λ k. 0)
+  is-counts = zeros-part (z .n + 1) counts (omega (arith, k .counts-long)) (k .counts-zero)
+
+  is-sizes : sizes ≡ table 4 (λ k. 0)
+  is-sizes = sym (take-all 4 sizes (omega (arith, k .sizes-long))) ∙ zeros-part 4 sizes (omega (arith, k .sizes-long)) (k .sizes-zero)
+
+  pub panel-answers : {out : List ℕ} {w : Written} {out′ : List ℕ}
+      → MoveWritten (z .n) (z .d) (z .s) g (take (z .n * z .d) (a .fwd)) (take (z .n * g .len) (a .perms)) (buffersRead z (a .spins) labels counts sizes) out w out′
+      → RunAs text out w out′
+  panel-answers v = record {
+    answer = answerText (v .answer) (v .after .labels) (v .after .counts) (v .after .spins);
+    answers = moves-answer text (v .bwd) (h .spelt) (moved .long) (moved .reversed) (v .answer)
+        (buffersOf (v .after .spins) (v .after .labels) (moved .grey) (v .after .counts) (v .after .sizes)) (moved .answers);
+    written = v .written;
+  }
+    where
+      moved : PermMoved (frameLattice text [] .n) (frameLattice text [] .d) (frameLattice text [] .s) (frameCall text [] .group) (frameLattice text [] .fwd)
+          (frameChoices text .perms) (frameBuffers text) (v .answer) (v .bwd) (v .after .spins) (v .after .labels) (v .after .counts) (v .after .sizes)
+      moved = subst (λ x. x) (λ i. PermMoved (h .sizes i .n) (h .sizes i .d) (h .sizes i .s) (h .group i) (fwd-part h i) (perms-part h i) (buffers i)
+          (v .answer) (v .bwd) (v .after .spins) (v .after .labels) (v .after .counts) (v .after .sizes)) (v .moved)
+        where
+          buffers : buffersRead z (a .spins) labels counts sizes ≡ frameBuffers text
+          buffers =
+              (λ i. buffersOf (spins-part h i) (is-labels i) [] (is-counts i) (is-sizes i))
+              ∙ (λ i. buffersOf (frameBuffers text .spins) (table (h .sizes i .n) (λ k. 0)) [] (table (h .sizes i .n + 1) (λ k. 0)) (table 4 (λ k. 0)))
+
+-- ---- from what the reading found
+pub misread-answers : (text : List ℕ) (b : Held) (f : Found) (g : Group) (a : Held) (r : ℕ) {out : List ℕ} {w : Written} {out′ : List ℕ}
+    → f ≡ Fault r → FoundAs text b f g a → WrittenAs (refusal r) out w out′ → RunAs text out w out′
+misread-answers text b f g a r e h v = record {
+  answer = refusal r;
+  answers = inl (record { number = r; why = misspelt text r (found .why); written = refl });
+  written = v;
+}
+  where
+    found : Misread text b r g a
+    found = subst (λ (y : Found). FoundAs text b y g a) e h
+
+pub readout-of : (text : List ℕ) (b : Held) (f : Found) (g : Group) (a : Held) (z : Sizes) → f ≡ Panel z → FoundAs text b f g a → Readout text b z g a
+readout-of text b f g a z e h = subst (λ (y : Found). FoundAs text b y g a) e h
+
+pub panel-given : {text : List ℕ} {b : Held} {z : Sizes} {g : Group} {a : Held} {bwd labels counts sizes : List ℕ} → Readout text b z g a
+    → Rooms (length (b .spins)) (length (b .fwd)) (length (b .perms)) → Blank bwd labels counts sizes
+    → PanelGiven z g (a .spins) (a .fwd) (a .perms) bwd labels counts sizes
+panel-given {text} {b} {z} {g} h r k = record {
+  n-high = rw (h .sizes) (spelling .sizes .n-high);
+  d-high = rw (h .sizes) (spelling .sizes .d-high);
+  s-high = rw (h .sizes) (spelling .sizes .s-high);
+  size-high = rw (h .group) (spelling .group-size .high);
+  rooms = record {
+    spins = rw (h .spins) (behind (frameBuffers text .spins) (b .spins) (z .s * z .n) (spins-count h) (r .spins));
+    fwd = rw (h .fwd) (behind (frameLattice text [] .fwd) (b .fwd) (z .n * z .d) (fwd-count h) (r .fwd));
+    perms = rw (h .perms) (behind (frameChoices text .perms) (b .perms) (z .n * g .len) (perms-count h) (r .perms));
+  };
+  blank = k;
+}
+  where
+    behind : {A : Type 0} (xs ys : List A) (k : ℕ) {m : ℕ} → length xs ≡ k → m ≤ length ys → m ≤ length (xs ++ drop k ys)
+    behind xs ys k e l = simp (length-append, length-drop) (omega arith)
+
+    spelling : Spelling text
+    spelling = spelling-of text (h .spelt)

@@ -1,0 +1,154 @@
+// One perm move of a panel that was read, and its answer as text.
+use super::Sizes;
+use super::Written;
+use super::back::backward;
+use super::write;
+use super::write_refusal;
+use paper::Answer;
+use paper::Form;
+use paper::Group;
+use paper::Mode;
+ghost use mathlib.Core.Path.{_≡_};
+ghost use mathlib.Core.List.{List, []};
+ghost use Prim.Native.Nat.{ℕ, _*_};
+ghost use lib.ListN.{length};
+ghost use Rattle.moves.specs.Task.{buffersOf};
+ghost use Rattle.frame.specs.Reading.{Held, Readout};
+ghost use Rattle.frame.specs.Writing.{WrittenAs};
+ghost use Rattle.frame.specs.Run.{MoveGiven, PermMoved, Writable, answerText, MoveWritten, PanelGiven, RunAs};
+
+// The move takes no couplings, cuts, flips or grey numbers: they are empty.
+fn perm_move(
+    n: usize,
+    d: usize,
+    s: usize,
+    group: Group,
+    spins: &mut [i8],
+    fwd: &[u32],
+    perms: &[u8],
+    bwd: &mut [u32],
+    labels: &mut [u32],
+    counts: &mut [u32],
+    sizes: &mut [u32],
+) -> Answer
+    requires { ⌜ MoveGiven n d (now fwd) (now bwd) ⌝ }
+    ensures { λ r. ⌜ PermMoved n d s group (now (fwd .entry)) (now (perms .entry))
+        (buffersOf (now (spins .entry)) (now (labels .entry)) [] (now (counts .entry)) (now (sizes .entry)))
+        r (now (bwd .exit)) (now (spins .exit)) (now (labels .exit)) (now (counts .exit)) (now (sizes .exit)) ⌝ }
+{
+    backward(n, d, fwd, bwd);
+    let couplings = [0i32; 1];
+    let cuts = [0f32; 1];
+    let mut grey_labels = [0u32; 1];
+    steps::overlap_step(
+        Mode::Perm,
+        Form::Sw,
+        n,
+        d,
+        s,
+        spins,
+        fwd,
+        bwd,
+        &couplings[..0],
+        group,
+        1.0,
+        &cuts[..0],
+        0,
+        0,
+        &perms[..0],
+        perms,
+        &perms[..0],
+        labels,
+        &mut grey_labels[..0],
+        counts,
+        sizes,
+    )
+}
+
+// Idle and moved are written alike.
+fn write_answer(r: Answer, labels: &[u32], counts: &[u32], spins: &[i8], out: &mut [u8]) -> Written
+    requires { ⌜ Writable r (now labels) (now counts) ⌝ }
+    ensures { λ w. ⌜ WrittenAs (answerText r (now (labels .entry)) (now (counts .entry)) (now (spins .entry))) (now (out .entry)) w (now (out .exit)) ⌝ }
+{
+    match r {
+        Answer::Refused(c) => write_refusal(c, out),
+        Answer::Idle => write(labels, counts, spins, out),
+        Answer::Moved => write(labels, counts, spins, out),
+    }
+}
+
+fn move_and_write(
+    n: usize,
+    d: usize,
+    s: usize,
+    group: Group,
+    spins: &mut [i8],
+    fwd: &[u32],
+    perms: &[u8],
+    bwd: &mut [u32],
+    labels: &mut [u32],
+    counts: &mut [u32],
+    sizes: &mut [u32],
+    out: &mut [u8],
+) -> Written
+    requires { ⌜ MoveGiven n d (now fwd) (now bwd) ⌝ }
+    ensures { λ w. ⌜ MoveWritten n d s group (now (fwd .entry)) (now (perms .entry))
+        (buffersOf (now (spins .entry)) (now (labels .entry)) [] (now (counts .entry)) (now (sizes .entry)))
+        (now (out .entry)) w (now (out .exit)) ⌝ }
+{
+    let r = perm_move(
+        n,
+        d,
+        s,
+        group,
+        spins,
+        fwd,
+        perms,
+        bwd,
+        labels,
+        counts,
+        sizes,
+    );
+    write_answer(r, labels, counts, spins, out)
+}
+
+// The same on the used parts of the buffers.
+pub(crate) fn run_panel(
+    z: Sizes,
+    group: Group,
+    spins: &mut [i8],
+    fwd: &[u32],
+    perms: &[u8],
+    bwd: &mut [u32],
+    labels: &mut [u32],
+    counts: &mut [u32],
+    sizes: &mut [u32],
+    out: &mut [u8],
+) -> Written
+    requires { ⌜ PanelGiven z group (now spins) (now fwd) (now perms) (now bwd) (now labels) (now counts) (now sizes) ⌝ }
+    ensures { λ w. ⌜ ((text : List ℕ) (b : Held)
+        → Readout text b z group (record { spins = now (spins .entry); fwd = now (fwd .entry); perms = now (perms .entry) })
+        → RunAs text (now (out .entry)) w (now (out .exit))) ⌝ }
+{
+    let n = z.n;
+    let d = z.d;
+    let s = z.s;
+    let cells = s * n;
+    let bonds = n * d;
+    let places = n * group.len;
+    let more = n + 1;
+    move_and_write(
+        n,
+        d,
+        s,
+        group,
+        &mut spins[..cells],
+        &fwd[..bonds],
+        &perms[..places],
+        &mut bwd[..bonds],
+        &mut labels[..n],
+        &mut counts[..more],
+        sizes,
+        out,
+    )
+}
