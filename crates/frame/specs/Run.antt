@@ -29,7 +29,7 @@ use Rattle.frame.specs.declared.Written.the-variants.{Wrote, NoRoom}
 use Rattle.frame.specs.Spelling.{spellingRules, Spelling, spelling-of, misspelt, misvalued, all-kept}
 use Rattle.frame.specs.Scan.{sizesIn}
 use Rattle.frame.specs.Reading.{Rooms, Held, Misread, Readout, FoundAs}
-use Rattle.frame.specs.Writing.{resultOf, TwoByte, WrittenAs, fitted-take, fitted-drop}
+use Rattle.frame.specs.Writing.{resultOf, TwoByte, Fitted, WrittenAs, fitted-take, fitted-drop}
 use Rattle.frame.specs.Back.{Reversed, back-complete}
 use Rattle.frame.specs.Values.{values-kept, values-broken}
 use Rattle.frame.specs.Joined.{spins-count, fwd-count, perms-count, spins-part, fwd-part, perms-part, seen-small}
@@ -63,6 +63,13 @@ run-says text before (Wrote m) after r = record {
   kept = fitted-drop (r .answer) before m after (r .written);
 }
 run-says text before NoRoom after r = record { answer = r .answer; answers = r .answers; short = r .written .short; kept = r .written .kept }
+
+-- so many bytes are there
+pub run-fits : (text before : List ℕ) (w : Written) (after : List ℕ) (m : ℕ) → RunAs text before w after → w ≡ Wrote m → m ≤ length after
+run-fits text before w after m r e = rw (fitted .is) (simp length-append (omega (arith, fitted .count)))
+  where
+    fitted : Fitted (r .answer) before m after
+    fitted = subst (λ (v : Written). WrittenAs (r .answer) before v after) e (r .written)
 
 -- ---- one perm move, whose backward table is worked out
 abbrev pub permCall : ℕ → ℕ → ℕ → List ℕ → List ℕ → Group → Call
