@@ -19,3 +19,6 @@ pub broken-listed : (rs : List Rule) (r : ℕ) → AllListed rs → Broken rs r 
 broken-listed [] r l w = absurd w
 broken-listed (q ∷ rs) r l (inl w) = rw (w .1) at (l .0)
 broken-listed (q ∷ rs) r l (inr w) = broken-listed rs r (l .1) (w .1)
+
+pub listed : {k : ℕ} → 1 ≤ k → k ≤ 11 → Listed k
+listed l h = record { low = l; high = h }

@@ -1,15 +1,23 @@
 -- How tight the promises are: what each allows for one input is one number and one content of every lent buffer. Assumes nothing.
-use Prim.Native.Nat.{ℕ, zero, suc, _≤_}
-use mathlib.Core.Path.{_≡_, refl, sym, _∙_, ap}
-use mathlib.Core.Bool.{Bool, true, false, cond}
+use Prim.Native.Nat.{ℕ, zero, suc, _<_}
+use mathlib.Core.Path.{_≡_, refl, sym, _∙_}
+use mathlib.Core.List.{List}
 use native.Mathlib.Omega.{arith}
-use native.Mathlib.Decide.{decLe}
-use Rattle.paper.specs.Panel.Input.{Call, Choices, Buffers}
+use lib.ListN.{length, getD}
+use lib.Seq.{ext-getD}
+use lib.IntN.{ℤ, pos}
+use Rattle.paper.specs.Panel.Input.{Lattice, Call, Choices, Buffers}
+use Rattle.paper.specs.Refusal.Rule.{Kept, broken-unique, broken-not-kept}
 use Rattle.paper.specs.Law.Determined.{determined}
+use Rattle.label.specs.Entry.{Request, Lent}
+use Rattle.label.specs.Determined.{components-determined}
 use Rattle.tsorvenk.specs.Number.{Coded, coded, number-answer}
 use Rattle.tsorvenk.specs.Step.{StepAnswers}
+use Rattle.tsorvenk.specs.Energy.{energyRules, Metered, EnergyAnswers}
+use Rattle.tsorvenk.specs.Label.{labellingOf, LabelAnswers}
 
-pub record Same (r r′ : ℕ) (y z : Buffers) : Type 0 where
+-- one number, and one content of what was lent
+pub record Same {A : Type 0} (r r′ : ℕ) (y z : A) : Type 0 where
   pub number : r ≡ r′
   pub buffers : y ≡ z
 
@@ -21,5 +29,44 @@ pub tsorvenk-step-determined :
 tsorvenk-step-determined mode form c p b y z r r′ f g = go (coded mode form)
   where
     go : Dec (Coded mode form) → Same r r′ y z
-    go (yes k) = let s = determined c p b y z _ _ (f .known k) (g .known k) in record { number = number-answer (s .answer); buffers = s .buffers }
-    go (no k) = record { number = f .unknown k .number ∙ sym (g .unknown k .number); buffers = f .unknown k .kept ∙ sym (g .unknown k .kept) }
+    go (yes k) =
+        let s = determined c p b y z _ _ (f .known k) (g .known k) in
+        record { number = number-answer (s .answer); buffers = s .buffers }
+    go (no k) = record {
+      number = f .unknown k .number ∙ sym (g .unknown k .number);
+      buffers = f .unknown k .kept ∙ sym (g .unknown k .kept);
+    }
+
+module _ (t : Lattice) (xs : List ℤ) (k : ℕ) (es y z : List ℤ) where
+  -- what a written energy shows
+  kept : (w : List ℤ) → Metered t xs k es w → Kept (energyRules t xs k es)
+  kept w m = let v = m .answers .valid in (v .0, (m .room, v))
+
+  alone : (w : List ℤ) → Metered t xs k es w → (i : ℕ) → i < length w → i ≡ 0
+  alone w m i l = omega (arith, m .long)
+
+  metered-same : Metered t xs k es y → Metered t xs k es z → y ≡ z
+  metered-same f g = ext-getD (pos 0) y z (f .long ∙ sym (g .long)) (λ i l. rw (alone y f i l) first)
+    where
+      first : getD y 0 (pos 0) ≡ getD z 0 (pos 0)
+      first = f .answers .is ∙ sym (g .answers .is)
+
+  pub tsorvenk-energy-determined : (r r′ : ℕ) → EnergyAnswers t xs k es r y → EnergyAnswers t xs k es r′ z → Same r r′ y z
+  tsorvenk-energy-determined zero zero f g = record { number = refl; buffers = metered-same f g }
+  tsorvenk-energy-determined zero (suc r′) f g = absurd (broken-not-kept (energyRules t xs k es) (suc r′) (g .why) (kept y f))
+  tsorvenk-energy-determined (suc r) zero f g = absurd (broken-not-kept (energyRules t xs k es) (suc r) (f .why) (kept z g))
+  tsorvenk-energy-determined (suc r) (suc r′) f g = record {
+    number = broken-unique (energyRules t xs k es) (suc r) (suc r′) (f .why) (g .why);
+    buffers = f .kept ∙ sym (g .kept);
+  }
+
+same-number : (r r′ : ℕ) → labellingOf r ≡ labellingOf r′ → r ≡ r′
+same-number zero zero e = refl
+same-number zero (suc r′) e = absurd (let q : _≡_ {A = ℕ} 0 1 = cc in omega arith)
+same-number (suc r) zero e = absurd (let q : _≡_ {A = ℕ} 0 1 = cc in omega arith)
+same-number (suc r) (suc r′) e = cc
+
+pub tsorvenk-label-determined : (q : Request) (b y z : Lent) (r r′ : ℕ) → LabelAnswers q b r y → LabelAnswers q b r′ z → Same r r′ y z
+tsorvenk-label-determined q b y z r r′ f g =
+    let s = components-determined q b y z (labellingOf r) (labellingOf r′) f g in
+    record { number = same-number r r′ (s .answer); buffers = s .buffers }

@@ -1,3 +1,5 @@
 pub mod Number
 pub mod Step
+pub mod Energy
+pub mod Label
 pub mod Determined

@@ -1,14 +1,20 @@
 // The library as C and Rust call it. Each function is a shell over a proved one: numbers in, a number out, and no caller is trusted.
+use label::Labelling;
 use paper::Answer;
 use paper::Form;
 use paper::Group;
+use paper::MeterAnswer;
 use paper::Mode;
 ghost use mathlib.Core.Path.{_≡_};
 ghost use Prim.Native.Nat.{_≤_};
 ghost use lib.ListN.{getD};
+ghost use Rattle.label.specs.Entry.{labellingNumber};
+ghost use Rattle.meter.specs.Part.{latticeOf};
 ghost use Rattle.moves.specs.Task.{callOf, choicesOf, buffersOf};
 ghost use Rattle.tsorvenk.specs.Number.{modeOf, formOf, groupOf, numberOf};
 ghost use Rattle.tsorvenk.specs.Step.{StepAnswers};
+ghost use Rattle.tsorvenk.specs.Energy.{EnergyAnswers};
+ghost use Rattle.tsorvenk.specs.Label.{LabelAnswers};
 
 fn mode_of(code: u8) -> Mode
     requires { ⌜ code ≤ 5 ⌝ }
@@ -139,4 +145,69 @@ pub extern "C" fn tsorvenk_step(
         sizes,
     );
     number_of(answer)
+}
+
+// The energy of one system, into a buffer of one number.
+#[no_mangle]
+pub extern "C" fn tsorvenk_energy(
+    n: usize,
+    d: usize,
+    s: usize,
+    spins: &[i8],
+    fwd: &[u32],
+    bwd: &[u32],
+    couplings: &[i32],
+    system: usize,
+    energy: &mut [i64],
+) -> u8
+    ensures { λ r. ⌜ EnergyAnswers
+        (latticeOf n d s (now (fwd .entry)) (now (bwd .entry)) (now (couplings .entry)))
+        (now (spins .entry))
+        system
+        (now (energy .entry))
+        r
+        (now (energy .exit)) ⌝ }
+{
+    if energy.len() != 1 {
+        if lattice::sizes_ok(n, d, s) {
+            return 2;
+        }
+        return 1;
+    }
+    match meter::energy(n, d, s, spins, fwd, bwd, couplings, system) {
+        MeterAnswer::Unmetered(r) => r,
+        MeterAnswer::Energy(e) => {
+            energy[0] = e;
+            0
+        }
+    }
+}
+
+fn labelling_number(answer: Labelling) -> u8
+    ensures { λ r. ⌜ r ≡ labellingNumber answer ⌝ }
+{
+    match answer {
+        Labelling::Unlabelled(r) => r,
+        Labelling::Written => 0,
+    }
+}
+
+// The components of the bonds whose byte in `holds` is 1.
+#[no_mangle]
+pub extern "C" fn tsorvenk_label(
+    n: usize,
+    d: usize,
+    fwd: &[u32],
+    holds: &[u8],
+    labels: &mut [u32],
+    counts: &mut [u32],
+    sizes: &mut [u32],
+) -> u8
+    ensures { λ r. ⌜ LabelAnswers
+        (record { n = n; d = d; fwd = now (fwd .entry); holds = now (holds .entry) })
+        (record { labels = now (labels .entry); counts = now (counts .entry); sizes = now (sizes .entry) })
+        r
+        (record { labels = now (labels .exit); counts = now (counts .exit); sizes = now (sizes .exit) }) ⌝ }
+{
+    labelling_number(label::components(n, d, fwd, holds, labels, counts, sizes))
 }
