@@ -1,4 +1,4 @@
-//! Links the port's static library where it is: TSORVENK_LIB, or target/staticlib/libtsorvenk.a at the repository's top.
+//! Links the port's static library where it is: TSORVENK_LIB, or where `library` left it for this processor.
 use std::env;
 use std::path::Path;
 
@@ -7,11 +7,11 @@ fn main() {
     println!("cargo::rerun-if-env-changed=TSORVENK_LIB");
     let top = Path::new(&env::var("CARGO_MANIFEST_DIR").unwrap()).join("..");
     let given = env::var("TSORVENK_LIB").unwrap_or_default();
-    let library = top.join(if given.is_empty() {
-        "target/staticlib/libtsorvenk.a"
-    } else {
-        &given
-    });
+    let made = match env::var("CARGO_CFG_TARGET_ARCH").as_deref() {
+        Ok("x86_64") => "target/staticlib/libtsorvenk.a",
+        _ => "target/native/libtsorvenk.a",
+    };
+    let library = top.join(if given.is_empty() { made } else { &given });
     println!("cargo::rerun-if-changed={}", library.display());
     if !library.is_file() {
         return;
