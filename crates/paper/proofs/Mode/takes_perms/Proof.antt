@@ -1,6 +1,6 @@
 use borrow.Author.Needs.{needs}
-use Rattle.sweep_sizes.proofs.perms_by.Statement.{statement}
-use Rattle.sweep_sizes.proofs.perms_by.Tie as tie
+use Rattle.paper.proofs.Mode.takes_perms.Statement.{statement}
+use Rattle.paper.proofs.Mode.takes_perms.Tie as tie
 
 moves-requires : tie.Need-moves-requires
 moves-requires c κs = search needs
@@ -11,5 +11,5 @@ is-perm-requires c κs = search needs
 returns : tie.Need-returns
 returns c = rw (c .before .moves .ensures, c .is-perm .ensures)
 
-pub perms-by-spec : {M : Type 1} → statement M
-perms-by-spec = tie.close (tie.spec moves-requires is-perm-requires returns)
+pub takes-perms-spec : {M : Type 1} → statement M
+takes-perms-spec = tie.close (tie.spec moves-requires is-perm-requires returns)

@@ -1,7 +1,6 @@
-use borrow.Author.Needs.{needs}
 use Rattle.lattice.specs.Telling.{implies, test-eq, test-is}
-use Rattle.checks.proofs.fits.Statement.{statement}
-use Rattle.checks.proofs.fits.Tie as tie
+use Rattle.lattice.proofs.fits.Statement.{statement}
+use Rattle.lattice.proofs.fits.Tie as tie
 
 returns : tie.Need-returns
 returns c = let a = c .args in implies (test-is (a .taken)) (test-eq (a .len) (a .want)) .says
