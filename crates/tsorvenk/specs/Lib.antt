@@ -2,4 +2,5 @@ pub mod Number
 pub mod Step
 pub mod Energy
 pub mod Label
+pub mod Sweep
 pub mod Determined
