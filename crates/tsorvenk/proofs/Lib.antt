@@ -2,3 +2,4 @@
 mod Listed
 mod Told
 mod Swept
+mod Written

@@ -3,6 +3,7 @@ use Prim.Native.Nat.{ℕ, zero, suc, _<_}
 use mathlib.Core.Path.{_≡_, refl, sym, _∙_, ap}
 use mathlib.Core.List.{List, [], _∷_}
 use native.Mathlib.Omega.{arith}
+use native.Mathlib.Decide.{ℕ-discrete}
 use lib.ListN.{length, getD}
 use lib.Seq.{ext-getD}
 use lib.IntN.{ℤ, pos}
@@ -16,11 +17,14 @@ use Rattle.paper.specs.Law.Determined.{determined}
 use Rattle.paper.specs.Law.SweepDetermined.{SameSweep, sweep-determined}
 use Rattle.label.specs.Entry.{Request, Lent}
 use Rattle.label.specs.Determined.{components-determined}
+use Rattle.frame.specs.declared.Written.{Written}
+use Rattle.frame.specs.Determined.{SameWritten, run-determined}
 use Rattle.tsorvenk.specs.Number.{Coded, coded, number-answer}
 use Rattle.tsorvenk.specs.Step.{StepAnswers}
 use Rattle.tsorvenk.specs.Energy.{energyRules, Metered, EnergyAnswers}
 use Rattle.tsorvenk.specs.Label.{labellingOf, LabelAnswers}
 use Rattle.tsorvenk.specs.Sweep.{Tallied, tallied, tallyRules, Sweeping, TallyAnswers, SweepNumbers}
+use Rattle.tsorvenk.specs.Frames.{Framed, framed, framesNumber, lengthTo, Ran, FramesNumbers}
 
 -- one number, and one content of what was lent
 pub record Same {A : Type 0} (r r′ : ℕ) (y z : A) : Type 0 where
@@ -112,4 +116,27 @@ tsorvenk-sweep-determined mode form w l y z r r′ f g = go (coded mode form)
     go (no k) = record {
       number = f .unknown k .number ∙ sym (g .unknown k .number);
       buffers = f .unknown k .kept ∙ sym (g .unknown k .kept);
+    }
+
+-- ---- frames
+pub tsorvenk-frames-determined : (text : List ℕ) (l y z : Framed) (r r′ : ℕ) → FramesNumbers text l r y → FramesNumbers text l r′ z → Same r r′ y z
+tsorvenk-frames-determined text l y z r r′ f g = go (ℕ-discrete (length (l .written)) 1)
+  where
+    ran : Ran text l r y → Ran text l r′ z → Same r r′ y z
+    ran p q = record {
+      number = p .number ∙ (ap framesNumber (same .answer) ∙ sym (q .number));
+      buffers = λ i. framed (same .held i) (told i);
+    }
+      where
+        same : SameWritten (p .wrote) (q .wrote) (y .out) (z .out)
+        same = run-determined text (l .out) (p .wrote) (q .wrote) (y .out) (z .out) (p .runs) (q .runs)
+
+        told : y .written ≡ z .written
+        told = p .length-told ∙ (ap (λ (v : Written). lengthTo v (l .written)) (same .answer) ∙ sym (q .length-told))
+
+    go : Dec (length (l .written) ≡ 1) → Same r r′ y z
+    go (yes e) = ran (f .roomed e) (g .roomed e)
+    go (no e) = record {
+      number = f .roomless e .number ∙ sym (g .roomless e .number);
+      buffers = f .roomless e .kept ∙ sym (g .roomless e .kept);
     }

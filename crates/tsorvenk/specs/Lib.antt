@@ -3,4 +3,5 @@ pub mod Step
 pub mod Energy
 pub mod Label
 pub mod Sweep
+pub mod Frames
 pub mod Determined
