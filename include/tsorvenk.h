@@ -4,10 +4,10 @@
  * crates/tsorvenk/specs, over the definitions in crates/paper/specs. The back end that compiled the archive is trusted.
  *
  * Slices. A buffer is lent as a pointer and its number of elements. The pointer must be valid for that many elements,
- * for writing too where it is not const, and aligned for its type. The buffers of one call must not overlap. For a length
- * of 0 give a pointer that is not null and is aligned; nothing is read or written through it. Nothing else is assumed:
- * lengths, numbers and contents may be anything, and what is wrong is refused. No function keeps a pointer, allocates, or
- * has state between calls; calls on different buffers may run at the same time.
+ * for writing too where it is not const, and aligned for its type. Buffers must not overlap; only two that are both const
+ * may. For a length of 0 give a pointer that is not null and is aligned; nothing is read or written through it. Nothing
+ * else is assumed: lengths, numbers and contents may be anything, and what is wrong is refused. No function keeps a
+ * pointer, allocates, or has state between calls; calls on different buffers may run at the same time.
  *
  * A buffer that a mode and form do not take is ignored, at any length and with any content.
  *
