@@ -5,7 +5,7 @@ use Rattle.label_runs.proofs.directions.Statement.{statement}
 use Rattle.label_runs.proofs.directions.Tie as tie
 
 abbrev Inv-loop : tie.InvT-loop
-Inv-loop n u₀ d₀ u d = (1 ≤ d) × (d ≤ 5)
+Inv-loop n u₀ d₀ u d = d ≤ 5
 
 abbrev μ-loop : tie.MeasureT-loop
 μ-loop n u₀ d₀ u d = 5 - d

@@ -8,7 +8,7 @@ use borrow.Author.Needs.{needs}
 use Rattle.label_runs.proofs.with_room.Statement.{statement}
 use Rattle.label_runs.proofs.with_room.Tie as tie
 
-room : (c : tie.Start) → c .args .n * c .args .d ≤ 256
+room : (c : tie.Start) → c .args .n * c .args .d ≤ 16384
 room c = mul-le-mul (c .pre .0) (c .pre .1)
 
 mul-m : tie.Need-mul-m
@@ -16,9 +16,6 @@ mul-m c = omega (arith, room c)
 
 add-e : tie.Need-add-e
 add-e c = search needs
-
-cast-trial : tie.Need-cast-trial
-cast-trial c = search needs
 
 array-borrow-prefix-fwd : tie.Need-array-borrow-prefix-fwd
 array-borrow-prefix-fwd c = room c
@@ -47,6 +44,18 @@ slice-aggregate-trial-4 c = sym (length-take-le _ _ (omega (arith, c .before .be
 slice-aggregate-trial-5 : tie.Need-slice-aggregate-trial-5
 slice-aggregate-trial-5 c = search needs
 
+array-borrow-prefix-marks : tie.Need-array-borrow-prefix-marks
+array-borrow-prefix-marks c = search needs
+
+slice-aggregate-trial-6 : tie.Need-slice-aggregate-trial-6
+slice-aggregate-trial-6 c = sym (length-take-le _ _ (c .before .before .before .before .before .before .pre .0))
+
+array-borrow-prefix-tally : tie.Need-array-borrow-prefix-tally
+array-borrow-prefix-tally c = search needs
+
+slice-aggregate-trial-7 : tie.Need-slice-aggregate-trial-7
+slice-aggregate-trial-7 c = sym (length-take-le _ _ (c .before .before .before .before .before .before .before .pre .0))
+
 trial-requires : tie.Need-trial-requires
 trial-requires c κs = search needs
 
@@ -59,7 +68,6 @@ with-room-spec =
     (tie.spec
     mul-m
     add-e
-    cast-trial
     array-borrow-prefix-fwd
     slice-aggregate-trial
     array-borrow-prefix-holds
@@ -69,5 +77,9 @@ with-room-spec =
     array-borrow-prefix-counts
     slice-aggregate-trial-4
     slice-aggregate-trial-5
+    array-borrow-prefix-marks
+    slice-aggregate-trial-6
+    array-borrow-prefix-tally
+    slice-aggregate-trial-7
     trial-requires
     returns)

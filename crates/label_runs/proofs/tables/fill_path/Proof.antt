@@ -1,23 +1,29 @@
--- `fill_holds` keeps its indices in range and ends. Assumes nothing.
+-- `fill_path` keeps its indices in range and ends. Assumes nothing.
 use Prim.Native.Nat.{_-_, _≤_}
 use mathlib.Core.Path.{_≡_}
 use native.Mathlib.Omega.{arith}
 use lib.ListN.{length, length-set}
 use borrow.Author.Needs.{needs}
-use Rattle.label_runs.proofs.fill_holds.Statement.{statement}
-use Rattle.label_runs.proofs.fill_holds.Tie as tie
+use Rattle.label_runs.proofs.tables.fill_path.Statement.{statement}
+use Rattle.label_runs.proofs.tables.fill_path.Tie as tie
 
 abbrev Inv-loop : tie.InvT-loop
-Inv-loop seed p holds₀ s₀ i₀ holds s i = (length holds ≡ length holds₀) × (i ≤ length holds)
+Inv-loop backwards n fwd₀ holds₀ i₀ fwd holds i = (length fwd ≡ length fwd₀) × ((length holds ≡ length holds₀) × (i ≤ length holds))
 
 abbrev μ-loop : tie.MeasureT-loop
-μ-loop seed p holds₀ s₀ i₀ holds s i = length holds - i
+μ-loop backwards n fwd₀ holds₀ i₀ fwd holds i = length holds - i
 
 loop-holds : tie.Need-loop-holds Inv-loop μ-loop
 loop-holds c = search needs
 
-next-requires : tie.Need-next-requires Inv-loop μ-loop
-next-requires c κs = search needs
+path-end-requires : tie.Need-path-end-requires Inv-loop μ-loop
+path-end-requires c κs = search needs
+
+narrow-requires : tie.Need-narrow-requires Inv-loop μ-loop
+narrow-requires c κs = search needs
+
+put-requires : tie.Need-put-requires Inv-loop μ-loop
+put-requires c κs = search needs
 
 byte-requires : tie.Need-byte-requires Inv-loop μ-loop
 byte-requires c κs = search needs
@@ -37,21 +43,27 @@ loop-again c = simp length-set (omega arith)
 same-length : tie.Need-same-length Inv-loop μ-loop
 same-length c = search needs
 
+same-length-2 : tie.Need-same-length-2 Inv-loop μ-loop
+same-length-2 c = search needs
+
 returns : tie.Need-returns Inv-loop μ-loop
 returns c = search needs
 
-pub fill-holds-spec : {M : Type 1} → statement M
-fill-holds-spec =
+pub fill-path-spec : {M : Type 1} → statement M
+fill-path-spec =
     tie.close
     (tie.spec
     Inv-loop
     μ-loop
     loop-holds
-    next-requires
+    path-end-requires
+    narrow-requires
+    put-requires
     byte-requires
     slice-write-holds
     add-i
     loop-less
     loop-again
     same-length
+    same-length-2
     returns)

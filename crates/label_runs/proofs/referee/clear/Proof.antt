@@ -1,29 +1,26 @@
--- `own` keeps its indices in range and ends. Assumes nothing.
+-- `clear` keeps its indices in range and ends. Assumes nothing.
 use Prim.Native.Nat.{_-_, _≤_}
 use mathlib.Core.Path.{_≡_}
 use native.Mathlib.Omega.{arith}
 use lib.ListN.{length, length-set}
 use borrow.Author.Needs.{needs}
-use Rattle.label_runs.proofs.own.Statement.{statement}
-use Rattle.label_runs.proofs.own.Tie as tie
+use Rattle.label_runs.proofs.referee.clear.Statement.{statement}
+use Rattle.label_runs.proofs.referee.clear.Tie as tie
 
 abbrev Inv-loop : tie.InvT-loop
-Inv-loop out₀ v₀ i₀ out v i = (length out ≡ length out₀) × (i ≤ length out)
+Inv-loop xs₀ i₀ xs i = (length xs ≡ length xs₀) × (i ≤ length xs)
 
 abbrev μ-loop : tie.MeasureT-loop
-μ-loop out₀ v₀ i₀ out v i = length out - i
+μ-loop xs₀ i₀ xs i = length xs - i
 
 loop-holds : tie.Need-loop-holds Inv-loop μ-loop
 loop-holds c = search needs
 
-mul-out : tie.Need-mul-out Inv-loop μ-loop
-mul-out c = search needs
+mul-xs : tie.Need-mul-xs Inv-loop μ-loop
+mul-xs c = search needs
 
-slice-write-out : tie.Need-slice-write-out Inv-loop μ-loop
-slice-write-out c = search needs
-
-wrapping-add-u32-requires : tie.Need-wrapping-add-u32-requires Inv-loop μ-loop
-wrapping-add-u32-requires c κs = search needs
+slice-write-xs : tie.Need-slice-write-xs Inv-loop μ-loop
+slice-write-xs c = search needs
 
 add-i : tie.Need-add-i Inv-loop μ-loop
 add-i c = search needs
@@ -40,16 +37,15 @@ same-length c = search needs
 returns : tie.Need-returns Inv-loop μ-loop
 returns c = search needs
 
-pub own-spec : {M : Type 1} → statement M
-own-spec =
+pub clear-spec : {M : Type 1} → statement M
+clear-spec =
     tie.close
     (tie.spec
     Inv-loop
     μ-loop
     loop-holds
-    mul-out
-    slice-write-out
-    wrapping-add-u32-requires
+    mul-xs
+    slice-write-xs
     add-i
     loop-less
     loop-again

@@ -4,8 +4,8 @@ use mathlib.Core.Path.{_≡_}
 use native.Mathlib.Omega.{arith}
 use lib.ListN.{length, length-set}
 use borrow.Author.Needs.{needs}
-use Rattle.label_runs.proofs.fill_fwd.Statement.{statement}
-use Rattle.label_runs.proofs.fill_fwd.Tie as tie
+use Rattle.label_runs.proofs.tables.fill_fwd.Statement.{statement}
+use Rattle.label_runs.proofs.tables.fill_fwd.Tie as tie
 
 abbrev Inv-loop : tie.InvT-loop
 Inv-loop seed n fwd₀ s₀ i₀ fwd s i = (length fwd ≡ length fwd₀) × (i ≤ length fwd)

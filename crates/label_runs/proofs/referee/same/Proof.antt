@@ -1,15 +1,15 @@
--- `counts_right` keeps its indices in range and ends. Assumes nothing.
+-- `same` keeps its indices in range and ends. Assumes nothing.
 use Prim.Native.Nat.{_-_, _≤_}
 use lib.ListN.{length}
 use borrow.Author.Needs.{needs}
-use Rattle.label_runs.proofs.counts_right.Statement.{statement}
-use Rattle.label_runs.proofs.counts_right.Tie as tie
+use Rattle.label_runs.proofs.referee.same.Statement.{statement}
+use Rattle.label_runs.proofs.referee.same.Tie as tie
 
 abbrev Inv-loop : tie.InvT-loop
-Inv-loop labels counts ok₀ s₀ ok s = s ≤ length counts
+Inv-loop a b ok₀ i₀ ok i = i ≤ length a
 
 abbrev μ-loop : tie.MeasureT-loop
-μ-loop labels counts ok₀ s₀ ok s = length counts - s
+μ-loop a b ok₀ i₀ ok i = length a - i
 
 loop-holds : tie.Need-loop-holds Inv-loop μ-loop
 loop-holds c = search needs
@@ -20,11 +20,11 @@ mul-ok c = search needs
 shared-slice-read-ok : tie.Need-shared-slice-read-ok Inv-loop μ-loop
 shared-slice-read-ok c = search needs
 
-of-size-requires : tie.Need-of-size-requires Inv-loop μ-loop
-of-size-requires c κs = search needs
+get-requires : tie.Need-get-requires Inv-loop μ-loop
+get-requires c κs = search needs
 
-add-s : tie.Need-add-s Inv-loop μ-loop
-add-s c = search needs
+add-i : tie.Need-add-i Inv-loop μ-loop
+add-i c = search needs
 
 loop-less : tie.Need-loop-less Inv-loop μ-loop
 loop-less c = search needs
@@ -35,8 +35,8 @@ loop-again c = search needs
 returns : tie.Need-returns Inv-loop μ-loop
 returns c = search needs
 
-pub counts-right-spec : {M : Type 1} → statement M
-counts-right-spec =
+pub same-spec : {M : Type 1} → statement M
+same-spec =
     tie.close
     (tie.spec
     Inv-loop
@@ -44,8 +44,8 @@ counts-right-spec =
     loop-holds
     mul-ok
     shared-slice-read-ok
-    of-size-requires
-    add-s
+    get-requires
+    add-i
     loop-less
     loop-again
     returns)

@@ -3,14 +3,14 @@ use Prim.Native.Nat.{_-_, _≤_}
 use mathlib.Core.Path.{_≡_}
 use lib.ListN.{length}
 use borrow.Author.Needs.{needs}
-use Rattle.label_runs.proofs.pass.Statement.{statement}
-use Rattle.label_runs.proofs.pass.Tie as tie
+use Rattle.label_runs.proofs.referee.pass.Statement.{statement}
+use Rattle.label_runs.proofs.referee.pass.Tie as tie
 
 abbrev Inv-loop : tie.InvT-loop
-Inv-loop d fwd holds out₀ at₀ out at = (length out ≡ length out₀) × (at ≤ length holds)
+Inv-loop d fwd holds marks₀ changed₀ at₀ marks changed at = (length marks ≡ length marks₀) × (at ≤ length holds)
 
 abbrev μ-loop : tie.MeasureT-loop
-μ-loop d fwd holds out₀ at₀ out at = length holds - at
+μ-loop d fwd holds marks₀ changed₀ at₀ marks changed at = length holds - at
 
 returns : tie.Need-returns Inv-loop μ-loop
 returns c = search needs

@@ -2,8 +2,8 @@
 use Prim.Native.Nat.{_-_, _≤_}
 use lib.ListN.{length}
 use borrow.Author.Needs.{needs}
-use Rattle.label_runs.proofs.at_least.Statement.{statement}
-use Rattle.label_runs.proofs.at_least.Tie as tie
+use Rattle.label_runs.proofs.referee.at_least.Statement.{statement}
+use Rattle.label_runs.proofs.referee.at_least.Tie as tie
 
 abbrev Inv-loop : tie.InvT-loop
 Inv-loop counts s c₀ v₀ c v = s ≤ v

@@ -1,15 +1,15 @@
--- `same` keeps its indices in range and ends. Assumes nothing.
+-- `all_zero` keeps its indices in range and ends. Assumes nothing.
 use Prim.Native.Nat.{_-_, _≤_}
 use lib.ListN.{length}
 use borrow.Author.Needs.{needs}
-use Rattle.label_runs.proofs.same.Statement.{statement}
-use Rattle.label_runs.proofs.same.Tie as tie
+use Rattle.label_runs.proofs.referee.all_zero.Statement.{statement}
+use Rattle.label_runs.proofs.referee.all_zero.Tie as tie
 
 abbrev Inv-loop : tie.InvT-loop
-Inv-loop a b ok₀ i₀ ok i = i ≤ length a
+Inv-loop xs ok₀ i₀ ok i = i ≤ length xs
 
 abbrev μ-loop : tie.MeasureT-loop
-μ-loop a b ok₀ i₀ ok i = length a - i
+μ-loop xs ok₀ i₀ ok i = length xs - i
 
 loop-holds : tie.Need-loop-holds Inv-loop μ-loop
 loop-holds c = search needs
@@ -19,9 +19,6 @@ mul-ok c = search needs
 
 shared-slice-read-ok : tie.Need-shared-slice-read-ok Inv-loop μ-loop
 shared-slice-read-ok c = search needs
-
-get-requires : tie.Need-get-requires Inv-loop μ-loop
-get-requires c κs = search needs
 
 add-i : tie.Need-add-i Inv-loop μ-loop
 add-i c = search needs
@@ -35,8 +32,8 @@ loop-again c = search needs
 returns : tie.Need-returns Inv-loop μ-loop
 returns c = search needs
 
-pub same-spec : {M : Type 1} → statement M
-same-spec =
+pub all-zero-spec : {M : Type 1} → statement M
+all-zero-spec =
     tie.close
     (tie.spec
     Inv-loop
@@ -44,7 +41,6 @@ same-spec =
     loop-holds
     mul-ok
     shared-slice-read-ok
-    get-requires
     add-i
     loop-less
     loop-again
