@@ -74,11 +74,6 @@ run-fits text before w after m r e = rw (fitted .is) (simp length-append (omega 
 abbrev pub permCall : ℕ → ℕ → ℕ → List ℕ → List ℕ → Group → Call
 permCall n d s fwd bwd g = callOf Perm Sw n d s fwd bwd [] g (whole 1) [] 0 0
 
-pub record MoveGiven (n d : ℕ) (fwd bwd : List ℕ) : Type 0 where
-  pub few : n ≤ 4096
-  pub fwd-long : length fwd ≡ n * d
-  pub bwd-long : length bwd ≡ n * d
-
 pub record PermMoved (n d s : ℕ) (g : Group) (fwd perms : List ℕ) (b : Buffers) (r : Answer) (bwd : List ℕ) (spins : List ℤ) (labels counts sizes : List ℕ) : Type 0 where
   pub long : length bwd ≡ n * d
   pub reversed : Reversed n d fwd bwd
@@ -145,7 +140,9 @@ pub record Blank (bwd labels counts sizes : List ℕ) : Type 0 where
   pub sizes-zero : Zeros sizes
 
 pub record PanelGiven (z : Sizes) (g : Group) (spins : List ℤ) (fwd perms bwd labels counts sizes : List ℕ) : Type 0 where
+  pub n-low : 1 ≤ z .n
   pub n-high : z .n ≤ 256
+  pub d-low : 1 ≤ z .d
   pub d-high : z .d ≤ 4
   pub s-high : z .s ≤ 8
   pub size-high : g .len ≤ 8
@@ -216,7 +213,9 @@ pub panel-given : {text : List ℕ} {b : Held} {z : Sizes} {g : Group} {a : Held
     → Rooms (length (b .spins)) (length (b .fwd)) (length (b .perms)) → Blank bwd labels counts sizes
     → PanelGiven z g (a .spins) (a .fwd) (a .perms) bwd labels counts sizes
 panel-given {text} {b} {z} {g} h r k = record {
+  n-low = rw (h .sizes) (spelling .sizes .n-low);
   n-high = rw (h .sizes) (spelling .sizes .n-high);
+  d-low = rw (h .sizes) (spelling .sizes .d-low);
   d-high = rw (h .sizes) (spelling .sizes .d-high);
   s-high = rw (h .sizes) (spelling .sizes .s-high);
   size-high = rw (h .group) (spelling .group-size .high);

@@ -1,5 +1,4 @@
 // The frame program's text, read into numbers and written from them.
-mod back;
 mod fill;
 mod lines;
 mod panel;

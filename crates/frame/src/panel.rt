@@ -1,7 +1,6 @@
 // One perm move of a panel that was read, and its answer as text.
 use super::Sizes;
 use super::Written;
-use super::back::backward;
 use super::write;
 use super::write_refusal;
 use paper::Answer;
@@ -12,10 +11,11 @@ ghost use mathlib.Core.Path.{_≡_};
 ghost use mathlib.Core.List.{List, []};
 ghost use Prim.Native.Nat.{ℕ, _*_};
 ghost use lib.ListN.{length};
+ghost use Rattle.lattice.specs.Backward.{Turnable};
 ghost use Rattle.moves.specs.Task.{buffersOf};
 ghost use Rattle.frame.specs.Reading.{Held, Readout};
 ghost use Rattle.frame.specs.Writing.{WrittenAs};
-ghost use Rattle.frame.specs.Run.{MoveGiven, PermMoved, Writable, answerText, MoveWritten, PanelGiven, RunAs};
+ghost use Rattle.frame.specs.Run.{PermMoved, Writable, answerText, MoveWritten, PanelGiven, RunAs};
 
 // The move takes no couplings, cuts, flips or grey numbers: they are empty.
 fn perm_move(
@@ -31,12 +31,12 @@ fn perm_move(
     counts: &mut [u32],
     sizes: &mut [u32],
 ) -> Answer
-    requires { ⌜ MoveGiven n d (now fwd) (now bwd) ⌝ }
+    requires { ⌜ Turnable n d (now fwd) (now bwd) ⌝ }
     ensures { λ r. ⌜ PermMoved n d s group (now (fwd .entry)) (now (perms .entry))
         (buffersOf (now (spins .entry)) (now (labels .entry)) [] (now (counts .entry)) (now (sizes .entry)))
         r (now (bwd .exit)) (now (spins .exit)) (now (labels .exit)) (now (counts .exit)) (now (sizes .exit)) ⌝ }
 {
-    backward(n, d, fwd, bwd);
+    lattice::backward(n, d, fwd, bwd);
     let couplings = [0i32; 1];
     let cuts = [0f32; 1];
     let mut grey_labels = [0u32; 1];
@@ -91,7 +91,7 @@ fn move_and_write(
     sizes: &mut [u32],
     out: &mut [u8],
 ) -> Written
-    requires { ⌜ MoveGiven n d (now fwd) (now bwd) ⌝ }
+    requires { ⌜ Turnable n d (now fwd) (now bwd) ⌝ }
     ensures { λ w. ⌜ MoveWritten n d s group (now (fwd .entry)) (now (perms .entry))
         (buffersOf (now (spins .entry)) (now (labels .entry)) [] (now (counts .entry)) (now (sizes .entry)))
         (now (out .entry)) w (now (out .exit)) ⌝ }

@@ -17,7 +17,7 @@ abbrev S : tie.After-perm-move → tie.Start
 S c = c .before .before .before .before .before .before .before .before .before .before .before .before .before
 
 write-answer-requires : tie.Need-write-answer-requires
-write-answer-requires c κs = writable (P c .perm-move .result) (S (P c) .pre .few) (P c .perm-move .ensures)
+write-answer-requires c κs = writable (P c .perm-move .result) (S (P c) .pre .n-high) (P c .perm-move .ensures)
 
 same-length : tie.Need-same-length
 same-length c = search needs

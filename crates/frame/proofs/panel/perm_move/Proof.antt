@@ -1,6 +1,7 @@
 -- `frame::panel::perm_move` meets its contract: it is the library's move, with the table that was worked out. Assumes nothing.
 use lib.Ieee.{ofInt, ofBits}
 use borrow.Author.Needs.{needs}
+use Rattle.frame.specs.Back.{reversed-of}
 use Rattle.frame.proofs.panel.perm_move.Statement.{statement}
 use Rattle.frame.proofs.panel.perm_move.Tie as tie
 
@@ -54,7 +55,7 @@ unfolding ofInt ofBits
 returns c =
     let o = c .before .before .before .before .before .before .before .before in
     let k = o .before .before .before .before .before .before .before .before .before .before .before .before .before in
-    record { long = search needs; reversed = k .backward .ensures; grey = _; answers = o .overlap-step .ensures }
+    record { long = search needs; reversed = reversed-of _ _ _ (k .backward .result) _ (k .backward .ensures); grey = _; answers = o .overlap-step .ensures }
 
 pub perm-move-spec : {M : Type 1} → statement M
 perm-move-spec =
