@@ -1,14 +1,19 @@
 #!/usr/bin/env python3
 """The frame program beside the reading of document 01 in frames.py, on texts that are drawn: whole panels and damaged ones.
 
-    compare.py [COUNT [SEED]] [--program PATH]
+    compare.py [COUNT [SEED]] [--program PATH | --library PATH]
 
 COUNT is 300 and SEED 1 where they are not given: the same two numbers draw the same texts. The program is proved and built first, unless
-PATH names a built one. Writes how many texts got each answer, as they were drawn, and the shortest text on which the two differ; exit
-status 1 if there is one. The program reads 65,536 bytes and no more: a longer text must get the answer of that part, and where this is not
-the answer of the whole text, it is counted by itself (docs/DECISIONS.md).
+--program names a built one. --library names a shared object of this machine with the exported tsorvenk_frames, which is asked in its place:
+
+    cc -shared -o libtsorvenk.so -Wl,--whole-archive libtsorvenk.a
+
+Writes how many texts got each answer, as they were drawn, and the shortest text on which the two differ; exit status 1 if there is one.
+The program reads 65,536 bytes and no more: a longer text must get the answer of that part, and where this is not the answer of the whole
+text, it is counted by itself (docs/DECISIONS.md). The library has no such limit.
 """
 import argparse
+import ctypes
 import os
 import platform
 import random
@@ -20,11 +25,12 @@ from concurrent.futures import ThreadPoolExecutor
 import frames
 
 TOP = os.path.dirname(os.path.dirname(os.path.dirname(os.path.abspath(__file__))))
-LIMIT = 65536  # what the program reads: docs/DECISIONS.md
 
 
 class Program:
-    """What answers a text: here the compiled program, one process a text."""
+    """What answers a text: the compiled program, one process a text."""
+
+    limit = 65536
 
     def __init__(self, path=None):
         if path is None:
@@ -40,6 +46,23 @@ class Program:
 
     def answer(self, text):
         return subprocess.run(self.command, input=text, stdout=subprocess.PIPE, check=True).stdout
+
+
+class Library:
+    """The same function of the exported library, called in this process."""
+
+    limit = sys.maxsize
+    room = 8192
+
+    def __init__(self, path):
+        self.frames = ctypes.CDLL(os.path.abspath(path)).tsorvenk_frames
+        self.frames.argtypes = [ctypes.c_char_p, ctypes.c_size_t] * 2 + [ctypes.POINTER(ctypes.c_size_t), ctypes.c_size_t]
+        self.frames.restype = ctypes.c_uint8
+
+    def answer(self, text):
+        out, written = ctypes.create_string_buffer(self.room), ctypes.c_size_t()
+        code = self.frames(text, len(text), out, self.room, ctypes.byref(written), 1)
+        return out.raw[:written.value] if code == 0 else b"code %d" % code
 
 
 # ---- what is drawn: each maker gives a text
@@ -133,7 +156,7 @@ def something_behind(draw, text):
 
 
 def overlong(draw, text):
-    want = draw.choice([LIMIT - 1, LIMIT, LIMIT + 1, draw.randint(12401, 70000), draw.randint(12401, 70000)])
+    want = draw.choice([Program.limit - 1, Program.limit, Program.limit + 1, draw.randint(12401, 70000), draw.randint(12401, 70000)])
     fill = want - len(text)
     kind = draw.randrange(4)
     if fill <= 0:
@@ -189,11 +212,6 @@ def sized(draw, n, d, s):
 
 
 # ---- the comparison
-def said_of(text):
-    """What document 01 gives for the text; of one that is longer than the program reads, for the part that it reads."""
-    return frames.answer(text[:LIMIT])
-
-
 def kind_of(text, said):
     if said.startswith(b"2f"):
         return said.decode().strip()
@@ -201,14 +219,19 @@ def kind_of(text, said):
     return "moved" if any(len({spins[t * n + i] for t in group}) > 1 for i in range(n)) else "idle"
 
 
-def compare(program, count, seed):
+def answered(program, count, seed):
+    """Each drawn case with the program's answer, a thousand texts at a time."""
     draw = random.Random(seed)
-    cases = [drawn(draw) for _ in range(count)]
     with ThreadPoolExecutor(os.cpu_count()) as pool:
-        found = list(pool.map(lambda case: program.answer(case[1]), cases))
+        for start in range(0, count, 1000):
+            cases = [drawn(draw) for _ in range(min(1000, count - start))]
+            yield from zip(cases, pool.map(lambda case: program.answer(case[1]), cases))
+
+
+def compare(program, count, seed):
     kinds, ways, cut, bad = Counter(), {}, 0, []
-    for (way, text), got in zip(cases, found):
-        want = said_of(text)
+    for (way, text), got in answered(program, count, seed):
+        want = frames.answer(text[:program.limit])
         kind = kind_of(text, want)
         kinds[kind] += 1
         ways.setdefault(way, Counter())[kind] += 1
@@ -228,8 +251,10 @@ def main():
     read.add_argument("count", nargs="?", type=int, default=300)
     read.add_argument("seed", nargs="?", type=int, default=1)
     read.add_argument("--program")
+    read.add_argument("--library")
     given = read.parse_args()
-    kinds, ways, cut, bad = compare(Program(given.program), given.count, given.seed)
+    program = Library(given.library) if given.library else Program(given.program)
+    kinds, ways, cut, bad = compare(program, given.count, given.seed)
     for way in sorted(ways):
         print("%-18s %5d  %s" % (way, sum(ways[way].values()), shown(ways[way])))
     print("%-18s %5d  %s" % ("all", given.count, shown(kinds)))
