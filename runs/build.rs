@@ -1,23 +1,10 @@
-//! Links the port's static library where it is: TSORVENK_LIB, or target/staticlib/libtsorvenk.a at the repository's top.
+//! The port is run where the crate `tsorvenk` found the static library.
 use std::env;
-use std::path::Path;
 
 fn main() {
     println!("cargo::rustc-check-cfg=cfg(port)");
-    println!("cargo::rerun-if-env-changed=TSORVENK_LIB");
-    let top = Path::new(&env::var("CARGO_MANIFEST_DIR").unwrap()).join("..");
-    let given = env::var("TSORVENK_LIB").unwrap_or_default();
-    let library = top.join(if given.is_empty() {
-        "target/staticlib/libtsorvenk.a"
-    } else {
-        &given
-    });
-    println!("cargo::rerun-if-changed={}", library.display());
-    if !library.is_file() {
-        return;
+    println!("cargo::rerun-if-changed=build.rs");
+    if env::var("DEP_TSORVENK_LINKED").is_ok() {
+        println!("cargo::rustc-cfg=port");
     }
-    let folder = library.parent().unwrap();
-    println!("cargo::rustc-link-search=native={}", folder.display());
-    println!("cargo::rustc-link-lib=static=tsorvenk");
-    println!("cargo::rustc-cfg=port");
 }

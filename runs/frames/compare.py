@@ -6,11 +6,9 @@
 COUNT is 300 and SEED 1 where they are not given: the same two numbers draw the same texts. The program is proved and built first, unless
 --program names a built one. --library names a shared object of this machine with the exported tsorvenk_frames, which is asked in its place:
 
-    cc -shared -o libtsorvenk.so -Wl,--whole-archive libtsorvenk.a
+    cc -shared -o libtsorvenk.so -Wl,--whole-archive "$(runs/library | tail -1)"
 
 Writes how many texts got each answer, as they were drawn, and the shortest text on which the two differ; exit status 1 if there is one.
-The program reads 65,536 bytes and no more: a longer text must get the answer of that part, and where this is not the answer of the whole
-text, it is counted by itself (docs/DECISIONS.md). The library has no such limit.
 """
 import argparse
 import ctypes
@@ -25,12 +23,11 @@ from concurrent.futures import ThreadPoolExecutor
 import frames
 
 TOP = os.path.dirname(os.path.dirname(os.path.dirname(os.path.abspath(__file__))))
+ROOM = 65536  # the program's buffer
 
 
 class Program:
     """What answers a text: the compiled program, one process a text."""
-
-    limit = 65536
 
     def __init__(self, path=None):
         if path is None:
@@ -51,7 +48,6 @@ class Program:
 class Library:
     """The same function of the exported library, called in this process."""
 
-    limit = sys.maxsize
     room = 8192
 
     def __init__(self, path):
@@ -156,9 +152,9 @@ def something_behind(draw, text):
 
 
 def overlong(draw, text):
-    want = draw.choice([Program.limit - 1, Program.limit, Program.limit + 1, draw.randint(12401, 70000), draw.randint(12401, 70000)])
+    want = draw.choice([ROOM - 1, ROOM, ROOM + 1, draw.randint(12401, 70000), draw.randint(12401, 200000)])
     fill = want - len(text)
-    kind = draw.randrange(4)
+    kind = draw.randrange(6)
     if fill <= 0:
         return text
     if kind == 0:
@@ -167,9 +163,12 @@ def overlong(draw, text):
         return text + (text * (fill // len(text) + 1))[:fill]
     if kind == 2:
         return other_line(draw, text, lambda lines, k: lines[:k] + [lines[k] + b"0" * fill] + lines[k + 1:])
-    # a group's line of whole bytes, which has a length however long it is
+    # a group's line of whole bytes, which has a length however long it is; one of them may be wrong
     head = parts(text)[:3]
-    return joined(head + [b"13" + b"00" * ((want - len(joined(head))) // 2)])
+    line = bytearray(b"13" + b"0" * (want - len(joined(head))))
+    if kind == 3:
+        line[draw.randrange(len(line))] = draw.choice(b"0aAg\n")
+    return joined(head + [bytes(line)])
 
 
 def empty(draw, text):
@@ -229,17 +228,15 @@ def answered(program, count, seed):
 
 
 def compare(program, count, seed):
-    kinds, ways, cut, bad = Counter(), {}, 0, []
+    kinds, ways, bad = Counter(), {}, []
     for (way, text), got in answered(program, count, seed):
-        want = frames.answer(text[:program.limit])
+        want = frames.answer(text)
         kind = kind_of(text, want)
         kinds[kind] += 1
         ways.setdefault(way, Counter())[kind] += 1
         if got != want:
             bad.append((len(text), text, want, got))
-        elif want != frames.answer(text):
-            cut += 1
-    return kinds, ways, cut, bad
+    return kinds, ways, bad
 
 
 def shown(counter):
@@ -254,11 +251,11 @@ def main():
     read.add_argument("--library")
     given = read.parse_args()
     program = Library(given.library) if given.library else Program(given.program)
-    kinds, ways, cut, bad = compare(program, given.count, given.seed)
+    kinds, ways, bad = compare(program, given.count, given.seed)
     for way in sorted(ways):
         print("%-18s %5d  %s" % (way, sum(ways[way].values()), shown(ways[way])))
     print("%-18s %5d  %s" % ("all", given.count, shown(kinds)))
-    print("%d agree, %d are longer than the program reads and get another answer for it, %d differ" % (given.count - cut - len(bad), cut, len(bad)))
+    print("%d agree, %d differ" % (given.count - len(bad), len(bad)))
     if bad:
         length, text, want, got = min(bad)
         print("shortest, %d bytes: %r\n  document 01: %r\n  the program: %r" % (length, text[:400], want[:200], got[:200]))

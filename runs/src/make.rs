@@ -11,9 +11,11 @@ pub const UNTOUCHED: u32 = 0xaaaa_aaaa;
 
 fn couplings(rand: &mut Rand, bonds: usize) -> Vec<i32> {
     let most = rand.pick(&[1, 3, 3, 100, 1_000_000]);
-    let zeros = rand.once_in(3);
+    let (zeros, ends) = (rand.once_in(3), rand.once_in(4));
     let draw = |_| {
-        if zeros && rand.once_in(2) {
+        if ends {
+            rand.pick(&[0, 1, -1, 1_000_000, -1_000_000])
+        } else if zeros && rand.once_in(2) {
             0
         } else {
             rand.range(0, 2 * most) as i32 - most as i32

@@ -26,27 +26,31 @@ pub fn median<S>(
     times[times.len() / 2]
 }
 
-const SIDE: usize = 64;
-pub const N: usize = SIDE * SIDE;
+pub const N: usize = 4096;
 
-/// A square torus of 64 by 64 sites with couplings of size 1.
-pub fn panel(rand: &mut Rand, mode: Mode, form: Form, s: usize) -> Panel {
-    let fwd: Vec<u32> = (0..N)
-        .flat_map(|i| {
-            let (row, column) = (i / SIDE, i % SIDE);
-            let right = row * SIDE + (column + 1) % SIDE;
-            [right as u32, ((i + SIDE) % N) as u32]
-        })
-        .collect();
+/// The torus of N sites whose D sides are equal: a ring, 64 by 64, 16 by 16 by 16, or 8 four times.
+pub fn torus(d: usize) -> Vec<u32> {
+    let side = 1usize << (N.ilog2() as usize / d);
+    let step = |bond: usize| {
+        let stride = side.pow((bond % d) as u32);
+        let (i, at) = (bond / d, bond / d / stride % side);
+        (i - at * stride + (at + 1) % side * stride) as u32
+    };
+    (0..N * d).map(step).collect()
+}
+
+/// A torus with couplings of size 1.
+pub fn panel(rand: &mut Rand, mode: Mode, form: Form, d: usize, s: usize) -> Panel {
+    let fwd = torus(d);
     Panel {
         mode,
         form,
         n: N,
-        d: 2,
+        d,
         s,
-        bwd: backward(N, 2, &fwd),
+        bwd: backward(N, d, &fwd),
         fwd,
-        couplings: (0..2 * N).map(|_| rand.pick(&[1, -1])).collect(),
+        couplings: (0..d * N).map(|_| rand.pick(&[1, -1])).collect(),
     }
 }
 
@@ -67,7 +71,7 @@ fn permutations(rand: &mut Rand, count: usize, members: usize) -> Vec<u8> {
 
 /// Choices as a caller would draw them; a one-cluster permutation is not the identity.
 fn choices(rand: &mut Rand, panel: &Panel, members: usize, tasks: usize) -> Choices {
-    let exact = lengths(panel.mode, panel.form, N, 2, members, tasks);
+    let exact = lengths(panel.mode, panel.form, N, panel.d, members, tasks);
     let least = usize::from(panel.form == Form::Wolff);
     Choices {
         cuts: (0..exact.cuts.unwrap_or(0))
@@ -84,7 +88,7 @@ fn choices(rand: &mut Rand, panel: &Panel, members: usize, tasks: usize) -> Choi
 }
 
 fn outputs(panel: &Panel, members: usize, tasks: usize, spins: Vec<i8>) -> Lent {
-    let exact = lengths(panel.mode, panel.form, N, 2, members, tasks);
+    let exact = lengths(panel.mode, panel.form, N, panel.d, members, tasks);
     Lent {
         spins,
         labels: vec![0; exact.labels],
@@ -95,8 +99,8 @@ fn outputs(panel: &Panel, members: usize, tasks: usize, spins: Vec<i8>) -> Lent 
 }
 
 /// A move of one group in a panel of `s` systems.
-pub fn single(rand: &mut Rand, mode: Mode, form: Form, members: usize, s: usize) -> Single {
-    let panel = panel(rand, mode, form, s);
+pub fn single(rand: &mut Rand, panel: Panel, members: usize) -> Single {
+    let s = panel.s;
     let spins = spins(rand, s);
     let mut case = Single {
         group: (0..members as u32).collect(),
@@ -112,10 +116,11 @@ pub fn single(rand: &mut Rand, mode: Mode, form: Form, members: usize, s: usize)
     case
 }
 
-pub fn swept(rand: &mut Rand, mode: Mode, form: Form, members: usize) -> Swept {
+/// A sweep over 8 temperatures of 8 replicas.
+pub fn swept(rand: &mut Rand, mode: Mode, form: Form, d: usize, members: usize) -> Swept {
     let (t, r) = (8, 8);
     let tasks = t * (r / members);
-    let panel = panel(rand, mode, form, t * r);
+    let panel = panel(rand, mode, form, d, t * r);
     let spins = spins(rand, t * r);
     let mut case = Swept {
         t,

@@ -12,7 +12,7 @@ use Rattle.paper.specs.Site.Acting.{eqZ, sum}
 use Rattle.paper.specs.Site.Bonds.{pairTerm}
 use Rattle.columns.specs.Column.{sign, bitOf, shown}
 use Rattle.bonds.proofs.Bits.{product}
-use Rattle.bonds.proofs.Ints.{abs-add}
+use Rattle.lattice.specs.Ints.{abs-add}
 
 -- the column without its first k pairs
 abbrev pub past : ℕ → ℕ → ℕ

@@ -1,3 +1,2 @@
-pub mod When
 pub mod Chosen
 pub mod Seed

@@ -16,23 +16,6 @@ ghost use Rattle.moves.specs.Task.{choicesOf};
 ghost use Rattle.checks.specs.Panel.{Small, Always, Sometimes, Measures, panelRules};
 ghost use Rattle.checks.specs.Choices.{Tested, EveryCall, Long, AtMost, PermRows, RowMoves, Permuted, Sighted, Seeding, SeedActs};
 
-// A length is asked of a buffer only if it is taken.
-fn fits(taken: bool, len: usize, want: usize) -> bool
-    ensures { λ r. ⌜ Tells r (When taken (len ≡ want)) ⌝ }
-{
-    !taken | (len == want)
-}
-
-fn entries_of(form: Form, n: usize) -> usize
-    ensures { λ r. ⌜ r ≡ entries form n ⌝ }
-{
-    match form {
-        Form::Sw => n,
-        Form::Wolff => 1,
-        Form::Observe => 0,
-    }
-}
-
 fn always_ok(n: usize, d: usize, s: usize, l: Lengths) -> bool
     requires { ⌜ Small n d s 0 ⌝ }
     ensures { λ r. ⌜ Tells r (Always n d s l) ⌝ }
@@ -51,17 +34,17 @@ fn sometimes_ok(mode: Mode, form: Form, n: usize, d: usize, m: usize, l: Lengths
     ensures { λ r. ⌜ Tells r (Sometimes mode form n d m l) ⌝ }
 {
     let bonds = n * d;
-    let rows = entries_of(form, n);
+    let rows = form.entries(n);
     let drawn = mode.is_drawn();
-    let flips = form.is_sw() & !mode.is_perm();
-    let perms = form.moves() & mode.is_perm();
-    let greys = form.moves() & mode.is_cmr();
-    fits(drawn, l.couplings, bonds)
-        & fits(drawn, l.cuts, bonds)
-        & fits(flips, l.flips, n)
-        & fits(perms, l.perms, rows * m)
-        & fits(greys, l.greys, rows)
-        & fits(greys, l.greyed, n)
+    let flips = mode.takes_flips(form);
+    let perms = mode.takes_perms(form);
+    let greys = mode.takes_greys(form);
+    lattice::fits(drawn, l.couplings, bonds)
+        & lattice::fits(drawn, l.cuts, bonds)
+        & lattice::fits(flips, l.flips, n)
+        & lattice::fits(perms, l.perms, rows * m)
+        & lattice::fits(greys, l.greys, rows)
+        & lattice::fits(greys, l.greyed, n)
 }
 
 fn lengths_ok(mode: Mode, form: Form, n: usize, d: usize, s: usize, m: usize, l: Lengths) -> bool
@@ -69,15 +52,6 @@ fn lengths_ok(mode: Mode, form: Form, n: usize, d: usize, s: usize, m: usize, l:
     ensures { λ r. ⌜ Tells r (Fits mode form n d s m l) ⌝ }
 {
     always_ok(n, d, s, l) & sometimes_ok(mode, form, n, d, m, l)
-}
-
-fn couplings_ok(taken: bool, couplings: &[i32]) -> bool
-    ensures { λ r. ⌜ Tells r (When taken (SmallCouplings (now (couplings .entry)))) ⌝ }
-{
-    if taken {
-        return lattice::couplings_ok(couplings);
-    }
-    true
 }
 
 fn temperature_ok(taken: bool, t: f32) -> bool
@@ -121,7 +95,7 @@ pub fn test_panel(
         return 5;
     }
     let drawn = mode.is_drawn();
-    if !couplings_ok(drawn, couplings) {
+    if !lattice::couplings_fit(drawn, couplings) {
         return 6;
     }
     if !temperature_ok(drawn, temperature) {
@@ -201,11 +175,11 @@ fn chosen_ok(
         (λ c. Tells r (Chosen c (choicesOf (now (flips .entry)) (now (perms .entry)) (now (greys .entry)))))) ⌝ }
 {
     let m = group.len;
-    let rows = entries_of(form, n);
+    let rows = form.entries(n);
     let wolff = form.is_wolff();
-    let by_flips = form.is_sw() & !mode.is_perm();
-    let by_perms = form.moves() & mode.is_perm();
-    let by_greys = form.moves() & mode.is_cmr();
+    let by_flips = mode.takes_flips(form);
+    let by_perms = mode.takes_perms(form);
+    let by_greys = mode.takes_greys(form);
     perms_fit(by_perms, rows, m, perms)
         & moved_fit(by_perms & wolff, perms)
         & bytes_fit(by_flips, flips, 1)

@@ -15,8 +15,7 @@ use Rattle.paper.specs.Panel.Input.{Lattice, Call, Buffers}
 use Rattle.paper.specs.Component.Links.{Linked.stay}
 use Rattle.paper.specs.Component.Sizes.{bit, countWhere, counted, sizeOf}
 use Rattle.paper.specs.Refusal.Rule.{Kept, Broken}
-use Rattle.paper.specs.Answer.Move.{Answers, Seen}
-use Rattle.paper.specs.Demand3.Step.{Accepted}
+use Rattle.paper.specs.Answer.Move.{Answers, Seen, Accepted}
 use Rattle.paper.specs.Answer.Frame.{bytes, words, signed, frameLattice, frameCall, frameChoices, frameBuffers, HasBack, frameRules, refusal, FrameAnswers}
 use Rattle.frame.specs.declared.Sizes.{Sizes}
 use Rattle.frame.specs.Spelling.{line2, line3, line5, spellingRules, valueRules, Spelling, spelling-of, misspelt, misvalued, all-kept}

@@ -16,10 +16,9 @@ use Rattle.paper.specs.Panel.Input.{Lattice, Call, Choices, Buffers}
 use Rattle.paper.specs.Site.Bonds.{whole}
 use Rattle.paper.specs.Refusal.Rule.{Kept, Broken}
 use Rattle.paper.specs.Refusal.Rules.{Inverse}
-use Rattle.paper.specs.Answer.Move.{Answers, Refuses, Rests, Goes}
+use Rattle.paper.specs.Answer.Move.{Answers, Refuses, Rests, Goes, Accepted.idle, Accepted.moved}
 use Rattle.paper.specs.Answer.Task.{table}
 use Rattle.paper.specs.Answer.Frame.{frameLattice, frameCall, frameChoices, frameBuffers, HasBack, refusal, FrameAnswers}
-use Rattle.paper.specs.Demand3.Step.{Accepted.idle, Accepted.moved}
 use Rattle.moves.specs.Task.{callOf, choicesOf, buffersOf}
 use Rattle.frame.specs.declared.Sizes.{Sizes}
 use Rattle.frame.specs.declared.Found.{Found}

@@ -1,4 +1,6 @@
 // Reads the frames on standard input, runs their move and writes the answer's frames to standard output.
+mod long;
+
 use frame::Written;
 use libc::STDIN_FILENO;
 use libc::STDOUT_FILENO;
@@ -15,5 +17,10 @@ fn answer(text: &[u8]) {
 fn main() {
     let mut text = io::large_buffer();
     let n = io::read_full(STDIN_FILENO, &mut text);
+    if n == 65536 {
+        let m = long::shorten(&mut text);
+        answer(&text[..m]);
+        return;
+    }
     answer(&text[..n]);
 }

@@ -9,7 +9,7 @@ use lib.Ieee.{Float, nan}
 use Rattle.paper.specs.declared.Group.{Group}
 use Rattle.paper.specs.declared.Mode.{Mode}
 use Rattle.paper.specs.Component.Marks.{Tells}
-use Rattle.paper.specs.Refusal.Rules.{Sizes, Ranged, Spins, Inverse, Grouped, SmallCouplings, Warm, Cuts, Permutes, NotIdentity}
+use Rattle.paper.specs.Refusal.Rules.{When, Sizes, Ranged, Spins, Inverse, Grouped, SmallCouplings, Warm, Cuts, Permutes, NotIdentity}
 use Rattle.lattice.specs.Telling.{tells-determined}
 
 -- any two answers r and r′ that tell of P are equal
@@ -22,11 +22,17 @@ sizes-ok-determined n d s = tells-determined _
 pub ranged-determined : (n d s : ℕ) (mode : Mode) (m : ℕ) → OneAnswer (Ranged n d s mode m)
 ranged-determined n d s mode m = tells-determined _
 
+pub fits-determined : (taken : Bool) (len want : ℕ) → OneAnswer (When taken (len ≡ want))
+fits-determined taken len want = tells-determined _
+
 pub spins-ok-determined : (spins : List ℤ) → OneAnswer (Spins spins)
 spins-ok-determined spins = tells-determined _
 
 pub couplings-ok-determined : (js : List ℤ) → OneAnswer (SmallCouplings js)
 couplings-ok-determined js = tells-determined _
+
+pub couplings-fit-determined : (taken : Bool) (js : List ℤ) → OneAnswer (When taken (SmallCouplings js))
+couplings-fit-determined taken js = tells-determined _
 
 pub temperature-ok-determined : (t : Float) → OneAnswer (Warm t)
 temperature-ok-determined t = tells-determined _

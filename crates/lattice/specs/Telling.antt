@@ -1,6 +1,6 @@
 -- How tests are put together, as the code puts its flags together. Assumes nothing.
 use Prim.Native.Nat.{ℕ, _+_, _≤_, _<_, zero-le}
-use mathlib.Core.Path.{_≡_, refl, subst}
+use mathlib.Core.Path.{_≡_, refl, sym, _∙_, subst}
 use mathlib.Core.Logic.{_⊎_, inl, inr, ⊎-elim}
 use mathlib.Core.Bool.{Bool, true, false, not, _&&_, _||_}
 use borrow.Author.Count.{below-none, below-more}
@@ -9,6 +9,8 @@ use native.Mathlib.Nat.{le-antisymm}
 use native.Mathlib.Omega.{arith}
 use lib.Dec.{ltb, leb, eqb}
 use Rattle.paper.specs.Component.Marks.{Tells}
+use Rattle.paper.specs.Refusal.Rules.{When}
+use Rattle.paper.specs.Law.ByTest.{never}
 
 -- `Tells` as a record, from which the flag and the claim can be read off
 pub record Test (b : Bool) (P : Type 0) : Type 0 where
@@ -83,6 +85,14 @@ test-eq a b = said (eqb a b) (a ≡ b) (by-cases (eqb a b) (a ≡ b) (eqb-true a
 pub test-is : (b : Bool) → Test b (b ≡ true)
 test-is true = record { says = refl }
 test-is false = record { says = λ e. absurd (let z : _≡_ {A = ℕ} 0 1 = cc in omega arith) }
+
+-- ---- a test that is made only if its input is taken
+pub when-taken : (b : Bool) {t : Bool} (P : Type 0) → t ≡ true → Tells b P → Tells b (When t P)
+when-taken true P e h = λ _. h
+when-taken false P e h = λ w. h (w e)
+
+pub when-not : {t : Bool} {P : Type 0} → t ≡ false → When t P
+when-not n e = never (sym n ∙ e)
 
 -- ---- a flag kept over a loop that counts up to n
 

@@ -7,8 +7,7 @@ ghost use lib.IntN.{natAbs};
 ghost use lib.Ieee.{nan};
 ghost use Rattle.paper.specs.Component.Marks.{Tells};
 ghost use Rattle.paper.specs.Panel.Input.{member};
-ghost use Rattle.paper.specs.Panel.Takes.{isCmr};
-ghost use Rattle.paper.specs.Refusal.Rules.{Sizes, Ranged, Spin, Spins, SmallCouplings, Warm, isCut, Cuts, Back, Inverse, Grouped, Permutes, NotIdentity};
+ghost use Rattle.paper.specs.Refusal.Rules.{When, Sizes, Ranged, Spin, Spins, SmallCouplings, Warm, isCut, Cuts, Back, Inverse, Grouped, Permutes, NotIdentity};
 ghost use Rattle.lattice.specs.Telling.{Each};
 ghost use Rattle.lattice.specs.Backward.{Turnable, Turned, Zeros, Led, Filling, FillingSite, FillingBond};
 ghost use Rattle.lattice.specs.Groups.{Fresh, Alone};
@@ -37,23 +36,19 @@ pub fn sizes_ok(n: usize, d: usize, s: usize) -> bool
     (1 <= n) & (n <= 4096) & (1 <= d) & (d <= 4) & (1 <= s) & (s <= 64)
 }
 
-fn is_cmr(mode: Mode) -> bool
-    ensures { λ r. ⌜ r ≡ isCmr mode ⌝ }
-{
-    match mode {
-        Mode::Houd => false,
-        Mode::Pair => false,
-        Mode::Perm => false,
-        Mode::Gperm => false,
-        Mode::Jorg => false,
-        Mode::Cmr => true,
-    }
-}
-
 pub fn ranged(n: usize, d: usize, s: usize, mode: Mode, len: usize) -> bool
     ensures { λ r. ⌜ Tells r (Ranged n d s mode len) ⌝ }
 {
-    sizes_ok(n, d, s) & (2 <= len) & (len <= 8) & (!is_cmr(mode) | (len == 2))
+    sizes_ok(n, d, s) & (2 <= len) & (len <= 8) & (!mode.is_cmr() | (len == 2))
+}
+
+// ---- test 2
+
+// A length is asked of a buffer only if it is taken.
+pub fn fits(taken: bool, len: usize, want: usize) -> bool
+    ensures { λ r. ⌜ Tells r (When taken (len ≡ want)) ⌝ }
+{
+    !taken | (len == want)
 }
 
 // ---- test 3
@@ -270,6 +265,15 @@ pub fn couplings_ok(js: &[i32]) -> bool
         i += 1;
     }
     ok
+}
+
+pub fn couplings_fit(taken: bool, js: &[i32]) -> bool
+    ensures { λ r. ⌜ Tells r (When taken (SmallCouplings (now (js .entry)))) ⌝ }
+{
+    if taken {
+        return couplings_ok(js);
+    }
+    true
 }
 
 // ---- test 7

@@ -1,7 +1,7 @@
 // The types of document 01. Its definitions are in specs/, read in the order of specs/Lib.antt.
 ghost use mathlib.Core.Path.{_≡_};
 ghost use Rattle.paper.specs.Site.Bonds.{samplerOf};
-ghost use Rattle.paper.specs.Panel.Takes.{isPerm, isGperm, isCmr, isDrawn, isSw, isWolff, moves};
+ghost use Rattle.paper.specs.Panel.Takes.{isPerm, isGperm, isCmr, isDrawn, isSw, isWolff, moves, flipsBy, permsBy, greysBy, entries};
 
 // A group: its size and up to eight system numbers.
 pub struct Group {
@@ -80,6 +80,24 @@ impl Mode {
             Mode::Cmr => true,
         }
     }
+
+    pub fn takes_flips(self, form: Form) -> bool
+        ensures { λ r. ⌜ r ≡ flipsBy self form ⌝ }
+    {
+        form.is_sw() & !self.is_perm()
+    }
+
+    pub fn takes_perms(self, form: Form) -> bool
+        ensures { λ r. ⌜ r ≡ permsBy self form ⌝ }
+    {
+        form.moves() & self.is_perm()
+    }
+
+    pub fn takes_greys(self, form: Form) -> bool
+        ensures { λ r. ⌜ r ≡ greysBy self form ⌝ }
+    {
+        form.moves() & self.is_cmr()
+    }
 }
 
 impl Form {
@@ -113,6 +131,17 @@ impl Form {
             Form::Sw => true,
             Form::Wolff => true,
             Form::Observe => false,
+        }
+    }
+
+    // How many entries a buffer of choices has.
+    pub fn entries(self, n: usize) -> usize
+        ensures { λ r. ⌜ r ≡ entries self n ⌝ }
+    {
+        match self {
+            Form::Sw => n,
+            Form::Wolff => 1,
+            Form::Observe => 0,
         }
     }
 }

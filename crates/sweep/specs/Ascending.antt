@@ -16,18 +16,17 @@ use Rattle.paper.specs.Component.Sizes.{bit, countWhere}
 use Rattle.paper.specs.Refusal.Rule.{Kept}
 use Rattle.paper.specs.Refusal.Rules.{Spins, rules}
 use Rattle.paper.specs.Refusal.Kept.{Valid, valid-of, valid-kept}
-use Rattle.paper.specs.Answer.Move.{Answers}
+use Rattle.paper.specs.Answer.Move.{Answers, Accepted, Accepted.idle, Accepted.moved}
 use Rattle.paper.specs.Answer.Task.{Sweep, tasks, masked, taskCall, taskChoices, areas, idleTask}
 use Rattle.paper.specs.Answer.Sweep.{common, sweepRules, Done, SameLengths, Sweeps}
 use Rattle.paper.specs.Law.Determined.{determined, must-accept}
 use Rattle.paper.specs.Law.Sanity.{others-kept}
 use Rattle.paper.specs.Law.Local.{Agree}
-use Rattle.paper.specs.Law.AnswersLocal.{Rows, withSpins, local}
+use Rattle.paper.specs.Law.AnswersLocal.{Rows, withSpins, valid-there, local}
 use Rattle.paper.specs.Law.SweepTasks.{task-valid}
 use Rattle.paper.specs.Law.SweepAscending.{tasks-apart, done}
 use Rattle.paper.specs.Law.SweepCounts.{SaysIdle, counted-as}
-use Rattle.paper.specs.Demand3.Step.{Accepted, Accepted.idle, Accepted.moved}
-use Rattle.sweep.specs.Spinning.{spins-after, valid-there}
+use Rattle.sweep.specs.Spinning.{spins-after}
 
 -- ---- the two counts of the first K tasks
 abbrev pub isIdle : Sweep → List ℤ → ℕ → Bool
@@ -160,7 +159,7 @@ module _ (w : Sweep) (b : Buffers) (v : Kept (sweepRules w b)) where
     pub ran-valid : masked w K ≡ false → Valid (taskCall w K) (taskChoices w K) (areas w b′ (b′ .spins) K)
     ran-valid e =
         rw own-areas
-        (valid-there (taskCall w K) (taskChoices w K) (areas w b (b .spins) K) (b′ .spins) (h .lengths .spins) (h .spins) own-rows
+        (valid-there (record { long = h .lengths .spins; spinning = h .spins; same = own-rows })
         (valid-of (taskCall w K) (taskChoices w K) (areas w b (b .spins) K) (task-valid w b v K below e)))
 
     module _ (e : masked w K ≡ false) (a : Answer) (b″ : Buffers) (s : Steps w K b′ a b″) where

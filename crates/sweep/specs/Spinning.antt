@@ -1,28 +1,24 @@
--- A task keeps every spin +1 or -1, and what was accepted on the spins before the sweep is accepted on any with the same rows. Assumes nothing.
+-- A task keeps every spin +1 or -1. Assumes nothing.
 use Prim.Native.Nat.{ℕ, _+_, _*_, _/_, _%_, _<_}
-use mathlib.Core.Path.{_≡_, sym, _∙_, ap}
+use mathlib.Core.Path.{_≡_, ap}
 use mathlib.Core.Logic.{_⊎_, inl, inr, _≢_}
 use mathlib.Core.Bool.{Bool, true, false, cond, _&&_}
-use mathlib.Core.List.{List}
 use native.Mathlib.Omega.{arith}
 use native.Mathlib.Nat.{div-add-mod', mod-lt}
 use lib.ListN.{length}
-use lib.IntN.{ℤ}
 use Rattle.paper.specs.declared.Answer.{Answer}
 use Rattle.paper.specs.declared.Answer.the-variants.{Refused, Idle, Moved}
-use Rattle.paper.specs.Panel.Input.{graph, Call, Choices, Buffers, pattern, spin, size, system}
+use Rattle.paper.specs.Panel.Input.{graph, Call, Choices, Buffers, spin, size, system}
 use Rattle.paper.specs.Panel.Takes.{moves, takesGreys}
 use Rattle.paper.specs.Site.Bonds.{holds}
 use Rattle.paper.specs.Component.Sizes.{labelOf}
 use Rattle.paper.specs.Move.Moving.{greyBit, greyAt, flipSome, reached, after, final}
-use Rattle.paper.specs.Refusal.Rules.{Spin, Spins, Exact, Seeded}
+use Rattle.paper.specs.Refusal.Rules.{Spin, Spins}
 use Rattle.paper.specs.Refusal.Kept.{Valid, valid-of}
-use Rattle.paper.specs.Answer.Move.{Answers, Goes}
+use Rattle.paper.specs.Answer.Move.{Answers, Goes, Accepted, Accepted.idle, Accepted.moved}
 use Rattle.paper.specs.Law.Patterns.{flip-spin}
 use Rattle.paper.specs.Law.Unique.{Placed, place, label-lt}
-use Rattle.paper.specs.Law.Local.{Agree, Alike, acts-local}
-use Rattle.paper.specs.Law.AnswersLocal.{withSpins}
-use Rattle.paper.specs.Demand3.Step.{Accepted, Accepted.idle, Accepted.moved, rows}
+use Rattle.paper.specs.Demand3.Step.{rows}
 use Rattle.moves.specs.Ready.{ready}
 use Rattle.moves.specs.Moved.{Rows, after-spin}
 
@@ -70,56 +66,3 @@ pub length-after : (c : Call) (p : Choices) (b b′ : Buffers) (a : Answer) → 
 length-after c p b b′ (Refused r) w = ap (λ (z : Buffers). length (z .spins)) (w .kept)
 length-after c p b b′ Idle w = ap length (w .still)
 length-after c p b b′ Moved w = w .moved .long
-
--- ---- other rows than the group's do not matter
-module _ (c : Call) (p : Choices) (b : Buffers) (xs : List ℤ) (long : length xs ≡ length (b .spins)) (spinning : Spins xs)
-    (same : (i : ℕ) → i < c .lattice .n → Agree (size c) (pattern c xs i) (pattern c (b .spins) i)) where
-  alike : Valid c p b → Alike c xs (b .spins)
-  alike v = record {
-    patterns = same;
-    reference = v .fit .chosen .reference;
-    inside = λ i e hi he. v .sound .inverse .there i e hi he .inside;
-    some = omega (arith, v .sound .ranged .size-low);
-    two = v .sound .ranged .cmr-two;
-  }
-
-  exact-there : Exact c p b → Exact c p (withSpins b xs)
-  exact-there e = record {
-    spins = long ∙ e .spins;
-    fwd = e .fwd;
-    bwd = e .bwd;
-    couplings = e .couplings;
-    cuts = e .cuts;
-    flips = e .flips;
-    perms = e .perms;
-    greys = e .greys;
-    labels = e .labels;
-    grey-labels = e .grey-labels;
-    counts = e .counts;
-    sizes = e .sizes;
-  }
-
-  seeded-there : Valid c p b → Seeded c xs
-  seeded-there v =
-      let s = v .fit .seeded in
-      record {
-        below = s .below;
-        acting =
-            λ t q. acts-local c xs (b .spins) (alike v) (c .seed) (s .below t)
-            ∙ s .acting t
-            (record { site = q .site; below = q .below; does = sym (acts-local c xs (b .spins) (alike v) (q .site) (q .below)) ∙ q .does });
-      }
-
-  pub valid-there : Valid c p b → Valid c p (withSpins b xs)
-  valid-there v = record {
-    sound = record {
-      ranged = v .sound .ranged;
-      exact = exact-there (v .sound .exact);
-      spins = spinning;
-      inverse = v .sound .inverse;
-      grouped = v .sound .grouped;
-      couplings = v .sound .couplings;
-      warm = v .sound .warm;
-    };
-    fit = record { cuts = v .fit .cuts; chosen = v .fit .chosen; seeded = seeded-there v };
-  }

@@ -4,7 +4,6 @@ use paper::Mode;
 use tasks::Plan;
 ghost use mathlib.Core.Path.{_≡_};
 ghost use Rattle.paper.specs.Component.Marks.{Tells};
-ghost use Rattle.paper.specs.Panel.Takes.{flipsBy, permsBy, greysBy};
 ghost use Rattle.paper.specs.Refusal.Rules.{When};
 ghost use Rattle.paper.specs.Refusal.Verdict.{Verdict};
 ghost use Rattle.tasks.specs.Plan.{Planned};
@@ -48,31 +47,6 @@ fn plan_ok(plan: Plan) -> bool
     (t * r == s) & (plan.members <= r)
 }
 
-fn flips_by(mode: Mode, form: Form) -> bool
-    ensures { λ r. ⌜ r ≡ flipsBy mode form ⌝ }
-{
-    form.is_sw() & !mode.is_perm()
-}
-
-fn perms_by(mode: Mode, form: Form) -> bool
-    ensures { λ r. ⌜ r ≡ permsBy mode form ⌝ }
-{
-    form.moves() & mode.is_perm()
-}
-
-fn greys_by(mode: Mode, form: Form) -> bool
-    ensures { λ r. ⌜ r ≡ greysBy mode form ⌝ }
-{
-    form.moves() & mode.is_cmr()
-}
-
-// A length is asked of a buffer only if it is taken.
-fn fits(taken: bool, len: usize, want: usize) -> bool
-    ensures { λ r. ⌜ Tells r (When taken (len ≡ want)) ⌝ }
-{
-    !taken | (len == want)
-}
-
 fn always_ok(plan: Plan, l: SweepLengths) -> bool
     requires { ⌜ Planned plan ⌝ }
     ensures { λ r. ⌜ Tells r (Always plan l) ⌝ }
@@ -102,9 +76,9 @@ fn drawn_ok(plan: Plan, l: SweepLengths) -> bool
     let count = tasks::task_count(plan);
     let drawn = mode.is_drawn();
     let bonds = n * d;
-    fits(drawn, l.couplings, bonds)
-        & fits(drawn, l.temperatures, plan.t)
-        & fits(drawn, l.cuts, count * bonds)
+    lattice::fits(drawn, l.couplings, bonds)
+        & lattice::fits(drawn, l.temperatures, plan.t)
+        & lattice::fits(drawn, l.cuts, count * bonds)
 }
 
 fn chosen_ok(plan: Plan, l: SweepLengths) -> bool
@@ -116,14 +90,14 @@ fn chosen_ok(plan: Plan, l: SweepLengths) -> bool
     let mode = plan.mode;
     let form = plan.form;
     let count = tasks::task_count(plan);
-    let rows = tasks::entries_of(form, n);
-    let greys = greys_by(mode, form);
-    fits(flips_by(mode, form), l.flips, count * n)
-        & fits(perms_by(mode, form), l.perms, count * (rows * m))
-        & fits(greys, l.greys, count * rows)
-        & fits(greys, l.greyed, count * n)
-        & fits(mode.is_gperm(), l.references, count)
-        & fits(form.is_wolff(), l.seeds, count)
+    let rows = form.entries(n);
+    let greys = mode.takes_greys(form);
+    lattice::fits(mode.takes_flips(form), l.flips, count * n)
+        & lattice::fits(mode.takes_perms(form), l.perms, count * (rows * m))
+        & lattice::fits(greys, l.greys, count * rows)
+        & lattice::fits(greys, l.greyed, count * n)
+        & lattice::fits(mode.is_gperm(), l.references, count)
+        & lattice::fits(form.is_wolff(), l.seeds, count)
 }
 
 // Tests 1 and 2: the number of the first that fails, or 0.

@@ -28,15 +28,6 @@ fn test_panel(plan: Plan, spins: &[i8], fwd: &[u32], bwd: &[u32], order: &[u32])
     }
 }
 
-fn couplings_ok(taken: bool, couplings: &[i32]) -> bool
-    ensures { λ r. ⌜ Tells r (When taken (SmallCouplings (now (couplings .entry)))) ⌝ }
-{
-    if taken {
-        return lattice::couplings_ok(couplings);
-    }
-    true
-}
-
 fn temperatures_ok(taken: bool, temperatures: &[f32]) -> bool
     ensures { λ r. ⌜ Tells r (When taken (AllWarm (length (now (temperatures .entry))) (now (temperatures .entry)))) ⌝ }
 {
@@ -53,7 +44,7 @@ fn test_heat(plan: Plan, couplings: &[i32], temperatures: &[f32], masks: &[u8]) 
 {
     let mode = plan.mode;
     let drawn = mode.is_drawn();
-    if !couplings_ok(drawn, couplings) {
+    if !lattice::couplings_fit(drawn, couplings) {
         return 6;
     }
     if !temperatures_ok(drawn, temperatures) {

@@ -6,7 +6,6 @@ use mathlib.Core.List.{List}
 use lib.ListN.{getD}
 use lib.Ieee.{Float, nan}
 use Rattle.paper.specs.declared.Group.{Group}
-use Rattle.paper.specs.declared.Form.{Form}
 use Rattle.paper.specs.Panel.Takes.{entries}
 use Rattle.paper.specs.Answer.Task.{part}
 use Rattle.paper.specs.Law.TypesDetermined.{one-value}
@@ -53,6 +52,3 @@ masked-determined q masks k x y = one-value
 
 pub task-group-determined : (q : Plan) (order : List ℕ) (k : ℕ) (x y : Group) → x ≡ groupAt q order k → y ≡ groupAt q order k → x ≡ y
 task-group-determined q order k x y = one-value
-
-pub entries-of-determined : (form : Form) (n x y : ℕ) → x ≡ entries form n → y ≡ entries form n → x ≡ y
-entries-of-determined form n x y = one-value

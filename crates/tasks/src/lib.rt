@@ -139,17 +139,6 @@ pub fn task_group(plan: Plan, order: &[u32], k: usize) -> Group
     }
 }
 
-// How many entries a task's buffer of choices has.
-pub fn entries_of(form: Form, n: usize) -> usize
-    ensures { λ r. ⌜ r ≡ entries form n ⌝ }
-{
-    match form {
-        Form::Sw => n,
-        Form::Wolff => 1,
-        Form::Observe => 0,
-    }
-}
-
 pub fn task_cuts(plan: Plan, cuts: &[f32], k: usize) -> &[f32]
     requires { ⌜ TaskOf plan k ⌝ }
     ensures { λ r. ⌜ now r ≡ part k (plan .n * plan .d) (now (cuts .entry)) ⌝ }
@@ -171,7 +160,7 @@ pub fn task_perms(plan: Plan, perms: &[u8], k: usize) -> &[u8]
     ensures { λ r. ⌜ now r ≡ part k (entries (plan .form) (plan .n) * plan .members) (now (perms .entry)) ⌝ }
 {
     let form = plan.form;
-    let rows = entries_of(form, plan.n);
+    let rows = form.entries(plan.n);
     let members = plan.members;
     part_u8(perms, k, rows * members)
 }
@@ -181,5 +170,5 @@ pub fn task_greys(plan: Plan, greys: &[u8], k: usize) -> &[u8]
     ensures { λ r. ⌜ now r ≡ part k (entries (plan .form) (plan .n)) (now (greys .entry)) ⌝ }
 {
     let form = plan.form;
-    part_u8(greys, k, entries_of(form, plan.n))
+    part_u8(greys, k, form.entries(plan.n))
 }

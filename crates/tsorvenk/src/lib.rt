@@ -1,4 +1,7 @@
 // The library as C and Rust call it. Each function is a shell over a proved one: numbers in, a number out, and no caller is trusted.
+mod framing;
+mod sweeping;
+
 use label::Labelling;
 use paper::Answer;
 use paper::Form;

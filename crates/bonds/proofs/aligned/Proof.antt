@@ -10,8 +10,8 @@ use mir.Val.{toZ, ofZ}
 use mir.Facts.{sfits-lit}
 use Rattle.columns.specs.Column.{bitOf, shown}
 use Rattle.bonds.proofs.Bits.{align, firsts-same}
-use Rattle.bonds.proofs.Ints.{abs-neg}
-use Rattle.bonds.proofs.Held.{Holds, Value, given, asks, stored, reads, held-sub-to, small-fits}
+use Rattle.lattice.specs.Ints.{abs-neg}
+use Rattle.lattice.specs.Held.{Holds, Value, given, asks, stored, reads, held-sub-to, small-fits}
 use Rattle.bonds.proofs.aligned.Statement.{statement}
 use Rattle.bonds.proofs.aligned.Tie as tie
 

@@ -14,7 +14,7 @@ use Rattle.paper.specs.Site.Acting.{eqZ}
 use Rattle.paper.specs.Site.Bonds.{whole}
 use Rattle.columns.specs.Column.{bitOf, shown}
 use Rattle.bonds.proofs.Bits.{overlaps-same}
-use Rattle.bonds.proofs.Held.{Holds, given, bounded, reads, held-lt, held-same, held-differ}
+use Rattle.lattice.specs.Held.{Holds, given, bounded, reads, held-lt, held-same, held-differ}
 use Rattle.bonds.proofs.classify.Statement.{statement}
 use Rattle.bonds.proofs.classify.Tie as tie
 

@@ -4,7 +4,7 @@ use borrow.Author.Tests.{eq-eqb, ne-eqb}
 use lib.IntN.{ℤ}
 use Rattle.paper.specs.Site.Bonds.{jorgHolds}
 use Rattle.columns.specs.Column.{shown}
-use Rattle.bonds.proofs.Held.{given, reads}
+use Rattle.lattice.specs.Held.{given, reads}
 use Rattle.bonds.proofs.jorg_bond.Statement.{statement}
 use Rattle.bonds.proofs.jorg_bond.Tie as tie
 

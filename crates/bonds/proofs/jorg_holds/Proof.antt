@@ -12,8 +12,7 @@ use mir.Facts.{sfits-lit}
 use Rattle.paper.specs.Site.Acting.{sum}
 use Rattle.paper.specs.Site.Bonds.{whole, drawn, pairTerm}
 use Rattle.columns.specs.Column.{shown}
-use Rattle.bonds.proofs.Held.{Value, given, asks, stored, reads, held-mul, held-lt, small-fits}
-use Rattle.bonds.proofs.Ints.{mul-small}
+use Rattle.lattice.specs.Held.{Value, given, asks, stored, reads, held-mul, held-lt, small-fits, mul-small}
 use Rattle.bonds.proofs.Pairs.{pairs-small}
 use Rattle.bonds.proofs.jorg_holds.Statement.{statement}
 use Rattle.bonds.proofs.jorg_holds.Tie as tie

@@ -1,6 +1,5 @@
 use borrow.Author.Needs.{needs}
 use Prim.Native.Nat.{_≤_, _<_}
-use mathlib.Core.Path.{_≡_}
 use mathlib.Core.Bool.{_&&_}
 use denote.Ref.{now}
 use lib.ListN.{getD}
@@ -13,41 +12,32 @@ use Rattle.checks.proofs.chosen_ok.Statement.{statement}
 use Rattle.checks.proofs.chosen_ok.Tie as tie
 
 -- the inputs that are taken, as the code found them
-abbrev Wolffed : tie.After-is-cmr → tie.After-is-wolff
-Wolffed d = d .before .before .before .before .before .before
+abbrev Wolffed : tie.After-takes-greys → tie.After-is-wolff
+Wolffed d = d .before .before .before
 
-abbrev Began : tie.After-is-cmr → tie.Start
+abbrev Began : tie.After-takes-greys → tie.Start
 Began d = Wolffed d .before .before .before .before .before
 
-entries-of-requires : tie.Need-entries-of-requires
-entries-of-requires c κs = search needs
+entries-requires : tie.Need-entries-requires
+entries-requires c κs = search needs
 
 is-wolff-requires : tie.Need-is-wolff-requires
 is-wolff-requires c κs = search needs
 
-is-sw-requires : tie.Need-is-sw-requires
-is-sw-requires c κs = search needs
+takes-flips-requires : tie.Need-takes-flips-requires
+takes-flips-requires c κs = search needs
 
-is-perm-requires : tie.Need-is-perm-requires
-is-perm-requires c κs = search needs
+takes-perms-requires : tie.Need-takes-perms-requires
+takes-perms-requires c κs = search needs
 
-moves-requires : tie.Need-moves-requires
-moves-requires c κs = search needs
-
-is-perm-requires-2 : tie.Need-is-perm-requires-2
-is-perm-requires-2 c κs = search needs
-
-moves-requires-2 : tie.Need-moves-requires-2
-moves-requires-2 c κs = search needs
-
-is-cmr-requires : tie.Need-is-cmr-requires
-is-cmr-requires c κs = search needs
+takes-greys-requires : tie.Need-takes-greys-requires
+takes-greys-requires c κs = search needs
 
 perms-fit-requires : tie.Need-perms-fit-requires
 perms-fit-requires c κs =
     let a = Began c .args in
     let p = Began c .pre in
-    rw (c .before .before .before .moves .ensures, c .before .before .is-perm2 .ensures, Wolffed c .before .entries-of .ensures)
+    rw (c .before .takes-perms .ensures, Wolffed c .before .entries .ensures)
     (record { few = entries-few (a .form) (a .n) (p .n-high); size-high = p .size-high; long = p .perms-long })
 
 moved-fit-requires : tie.Need-moved-fit-requires
@@ -63,7 +53,7 @@ grey-fit-requires : tie.Need-grey-fit-requires
 grey-fit-requires c κs =
     let d = c .before .before .before .before in
     let a = Began d .args in
-    rw (d .before .moves2 .ensures, d .is-cmr .ensures, Wolffed d .is-wolff .ensures)
+    rw (d .takes-greys .ensures, Wolffed d .is-wolff .ensures)
     (one-grey (a .mode) (a .form) (a .n) (a .group) (a .reference) (now (a .flips)) (now (a .perms)) (now (a .greys)) (Began d .pre))
 
 is-gperm-requires : tie.Need-is-gperm-requires
@@ -84,29 +74,26 @@ returns c =
     let a = Began d .args in
     chosen-told (a .mode) (a .form) (a .n) (a .group) (a .reference) (now (a .flips)) (now (a .perms)) (now (a .greys)) (Began d .pre)
     (said (u .perms-fit .result) (When (permsBy (a .mode) (a .form)) (PermRows (entries (a .form) (a .n)) (a .group .len) (now (a .perms))))
-    (rw (d .before .before .before .moves .ensures, d .before .before .is-perm2 .ensures, Wolffed d .before .entries-of .ensures) at (u .perms-fit .ensures)))
+    (rw (d .before .takes-perms .ensures, Wolffed d .before .entries .ensures) at (u .perms-fit .ensures)))
     (said (v .moved-fit .result) (When (permsBy (a .mode) (a .form) && isWolff (a .form)) (RowMoves (now (a .perms))))
-    (rw (d .before .before .before .moves .ensures, d .before .before .is-perm2 .ensures, Wolffed d .is-wolff .ensures) at (v .moved-fit .ensures)))
+    (rw (d .before .takes-perms .ensures, Wolffed d .is-wolff .ensures) at (v .moved-fit .ensures)))
     (said (f1 .bytes-fit .result) (When (flipsBy (a .mode) (a .form)) (AtMost (now (a .flips)) 1))
-    (rw (d .before .before .before .before .before .is-sw .ensures, d .before .before .before .before .is-perm .ensures) at (f1 .bytes-fit .ensures)))
+    (rw (d .before .before .takes-flips .ensures) at (f1 .bytes-fit .ensures)))
     (said (f2 .bytes-fit2 .result) (When (greysBy (a .mode) (a .form)) (AtMost (now (a .greys)) 3))
-    (rw (d .before .moves2 .ensures, d .is-cmr .ensures) at (f2 .bytes-fit2 .ensures)))
+    (rw (d .takes-greys .ensures) at (f2 .bytes-fit2 .ensures)))
     (said (k .grey-fit .result) (When (greysBy (a .mode) (a .form) && isWolff (a .form)) (1 ≤ getD (now (a .greys)) 0 0))
-    (rw (d .before .moves2 .ensures, d .is-cmr .ensures, Wolffed d .is-wolff .ensures) at (k .grey-fit .ensures)))
+    (rw (d .takes-greys .ensures, Wolffed d .is-wolff .ensures) at (k .grey-fit .ensures)))
     (said (c .reference-fit .result) (When (isGperm (a .mode)) (a .reference < a .n)) (rw (i .is-gperm .ensures) at (c .reference-fit .ensures)))
 
 pub chosen-ok-spec : {M : Type 1} → statement M
 chosen-ok-spec =
     tie.close
     (tie.spec
-    entries-of-requires
+    entries-requires
     is-wolff-requires
-    is-sw-requires
-    is-perm-requires
-    moves-requires
-    is-perm-requires-2
-    moves-requires-2
-    is-cmr-requires
+    takes-flips-requires
+    takes-perms-requires
+    takes-greys-requires
     perms-fit-requires
     moved-fit-requires
     bytes-fit-requires

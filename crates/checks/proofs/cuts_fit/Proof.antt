@@ -1,7 +1,7 @@
 use borrow.Author.Needs.{needs}
 use denote.Ref.{now}
 use Rattle.paper.specs.Refusal.Rules.{Cuts}
-use Rattle.checks.proofs.When.{when-taken, when-not}
+use Rattle.lattice.specs.Telling.{when-taken, when-not}
 use Rattle.checks.proofs.cuts_fit.Statement.{statement}
 use Rattle.checks.proofs.cuts_fit.Tie as tie
 

@@ -3,7 +3,7 @@ use denote.Ref.{now}
 use lib.Dec.{leb}
 use lib.ListN.{getD}
 use Rattle.lattice.specs.Telling.{test-le}
-use Rattle.checks.proofs.When.{when-taken, when-not}
+use Rattle.lattice.specs.Telling.{when-taken, when-not}
 use Rattle.checks.proofs.grey_fit.Statement.{statement}
 use Rattle.checks.proofs.grey_fit.Tie as tie
 

@@ -11,41 +11,32 @@ use Rattle.checks.proofs.Chosen.{entries-few}
 use Rattle.checks.proofs.sometimes_ok.Statement.{statement}
 use Rattle.checks.proofs.sometimes_ok.Tie as tie
 
-abbrev Began : tie.After-is-cmr → tie.Start
-Began d = d .before .before .before .before .before .before .before .before
+abbrev Began : tie.After-takes-greys → tie.Start
+Began d = d .before .before .before .before .before
 
-abbrev entries-of-result : tie.After-is-cmr → ℕ
-entries-of-result d = d .before .before .before .before .before .before .before .entries-of .result
+abbrev rows : tie.After-takes-greys → ℕ
+rows d = d .before .before .before .before .entries .result
 
-rows-of : (d : tie.After-is-cmr) → entries-of-result d ≡ entries (Began d .args .form) (Began d .args .n)
-rows-of d = d .before .before .before .before .before .before .before .entries-of .ensures
+rows-of : (d : tie.After-takes-greys) → rows d ≡ entries (Began d .args .form) (Began d .args .n)
+rows-of d = d .before .before .before .before .entries .ensures
 
 mul-bonds : tie.Need-mul-bonds
 mul-bonds c = omega (arith, mul-le-mul (c .pre .n-high) (c .pre .d-high))
 
-entries-of-requires : tie.Need-entries-of-requires
-entries-of-requires c κs = search needs
+entries-requires : tie.Need-entries-requires
+entries-requires c κs = search needs
 
 is-drawn-requires : tie.Need-is-drawn-requires
 is-drawn-requires c κs = search needs
 
-is-sw-requires : tie.Need-is-sw-requires
-is-sw-requires c κs = search needs
+takes-flips-requires : tie.Need-takes-flips-requires
+takes-flips-requires c κs = search needs
 
-is-perm-requires : tie.Need-is-perm-requires
-is-perm-requires c κs = search needs
+takes-perms-requires : tie.Need-takes-perms-requires
+takes-perms-requires c κs = search needs
 
-moves-requires : tie.Need-moves-requires
-moves-requires c κs = search needs
-
-is-perm-requires-2 : tie.Need-is-perm-requires-2
-is-perm-requires-2 c κs = search needs
-
-moves-requires-2 : tie.Need-moves-requires-2
-moves-requires-2 c κs = search needs
-
-is-cmr-requires : tie.Need-is-cmr-requires
-is-cmr-requires c κs = search needs
+takes-greys-requires : tie.Need-takes-greys-requires
+takes-greys-requires c κs = search needs
 
 fits-requires : tie.Need-fits-requires
 fits-requires c κs = search needs
@@ -59,8 +50,8 @@ fits-requires-3 c κs = search needs
 mul-fits : tie.Need-mul-fits
 mul-fits c =
     let d = c .before .before .before in
-    let rows : entries-of-result d ≤ 4096 = rw (rows-of d) (entries-few (Began d .args .form) (Began d .args .n) (Began d .pre .n-high)) in
-    omega (arith, mul-le-mul rows (Began d .pre .m-high))
+    let few : rows d ≤ 4096 = rw (rows-of d) (entries-few (Began d .args .form) (Began d .args .n) (Began d .pre .n-high)) in
+    omega (arith, mul-le-mul few (Began d .pre .m-high))
 
 fits-requires-4 : tie.Need-fits-requires-4
 fits-requires-4 c κs = search needs
@@ -76,17 +67,17 @@ returns c =
     let d = c .before .before .before .before .before .before in
     let a = Began d .args in
     let l = a .l in
-    let drawn = d .before .before .before .before .before .before .is-drawn .ensures in
+    let drawn = d .before .before .before .is-drawn .ensures in
     same (Sometimes (a .mode) (a .form) (a .n) (a .d) (a .m) l)
     (λ h. record { couplings = h .0 .0 .0 .0 .0; cuts = h .0 .0 .0 .0 .1; flips = h .0 .0 .0 .1; perms = h .0 .0 .1; greys = h .0 .1; greyed = h .1 })
     (λ z. (((((z .couplings, z .cuts), z .flips), z .perms), z .greys), z .greyed))
     (both (both (both (both (both
     (said (c .before .before .before .before .before .fits2 .result) (When (drawsBonds (a .mode)) (l .couplings ≡ a .n * a .d)) (rw drawn at (c .before .before .before .before .before .fits2 .ensures)))
     (said (c .before .before .before .before .fits3 .result) (When (drawsBonds (a .mode)) (l .cuts ≡ a .n * a .d)) (rw drawn at (c .before .before .before .before .fits3 .ensures))))
-    (said (c .before .before .before .fits4 .result) (When (flipsBy (a .mode) (a .form)) (l .flips ≡ a .n)) (rw (d .before .before .before .before .before .is-sw .ensures, d .before .before .before .before .is-perm .ensures) at (c .before .before .before .fits4 .ensures))))
-    (said (c .before .before .fits5 .result) (When (permsBy (a .mode) (a .form)) (l .perms ≡ entries (a .form) (a .n) * a .m)) (rw (d .before .before .before .moves .ensures, d .before .before .is-perm2 .ensures, rows-of d) at (c .before .before .fits5 .ensures))))
-    (said (c .before .fits6 .result) (When (greysBy (a .mode) (a .form)) (l .greys ≡ entries (a .form) (a .n))) (rw (d .before .moves2 .ensures, d .is-cmr .ensures, rows-of d) at (c .before .fits6 .ensures))))
-    (said (c .fits7 .result) (When (greysBy (a .mode) (a .form)) (l .greyed ≡ a .n)) (rw (d .before .moves2 .ensures, d .is-cmr .ensures) at (c .fits7 .ensures))))
+    (said (c .before .before .before .fits4 .result) (When (flipsBy (a .mode) (a .form)) (l .flips ≡ a .n)) (rw (d .before .before .takes-flips .ensures) at (c .before .before .before .fits4 .ensures))))
+    (said (c .before .before .fits5 .result) (When (permsBy (a .mode) (a .form)) (l .perms ≡ entries (a .form) (a .n) * a .m)) (rw (d .before .takes-perms .ensures, rows-of d) at (c .before .before .fits5 .ensures))))
+    (said (c .before .fits6 .result) (When (greysBy (a .mode) (a .form)) (l .greys ≡ entries (a .form) (a .n))) (rw (d .takes-greys .ensures, rows-of d) at (c .before .fits6 .ensures))))
+    (said (c .fits7 .result) (When (greysBy (a .mode) (a .form)) (l .greyed ≡ a .n)) (rw (d .takes-greys .ensures) at (c .fits7 .ensures))))
     .says
 
 pub sometimes-ok-spec : {M : Type 1} → statement M
@@ -94,14 +85,11 @@ sometimes-ok-spec =
     tie.close
     (tie.spec
     mul-bonds
-    entries-of-requires
+    entries-requires
     is-drawn-requires
-    is-sw-requires
-    is-perm-requires
-    moves-requires
-    is-perm-requires-2
-    moves-requires-2
-    is-cmr-requires
+    takes-flips-requires
+    takes-perms-requires
+    takes-greys-requires
     fits-requires
     fits-requires-2
     fits-requires-3

@@ -48,7 +48,7 @@ abbrev S5 : tie.Else5 → tie.Start
 S5 e = S1 (E1 (E2 (E3 (E4 e))))
 
 k6 : (e : tie.Else6) → let a = S5 (e .before .before .before) .args in When (drawsBonds (a .mode)) (SmallCouplings (now (a .couplings)))
-k6 e = rw (e .before .before .is-drawn .ensures) at (passed (e .before .couplings-ok .result) (e .if6 .left) (e .before .couplings-ok .ensures))
+k6 e = rw (e .before .before .is-drawn .ensures) at (passed (e .before .couplings-fit .result) (e .if6 .left) (e .before .couplings-fit .ensures))
 
 abbrev E6 : tie.Else7 → tie.Else6
 E6 e = e .before .before
@@ -91,13 +91,13 @@ returns-5 c = let e = c .before .before in inr (k1 (E1 (E2 (E3 e))), inr (k2 (E2
 is-drawn-requires : tie.Need-is-drawn-requires
 is-drawn-requires c κs = search needs
 
-couplings-ok-requires : tie.Need-couplings-ok-requires
-couplings-ok-requires c κs = search needs
+couplings-fit-requires : tie.Need-couplings-fit-requires
+couplings-fit-requires c κs = search needs
 
 returns-6 : tie.Need-returns-6
 returns-6 c =
     let e = c .before .before .before in
-    inr (k1 (E1 (E2 (E3 (E4 e)))), inr (k2 (E2 (E3 (E4 e))), inr (k3 (E3 (E4 e)), inr (k4 (E4 e), inr (k5 e, inl ((λ w. refused (c .before .couplings-ok .result) (c .if6 .taken) (c .before .couplings-ok .ensures) (rw (c .before .before .is-drawn .ensures) w)), refl))))))
+    inr (k1 (E1 (E2 (E3 (E4 e)))), inr (k2 (E2 (E3 (E4 e))), inr (k3 (E3 (E4 e)), inr (k4 (E4 e), inr (k5 e, inl ((λ w. refused (c .before .couplings-fit .result) (c .if6 .taken) (c .before .couplings-fit .ensures) (rw (c .before .before .is-drawn .ensures) w)), refl))))))
 
 temperature-ok-requires : tie.Need-temperature-ok-requires
 temperature-ok-requires c κs = search needs
@@ -129,7 +129,7 @@ test-panel-spec =
     group-ok-requires
     returns-5
     is-drawn-requires
-    couplings-ok-requires
+    couplings-fit-requires
     returns-6
     temperature-ok-requires
     returns-7

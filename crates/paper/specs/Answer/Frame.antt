@@ -14,8 +14,7 @@ use Rattle.paper.specs.Panel.Input.{Lattice, Call, Choices, Buffers}
 use Rattle.paper.specs.Site.Bonds.{whole}
 use Rattle.paper.specs.Refusal.Rule.{Rule, rule, Kept, Broken}
 use Rattle.paper.specs.Refusal.Rules.{Spins, Inverse, Grouped, Chosen}
-use Rattle.paper.specs.Answer.Move.{Answers}
-use Rattle.paper.specs.Demand3.Step.{Accepted}
+use Rattle.paper.specs.Answer.Move.{Answers, Accepted}
 use Rattle.paper.specs.Answer.Task.{table}
 
 -- ---- lower-case hexadecimal, in the codes of the characters; 10 is the line feed

@@ -49,3 +49,8 @@ abbrev pub Answers : Call → Choices → Buffers → Answer → Buffers → Typ
 Answers c p b (Refused r) b′ = Refuses c p b (number (Refused r)) b′
 Answers c p b Idle b′ = Rests c p b b′
 Answers c p b Moved b′ = Goes c p b b′
+
+-- an answer that is no refusal
+pub data Accepted : Answer → Type 0 where
+  idle : Accepted Idle
+  moved : Accepted Moved

@@ -9,8 +9,6 @@ use lib.ListN.{length}
 use lib.IntN.{ℤ}
 use Rattle.paper.specs.declared.Form.{Form}
 use Rattle.paper.specs.declared.Form.the-variants.{Sw, Wolff, Observe}
-use Rattle.paper.specs.declared.Answer.{Answer}
-use Rattle.paper.specs.declared.Answer.the-variants.{Idle, Moved}
 use Rattle.paper.specs.Panel.Input.{graph, Call, Choices, Buffers, pattern, size, system, ahead}
 use Rattle.paper.specs.Panel.Takes.{moves, isCmr, takesPerms, takesReference, entry, entries}
 use Rattle.paper.specs.Site.Acting.{acts}
@@ -25,11 +23,6 @@ use Rattle.paper.specs.Law.ByTest.{never, and-left, and-no}
 use Rattle.paper.specs.Law.Unique.{GroupIs, OthersOf}
 use Rattle.paper.specs.Demand3.Statement.{Reversible, Move}
 use Rattle.paper.specs.Demand3.Reversible.{Spinning, permOf, not-cmr}
-
--- an answer that is no refusal
-pub data Accepted : Answer → Type 0 where
-  idle : Accepted Idle
-  moved : Accepted Moved
 
 -- from the spins xs, with their labels l, to the spins ys
 pub record Step (c : Call) (p : Choices) (xs : List ℤ) (l : List ℕ) (ys : List ℤ) : Type 0 where

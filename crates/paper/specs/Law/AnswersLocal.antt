@@ -17,11 +17,11 @@ use Rattle.paper.specs.Component.Sizes.{labelOf}
 use Rattle.paper.specs.Move.Moving.{reached, final, Moves}
 use Rattle.paper.specs.Refusal.Rules.{Spins, Exact, Seeded, Permutes}
 use Rattle.paper.specs.Refusal.Kept.{Valid, valid-of, valid-kept}
-use Rattle.paper.specs.Answer.Move.{Seen, Goes, Answers}
+use Rattle.paper.specs.Answer.Move.{Seen, Goes, Answers, Accepted, Accepted.idle, Accepted.moved}
 use Rattle.paper.specs.Law.Unique.{GroupIs, OthersOf, label-lt, spins-equal}
 use Rattle.paper.specs.Law.ByTest.{and-right}
 use Rattle.paper.specs.Demand3.Reversible.{permOf}
-use Rattle.paper.specs.Demand3.Step.{Accepted, Accepted.idle, Accepted.moved, perms-of}
+use Rattle.paper.specs.Demand3.Step.{perms-of}
 use Rattle.paper.specs.Demand3.Turns.{form-moves, labels-ext}
 use Rattle.paper.specs.Law.Local.{Agree, Alike, acts-local, holds-local, grey-local, final-local}
 
@@ -81,7 +81,7 @@ module _ {c : Call} {p : Choices} {b : Buffers} {xs : List ℤ} (s : Instead c b
     acting = λ t q. acts-same (c .seed) (h .below t) ∙ h .acting t (some-there q);
   }
 
-  valid-there : Valid c p (withSpins b xs)
+  pub valid-there : Valid c p (withSpins b xs)
   valid-there = record {
     sound = record {
       ranged = v .sound .ranged;

@@ -10,10 +10,9 @@ use Rattle.paper.specs.Panel.Input.{Call, Choices, Buffers, spin}
 use Rattle.paper.specs.Site.Acting.{acts}
 use Rattle.paper.specs.Move.Moving.{reached, final}
 use Rattle.paper.specs.Refusal.Kept.{valid-of}
-use Rattle.paper.specs.Answer.Move.{Answers}
+use Rattle.paper.specs.Answer.Move.{Answers, Accepted.moved}
 use Rattle.paper.specs.Law.Unique.{OthersOf, spins-equal}
 use Rattle.paper.specs.Law.ByTest.{never, and-no}
-use Rattle.paper.specs.Demand3.Step.{Accepted.moved}
 
 -- CMR is never idle
 pub cmr-never-idle : (c : Call) (p : Choices) (b b′ : Buffers) → c .mode ≡ Cmr → Answers c p b Idle b′ → ⊥

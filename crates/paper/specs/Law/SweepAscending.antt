@@ -12,10 +12,9 @@ use Rattle.paper.specs.declared.Answer.{Answer}
 use Rattle.paper.specs.Panel.Input.{Call, Buffers, pattern, spin, size, system}
 use Rattle.paper.specs.Refusal.Rule.{Kept}
 use Rattle.paper.specs.Refusal.Rules.{Spins}
-use Rattle.paper.specs.Answer.Move.{Answers}
+use Rattle.paper.specs.Answer.Move.{Answers, Accepted}
 use Rattle.paper.specs.Law.Unique.{Placed, place, Outside}
 use Rattle.paper.specs.Law.Cells.{row-of, tabulate, length-tabulate, tabulate-at}
-use Rattle.paper.specs.Demand3.Step.{Accepted}
 use Rattle.paper.specs.Law.Local.{Agree}
 use Rattle.paper.specs.Law.AnswersLocal.{Rows, local}
 use Rattle.paper.specs.Answer.Task.{Sweep, groups, tasks, temperatureOf, taskCall, taskChoices, areas}

@@ -1,11 +1,12 @@
 -- The functions on the types: what each promises, it promises of one result. Assumes nothing.
+use Prim.Native.Nat.{ℕ}
 use mathlib.Core.Path.{_≡_, sym, _∙_}
 use mathlib.Core.Bool.{Bool}
 use lib.Ieee.{Float}
 use Rattle.paper.specs.declared.Mode.{Mode}
 use Rattle.paper.specs.declared.Form.{Form}
 use Rattle.paper.specs.declared.Sampler.{Sampler}
-use Rattle.paper.specs.Panel.Takes.{isPerm, isGperm, isCmr, isDrawn, isSw, isWolff, moves}
+use Rattle.paper.specs.Panel.Takes.{isPerm, isGperm, isCmr, isDrawn, isSw, isWolff, moves, flipsBy, permsBy, greysBy, entries}
 use Rattle.paper.specs.Site.Bonds.{samplerOf}
 
 -- two results that equal one value are equal
@@ -35,3 +36,15 @@ is-wolff-determined f a b = one-value
 
 pub moves-determined : (f : Form) (a b : Bool) → a ≡ moves f → b ≡ moves f → a ≡ b
 moves-determined f a b = one-value
+
+pub takes-flips-determined : (m : Mode) (f : Form) (a b : Bool) → a ≡ flipsBy m f → b ≡ flipsBy m f → a ≡ b
+takes-flips-determined m f a b = one-value
+
+pub takes-perms-determined : (m : Mode) (f : Form) (a b : Bool) → a ≡ permsBy m f → b ≡ permsBy m f → a ≡ b
+takes-perms-determined m f a b = one-value
+
+pub takes-greys-determined : (m : Mode) (f : Form) (a b : Bool) → a ≡ greysBy m f → b ≡ greysBy m f → a ≡ b
+takes-greys-determined m f a b = one-value
+
+pub entries-determined : (f : Form) (n a b : ℕ) → a ≡ entries f n → b ≡ entries f n → a ≡ b
+entries-determined f n a b = one-value

@@ -13,7 +13,7 @@ use Rattle.paper.specs.Answer.Task.{table}
 use Rattle.paper.specs.Answer.Frame.{Spelt, hex, unhex, firstLine, next, bytes, words, twoBytes, HasBack, FrameAnswers}
 use Rattle.paper.specs.Law.ByTest.{every, belowTest, below-by}
 use Rattle.paper.specs.Law.FrameKept.{frame-valid-kept}
-use Rattle.paper.specs.Demand3.Step.{Accepted.moved}
+use Rattle.paper.specs.Answer.Move.{Accepted.moved}
 use Rattle.paper.specs.Rows.Cases.{frame, framePerms, before13, after13, moved13, codes, caseText, caseOut}
 use Rattle.paper.specs.Rows.Worked.{answer13}
 

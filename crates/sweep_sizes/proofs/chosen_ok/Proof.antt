@@ -17,10 +17,10 @@ few d = rw (d .task-count .ensures) (few-tasks (d .before .args .plan) (d .befor
 sites : (d : tie.After-task-count) → d .task-count .result * d .before .args .plan .n ≤ 262144
 sites d = mul-le-mul (few d) (d .before .pre .ranged .lattice .n-high)
 
-short : (e : tie.After-entries-of) → e .entries-of .result ≤ 4096
-short e = rw (e .entries-of .ensures) (few-rows (e .before .before .args .plan) (e .before .before .pre))
+short : (e : tie.After-entries) → e .entries .result ≤ 4096
+short e = rw (e .entries .ensures) (few-rows (e .before .before .args .plan) (e .before .before .pre))
 
-wide : (e : tie.After-entries-of) → e .entries-of .result * e .before .before .args .plan .members ≤ 32768
+wide : (e : tie.After-entries) → e .entries .result * e .before .before .args .plan .members ≤ 32768
 wide e = mul-le-mul (short e) (e .before .before .pre .ranged .size-high)
 
 fits-requires : tie.Need-fits-requires
@@ -44,17 +44,17 @@ fits-requires-6 c κs = search needs
 task-count-requires : tie.Need-task-count-requires
 task-count-requires c κs = search needs
 
-entries-of-requires : tie.Need-entries-of-requires
-entries-of-requires c κs = search needs
+entries-requires : tie.Need-entries-requires
+entries-requires c κs = search needs
 
-greys-by-requires : tie.Need-greys-by-requires
-greys-by-requires c κs = search needs
+takes-greys-requires : tie.Need-takes-greys-requires
+takes-greys-requires c κs = search needs
 
-flips-by-requires : tie.Need-flips-by-requires
-flips-by-requires c κs = search needs
+takes-flips-requires : tie.Need-takes-flips-requires
+takes-flips-requires c κs = search needs
 
-perms-by-requires : tie.Need-perms-by-requires
-perms-by-requires c κs = search needs
+takes-perms-requires : tie.Need-takes-perms-requires
+takes-perms-requires c κs = search needs
 
 is-gperm-requires : tie.Need-is-gperm-requires
 is-gperm-requires c κs = search needs
@@ -88,16 +88,16 @@ returns c =
     let q = d .before .args .plan in
     let l = d .before .args .l in
     let k = d .task-count .ensures in
-    let rows = e .entries-of .ensures in
-    let grey = g .greys-by .ensures in
+    let rows = e .entries .ensures in
+    let grey = g .takes-greys .ensures in
     same (Chosen q l)
     (λ h. record { flips = h .0 .0 .0 .0 .0; perms = h .0 .0 .0 .0 .1; greys = h .0 .0 .0 .1; greyed = h .0 .0 .1; references = h .0 .1; seeds = h .1 })
     (λ z. (((((z .flips, z .perms), z .greys), z .greyed), z .references), z .seeds))
     (both (both (both (both (both
     (said (p .before .fits2 .result) (When (flipsBy (q .mode) (q .form)) (l .flips ≡ tasksOf q * q .n))
-    (rw (p .before .before .flips-by .ensures, k) at (p .before .fits2 .ensures)))
+    (rw (p .before .before .takes-flips .ensures, k) at (p .before .fits2 .ensures)))
     (said (f4 .before .fits3 .result) (When (permsBy (q .mode) (q .form)) (l .perms ≡ tasksOf q * (entries (q .form) (q .n) * q .members)))
-    (rw (p .perms-by .ensures, k, rows) at (f4 .before .fits3 .ensures))))
+    (rw (p .takes-perms .ensures, k, rows) at (f4 .before .fits3 .ensures))))
     (said (f4 .fits4 .result) (When (greysBy (q .mode) (q .form)) (l .greys ≡ tasksOf q * entries (q .form) (q .n)))
     (rw (grey, k, rows) at (f4 .fits4 .ensures))))
     (said (f6 .before .before .fits5 .result) (When (greysBy (q .mode) (q .form)) (l .greyed ≡ tasksOf q * q .n))
@@ -111,12 +111,12 @@ chosen-ok-spec =
     tie.close
     (tie.spec
     task-count-requires
-    entries-of-requires
-    greys-by-requires
-    flips-by-requires
+    entries-requires
+    takes-greys-requires
+    takes-flips-requires
     mul-fits
     fits-requires
-    perms-by-requires
+    takes-perms-requires
     mul-fits-2
     mul-fits-3
     fits-requires-2

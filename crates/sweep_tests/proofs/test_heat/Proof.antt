@@ -17,7 +17,7 @@ abbrev S : tie.Else1 → tie.Start
 S e = D e .before .before .before
 
 k6 : (e : tie.Else1) → let a = S e .args in When (drawsBonds (a .plan .mode)) (SmallCouplings (now (a .couplings)))
-k6 e = rw (D e .is-drawn .ensures) at (passed (e .before .couplings-ok .result) (e .if1 .left) (e .before .couplings-ok .ensures))
+k6 e = rw (D e .is-drawn .ensures) at (passed (e .before .couplings-fit .result) (e .if1 .left) (e .before .couplings-fit .ensures))
 
 k7 : (e : tie.Else2) → let a = S (e .before .before) .args in When (drawsBonds (a .plan .mode)) (AllWarm (a .plan .t) (now (a .temperatures)))
 k7 e =
@@ -28,12 +28,12 @@ k7 e =
 is-drawn-requires : tie.Need-is-drawn-requires
 is-drawn-requires c κs = search needs
 
-couplings-ok-requires : tie.Need-couplings-ok-requires
-couplings-ok-requires c κs = search needs
+couplings-fit-requires : tie.Need-couplings-fit-requires
+couplings-fit-requires c κs = search needs
 
 returns : tie.Need-returns
 returns c =
-    let large = refused (c .before .couplings-ok .result) (c .if1 .taken) (c .before .couplings-ok .ensures) in
+    let large = refused (c .before .couplings-fit .result) (c .if1 .taken) (c .before .couplings-fit .ensures) in
     inl ((λ w. large (rw (c .before .before .is-drawn .ensures) w)), refl)
 
 temperatures-ok-requires : tie.Need-temperatures-ok-requires
@@ -63,4 +63,4 @@ returns-4 c =
 
 pub test-heat-spec : {M : Type 1} → statement M
 test-heat-spec =
-    tie.close (tie.spec is-drawn-requires couplings-ok-requires returns temperatures-ok-requires returns-2 bytes-at-most-requires returns-3 returns-4)
+    tie.close (tie.spec is-drawn-requires couplings-fit-requires returns temperatures-ok-requires returns-2 bytes-at-most-requires returns-3 returns-4)

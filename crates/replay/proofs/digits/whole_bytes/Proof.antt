@@ -1,0 +1,16 @@
+-- `replay::digits::whole_bytes` answers no more than the list has. Assumes nothing.
+use mathlib.Core.Path.{sym}
+use native.Mathlib.Omega.{arith}
+use lib.Seq.{length-take-le}
+use borrow.Author.Needs.{needs}
+use Rattle.replay.proofs.digits.whole_bytes.Statement.{statement}
+use Rattle.replay.proofs.digits.whole_bytes.Tie as tie
+
+returns : tie.Need-returns
+returns c = (omega arith, sym (length-take-le _ _ (omega arith)))
+
+returns-2 : tie.Need-returns-2
+returns-2 c = (omega arith, sym (length-take-le _ _ (omega arith)))
+
+pub whole-bytes-spec : {M : Type 1} → statement M
+whole-bytes-spec = tie.close (tie.spec returns returns-2)

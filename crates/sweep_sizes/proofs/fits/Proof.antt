@@ -1,9 +1,0 @@
-use Rattle.lattice.specs.Telling.{implies, test-eq, test-is}
-use Rattle.sweep_sizes.proofs.fits.Statement.{statement}
-use Rattle.sweep_sizes.proofs.fits.Tie as tie
-
-returns : tie.Need-returns
-returns c = let a = c .args in implies (test-is (a .taken)) (test-eq (a .len) (a .want)) .says
-
-pub fits-spec : {M : Type 1} → statement M
-fits-spec = tie.close (tie.spec returns)

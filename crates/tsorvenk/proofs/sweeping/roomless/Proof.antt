@@ -1,0 +1,19 @@
+-- `roomless` meets its contract. Assumes nothing.
+use borrow.Author.Needs.{needs}
+use mathlib.Core.Path.{refl}
+use mathlib.Core.Logic.{inl, inr}
+use Rattle.paper.specs.Component.Marks.{told, denied}
+use Rattle.tsorvenk.proofs.sweeping.roomless.Statement.{statement}
+use Rattle.tsorvenk.proofs.sweeping.roomless.Tie as tie
+
+planned-requires : tie.Need-planned-requires
+planned-requires c κs = search needs
+
+returns : tie.Need-returns
+returns c = inr (told (c .if1 .taken) (c .before .planned .ensures), refl)
+
+returns-2 : tie.Need-returns-2
+returns-2 c = inl (denied (c .if1 .left) (c .before .planned .ensures), refl)
+
+pub roomless-spec : {M : Type 1} → statement M
+roomless-spec = tie.close (tie.spec planned-requires returns returns-2)

@@ -1,0 +1,116 @@
+-- `tsorvenk_sweep` meets its contract: a code that is none is refused, without room for the counts test 1 decides, and any other
+-- call is answered by `overlap_update`. Assumes nothing.
+use borrow.Author.Needs.{needs}
+use native.Mathlib.Omega.{arith}
+use denote.Ref.{now}
+use Rattle.paper.specs.declared.Mode.{Mode}
+use Rattle.paper.specs.declared.Form.{Form}
+use Rattle.paper.specs.Panel.Input.{Buffers}
+use Rattle.paper.specs.Answer.Task.{Sweep}
+use Rattle.tasks.specs.Plan.{lent}
+use Rattle.sweep.specs.Updating.{sweepFor}
+use Rattle.tsorvenk.specs.Number.{Coded, modeOf, formOf}
+use Rattle.tsorvenk.proofs.Swept.{same-sweep, uncoded-sweep, roomless-sweep, coded-sweep}
+use Rattle.tsorvenk.proofs.sweeping.tsorvenk_sweep.Statement.{statement}
+use Rattle.tsorvenk.proofs.sweeping.tsorvenk_sweep.Tie as tie
+
+abbrev S : tie.After-slice-known5 → tie.Start
+S k = k .before .before .before .before .before .before .before .before .before .before .before .before .before .before .before .before
+
+-- the codes are known from here on
+abbrev F : tie.After-form-of → tie.Start
+F f = S (f .before .before .before .before)
+
+-- the sweep of a mode and a form, and what is lent
+abbrev W : tie.Start → Mode → Form → Sweep
+W k m f =
+    let a = k .args in
+    sweepFor m f (a .n) (a .d) (a .s) (a .t) (a .r) (a .members) (now (a .fwd)) (now (a .bwd)) (now (a .couplings)) (now (a .order)) (now (a .masks))
+    (now (a .temperatures)) (now (a .cuts)) (now (a .references)) (now (a .seeds)) (now (a .flips)) (now (a .perms)) (now (a .greys))
+
+abbrev B : tie.Start → Buffers
+B k = let a = k .args in lent (now (a .spins)) (now (a .labels)) (now (a .grey-labels)) (now (a .counts)) (now (a .sizes))
+
+abbrev made : tie.After-form-of → Sweep
+made f = W (F f) (f .before .mode-of .result) (f .form-of .result)
+
+abbrev meant : tie.After-form-of → Sweep
+meant f = W (F f) (modeOf (F f .args .mode)) (formOf (F f .args .form))
+
+known : (f : tie.After-form-of) → Coded (F f .args .mode) (F f .args .form)
+known f = record { mode-known = f .before .before .before .if1 .left; form-known = f .before .before .if2 .left }
+
+returns : tie.Need-returns
+returns c = uncoded-sweep (λ k. omega (arith, c .if1 .taken))
+
+returns-2 : tie.Need-returns-2
+returns-2 c = uncoded-sweep (λ k. omega (arith, c .if2 .taken))
+
+mode-of-requires : tie.Need-mode-of-requires
+mode-of-requires c κs = search needs
+
+form-of-requires : tie.Need-form-of-requires
+form-of-requires c κs = search needs
+
+roomless-requires : tie.Need-roomless-requires
+roomless-requires c κs = search needs
+
+returns-3 : tie.Need-returns-3
+returns-3 c =
+    let e = c .before in
+    let f = e .before in
+    roomless-sweep (made f) (meant f) (B (F f)) (now (F f .args .tally)) (c .roomless .result) (known f)
+    (same-sweep (f .before .mode-of .ensures) (f .form-of .ensures)) (e .if3 .taken) (c .roomless .ensures)
+
+overlap-update-requires : tie.Need-overlap-update-requires
+overlap-update-requires c κs = search needs
+
+tell-requires : tie.Need-tell-requires
+tell-requires c κs = search needs
+
+same-length : tie.Need-same-length
+same-length c = search needs
+
+same-length-2 : tie.Need-same-length-2
+same-length-2 c = search needs
+
+same-length-3 : tie.Need-same-length-3
+same-length-3 c = search needs
+
+same-length-4 : tie.Need-same-length-4
+same-length-4 c = search needs
+
+same-length-5 : tie.Need-same-length-5
+same-length-5 c = search needs
+
+same-length-6 : tie.Need-same-length-6
+same-length-6 c = search needs
+
+returns-4 : tie.Need-returns-4
+returns-4 c =
+    let t = c .before .before in
+    let o = t .before .before .before .before .before .before .before .before .before .before .before in
+    let e = o .before .before .before .before .before .before in
+    let f = e .before in
+    coded-sweep (made f) (meant f) (B (F f)) (now (F f .args .tally)) (t .tell .result) (o .overlap-update .result) _ _ (known f)
+    (same-sweep (f .before .mode-of .ensures) (f .form-of .ensures)) (e .if3 .left) (o .overlap-update .ensures) (t .tell .ensures)
+
+pub tsorvenk-sweep-spec : {M : Type 1} → statement M
+tsorvenk-sweep-spec =
+    tie.close
+    (tie.spec
+    returns
+    returns-2
+    mode-of-requires
+    form-of-requires
+    roomless-requires
+    returns-3
+    overlap-update-requires
+    tell-requires
+    same-length
+    same-length-2
+    same-length-3
+    same-length-4
+    same-length-5
+    same-length-6
+    returns-4)

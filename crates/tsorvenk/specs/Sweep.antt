@@ -1,0 +1,70 @@
+-- What `tsorvenk_sweep` answers. Assumes nothing.
+use Prim.Native.Nat.{ℕ, zero, suc}
+use mathlib.Core.Path.{_≡_}
+use mathlib.Core.Logic.{_⊎_}
+use mathlib.Core.List.{List, [], _∷_}
+use lib.ListN.{length}
+use Rattle.paper.specs.declared.SweepAnswer.{SweepAnswer}
+use Rattle.paper.specs.declared.SweepAnswer.the-variants.{Fault, Swept}
+use Rattle.paper.specs.Panel.Input.{Buffers}
+use Rattle.paper.specs.Refusal.Rule.{Rule, rule, Broken}
+use Rattle.paper.specs.Answer.Number.{sweepNumber}
+use Rattle.paper.specs.Answer.Task.{Sweep}
+use Rattle.paper.specs.Answer.Sweep.{SweepRanged, sweepRules, SweepAnswers}
+use Rattle.tasks.specs.declared.Plan.{Plan}
+use Rattle.tasks.specs.Plan.{Planned}
+use Rattle.tsorvenk.specs.Number.{Coded}
+
+-- what a sweep is lent to write to: the paper's buffers, and one for its two counts
+pub record Tallied : Type 0 where
+  pub buffers : Buffers
+  pub tally : List ℕ
+
+abbrev pub tallied : Buffers → List ℕ → Tallied
+tallied b ts = record { buffers = b; tally = ts }
+
+-- the sweep's rules, with the buffer of two counts as one more of test 2
+abbrev pub tallyRules : Sweep → Tallied → List Rule
+tallyRules w l = rule 1 (SweepRanged w) ∷ rule 2 (length (l .tally) ≡ 2) ∷ sweepRules w (l .buffers)
+
+-- 0: swept, and the counts are written, idle tasks first
+pub record Sweeping (w : Sweep) (l l′ : Tallied) : Type 0 where
+  pub room : length (l .tally) ≡ 2
+  pub idle : ℕ
+  pub moved : ℕ
+  pub counted : l′ .tally ≡ idle ∷ moved ∷ []
+  pub answers : SweepAnswers w (l .buffers) (Swept idle moved) (l′ .buffers)
+
+-- refused with the number r: nothing is written
+pub record Unswept (w : Sweep) (l : Tallied) (r : ℕ) (l′ : Tallied) : Type 0 where
+  pub why : Broken (tallyRules w l) r
+  pub kept : l′ ≡ l
+
+abbrev pub TallyAnswers : Sweep → Tallied → ℕ → Tallied → Type 0
+TallyAnswers w l zero l′ = Sweeping w l l′
+TallyAnswers w l (suc r) l′ = Unswept w l (suc r) l′
+
+-- a code that is none is refused with 1
+pub record Uncoded (r : ℕ) (l l′ : Tallied) : Type 0 where
+  pub number : r ≡ 1
+  pub kept : l′ ≡ l
+
+-- the number r answers the sweep w, which has the mode and form of these codes
+pub record SweepNumbers (mode form : ℕ) (w : Sweep) (l : Tallied) (r : ℕ) (l′ : Tallied) : Type 0 where
+  pub known : Coded mode form → TallyAnswers w l r l′
+  pub unknown : (Coded mode form → ⊥) → Uncoded r l l′
+
+-- ---- what the parts of `tsorvenk_sweep` say
+
+-- without room for the counts test 1 decides
+abbrev pub Roomless : Plan → ℕ → Type 0
+Roomless q r = ((Planned q → ⊥) × (r ≡ 1)) ⊎ (Planned q × (r ≡ 2))
+
+-- an answer as a number, and the counts of a sweep that was swept
+abbrev pub countsOf : SweepAnswer → List ℕ → List ℕ
+countsOf (Fault r) ts = ts
+countsOf (Swept idle moved) ts = idle ∷ moved ∷ []
+
+pub record Told (a : SweepAnswer) (ts : List ℕ) (r : ℕ) (ts′ : List ℕ) : Type 0 where
+  pub number : r ≡ sweepNumber a
+  pub counts : ts′ ≡ countsOf a ts

@@ -1,0 +1,121 @@
+/* A small panel through the C interface: a torus of 4 by 4 sites, four systems at two temperatures, one sweep of each
+ * mode in the all-clusters form, and a sweep that is refused. panel.rs is the same program in Rust; both print panel.out. */
+#include "tsorvenk.h"
+#include <stdio.h>
+#include <string.h>
+
+enum { SIDE = 4, N = SIDE * SIDE, D = 2, S = 4, T = 2, R = 2, MEMBERS = 2, TASKS = T * (R / MEMBERS) };
+
+static const char *const NAMES[] = {"houd", "pair", "perm", "gperm", "jorg", "cmr"};
+static const float TEMPERATURES[T] = {1.0f, 2.5f};
+
+/* minus the logarithms of eight numbers spread over (0, 1] */
+static const float CUTS[8] = {2.7726f, 1.6740f, 1.1632f, 0.8267f, 0.5754f, 0.3747f, 0.2076f, 0.0645f};
+
+/* what a sweep writes */
+struct outputs {
+    int8_t spins[S * N];
+    uint32_t labels[TASKS * N], grey_labels[TASKS * N], counts[TASKS * (N + 1)], sizes[TASKS * 4], tally[2];
+};
+
+/* the draws of one sweep, for every mode */
+struct choices {
+    float cuts[TASKS * N * D];
+    uint32_t references[TASKS];
+    uint8_t flips[TASKS * N], perms[TASKS * N * MEMBERS], greys[TASKS * N];
+};
+
+static uint32_t fwd[N * D], bwd[N * D];
+static int32_t couplings[N * D];
+static const uint32_t order[S] = {0, 1, 2, 3};
+static const uint8_t masks[T] = {0, 0};
+
+/* a number below 2^bits: any generator does, since the library draws nothing itself */
+static uint32_t draw(uint32_t *state, int bits) {
+    *state = *state * 1664525u + 1013904223u;
+    return *state >> (32 - bits);
+}
+
+static void make_panel(uint32_t *state, struct outputs *o) {
+    for (uint32_t i = 0; i < N; i++) {
+        uint32_t x = i % SIDE, y = i / SIDE;
+        fwd[i * D] = y * SIDE + (x + 1) % SIDE;
+        fwd[i * D + 1] = (y + 1) % SIDE * SIDE + x;
+        bwd[i * D] = y * SIDE + (x + SIDE - 1) % SIDE;
+        bwd[i * D + 1] = (y + SIDE - 1) % SIDE * SIDE + x;
+    }
+    for (int k = 0; k < N * D; k++)
+        couplings[k] = draw(state, 1) ? 1 : -1;
+    memset(o, 0, sizeof *o);
+    for (int k = 0; k < S * N; k++)
+        o->spins[k] = draw(state, 1) ? 1 : -1;
+}
+
+static void make_choices(uint32_t *state, struct choices *c) {
+    for (int k = 0; k < TASKS * N * D; k++)
+        c->cuts[k] = CUTS[draw(state, 3)];
+    for (int k = 0; k < TASKS; k++)
+        c->references[k] = draw(state, 4);
+    for (int k = 0; k < TASKS * N; k++) {
+        c->flips[k] = draw(state, 1);
+        c->perms[k * MEMBERS] = draw(state, 1);
+        c->perms[k * MEMBERS + 1] = 1 - c->perms[k * MEMBERS];
+        c->greys[k] = draw(state, 2);
+    }
+}
+
+/* the seeds are for the one-cluster form: here none is lent, and any pointer that is not null will do */
+static uint8_t sweep(uint8_t mode, const struct choices *c, struct outputs *o) {
+    return tsorvenk_sweep(mode, TSORVENK_SW, N, D, S, T, R, MEMBERS,
+        o->spins, S * N, fwd, N * D, bwd, N * D, couplings, N * D, order, S, masks, T, TEMPERATURES, T,
+        c->cuts, TASKS * N * D, c->references, TASKS, c->references, 0,
+        c->flips, TASKS * N, c->perms, TASKS * N * MEMBERS, c->greys, TASKS * N,
+        o->labels, TASKS * N, o->grey_labels, TASKS * N, o->counts, TASKS * (N + 1), o->sizes, TASKS * 4, o->tally, 2);
+}
+
+static void print_energies(const struct outputs *o) {
+    printf("  energies");
+    for (size_t k = 0; k < S; k++) {
+        int64_t energy = 0;
+        uint8_t code = tsorvenk_energy(N, D, S, o->spins, S * N, fwd, N * D, bwd, N * D, couplings, N * D, k, &energy, 1);
+        if (code)
+            printf(" refused with %d", code);
+        else
+            printf(" %4lld", (long long)energy);
+    }
+    printf("\n");
+}
+
+static void print_sweep(uint8_t mode, uint8_t code, const struct outputs *o) {
+    if (code) {
+        printf("%s: refused with %d\n", NAMES[mode], code);
+        return;
+    }
+    printf("%s: %u idle, %u moved; largest components", NAMES[mode], (unsigned)o->tally[0], (unsigned)o->tally[1]);
+    for (int k = 0; k < TASKS; k++)
+        printf("%s %u %u %u %u", k ? "," : "", (unsigned)o->sizes[k * 4], (unsigned)o->sizes[k * 4 + 1],
+            (unsigned)o->sizes[k * 4 + 2], (unsigned)o->sizes[k * 4 + 3]);
+    printf("\n");
+}
+
+int main(void) {
+    uint32_t state = 1;
+    struct outputs o, before;
+    struct choices c;
+    make_panel(&state, &o);
+    printf("start\n");
+    print_energies(&o);
+    for (uint8_t mode = TSORVENK_HOUD; mode <= TSORVENK_CMR; mode++) {
+        make_choices(&state, &c);
+        print_sweep(mode, sweep(mode, &c, &o), &o);
+        print_energies(&o);
+    }
+    /* a fault in the last task: the first task does not move either */
+    make_choices(&state, &c);
+    c.flips[TASKS * N - 1] = 2;
+    before = o;
+    print_sweep(TSORVENK_PAIR, sweep(TSORVENK_PAIR, &c, &o), &o);
+    printf("  %s\n", memcmp(&before, &o, sizeof o) ? "buffers were written" : "every buffer is as it was");
+    print_energies(&o);
+    return 0;
+}

@@ -1,0 +1,198 @@
+//! A small panel through the safe crate: a torus of 4 by 4 sites, four systems at two temperatures, one sweep of each mode
+//! in the all-clusters form, and a sweep that is refused. panel.c is the same program in C; both print panel.out.
+use tsorvenk::{Form, Meter, MeterAnswer, Mode, Sweep, SweepAnswer};
+
+const SIDE: usize = 4;
+const N: usize = SIDE * SIDE;
+const D: usize = 2;
+const S: usize = 4;
+const T: usize = 2;
+const R: usize = 2;
+const MEMBERS: usize = 2;
+const TASKS: usize = T * (R / MEMBERS);
+
+const TEMPERATURES: [f32; T] = [1.0, 2.5];
+
+/// Minus the logarithms of eight numbers spread over (0, 1].
+const CUTS: [f32; 8] = [
+    2.7726, 1.6740, 1.1632, 0.8267, 0.5754, 0.3747, 0.2076, 0.0645,
+];
+
+/// What a sweep writes.
+#[derive(Clone, PartialEq)]
+struct Outputs {
+    spins: [i8; S * N],
+    labels: [u32; TASKS * N],
+    grey_labels: [u32; TASKS * N],
+    counts: [u32; TASKS * (N + 1)],
+    sizes: [u32; TASKS * 4],
+}
+
+/// The draws of one sweep, for every mode.
+struct Choices {
+    cuts: [f32; TASKS * N * D],
+    references: [u32; TASKS],
+    flips: [u8; TASKS * N],
+    perms: [u8; TASKS * N * MEMBERS],
+    greys: [u8; TASKS * N],
+}
+
+struct Panel {
+    fwd: [u32; N * D],
+    bwd: [u32; N * D],
+    couplings: [i32; N * D],
+}
+
+/// A number below 2^bits: any generator does, since the library draws nothing itself.
+fn draw(state: &mut u32, bits: u32) -> u32 {
+    *state = state.wrapping_mul(1664525).wrapping_add(1013904223);
+    *state >> (32 - bits)
+}
+
+fn sign(state: &mut u32) -> i8 {
+    if draw(state, 1) == 1 {
+        1
+    } else {
+        -1
+    }
+}
+
+fn make_panel(state: &mut u32) -> (Panel, Outputs) {
+    let mut panel = Panel {
+        fwd: [0; N * D],
+        bwd: [0; N * D],
+        couplings: [0; N * D],
+    };
+    for i in 0..N {
+        let (x, y) = (i % SIDE, i / SIDE);
+        panel.fwd[i * D] = (y * SIDE + (x + 1) % SIDE) as u32;
+        panel.fwd[i * D + 1] = ((y + 1) % SIDE * SIDE + x) as u32;
+        panel.bwd[i * D] = (y * SIDE + (x + SIDE - 1) % SIDE) as u32;
+        panel.bwd[i * D + 1] = ((y + SIDE - 1) % SIDE * SIDE + x) as u32;
+    }
+    panel.couplings.fill_with(|| sign(state).into());
+    let mut outputs = Outputs {
+        spins: [0; S * N],
+        labels: [0; TASKS * N],
+        grey_labels: [0; TASKS * N],
+        counts: [0; TASKS * (N + 1)],
+        sizes: [0; TASKS * 4],
+    };
+    outputs.spins.fill_with(|| sign(state));
+    (panel, outputs)
+}
+
+fn make_choices(state: &mut u32) -> Choices {
+    let mut c = Choices {
+        cuts: [0.0; TASKS * N * D],
+        references: [0; TASKS],
+        flips: [0; TASKS * N],
+        perms: [0; TASKS * N * MEMBERS],
+        greys: [0; TASKS * N],
+    };
+    c.cuts.fill_with(|| CUTS[draw(state, 3) as usize]);
+    c.references.fill_with(|| draw(state, 4));
+    for k in 0..TASKS * N {
+        c.flips[k] = draw(state, 1) as u8;
+        c.perms[k * MEMBERS] = draw(state, 1) as u8;
+        c.perms[k * MEMBERS + 1] = 1 - c.perms[k * MEMBERS];
+        c.greys[k] = draw(state, 2) as u8;
+    }
+    c
+}
+
+/// The seeds are for the one-cluster form: here none is lent.
+fn sweep(mode: Mode, panel: &Panel, c: &Choices, o: &mut Outputs) -> SweepAnswer {
+    tsorvenk::sweep(Sweep {
+        mode,
+        form: Form::Sw,
+        n: N,
+        d: D,
+        s: S,
+        t: T,
+        r: R,
+        members: MEMBERS,
+        spins: &mut o.spins,
+        fwd: &panel.fwd,
+        bwd: &panel.bwd,
+        couplings: &panel.couplings,
+        order: &[0, 1, 2, 3],
+        masks: &[0; T],
+        temperatures: &TEMPERATURES,
+        cuts: &c.cuts,
+        references: &c.references,
+        seeds: &[],
+        flips: &c.flips,
+        perms: &c.perms,
+        greys: &c.greys,
+        labels: &mut o.labels,
+        grey_labels: &mut o.grey_labels,
+        counts: &mut o.counts,
+        sizes: &mut o.sizes,
+    })
+}
+
+fn print_energies(panel: &Panel, spins: &[i8]) {
+    print!("  energies");
+    for system in 0..S {
+        match tsorvenk::energy(Meter {
+            n: N,
+            d: D,
+            s: S,
+            spins,
+            fwd: &panel.fwd,
+            bwd: &panel.bwd,
+            couplings: &panel.couplings,
+            system,
+        }) {
+            MeterAnswer::Energy(energy) => print!(" {energy:4}"),
+            MeterAnswer::Refused(number) => print!(" refused with {number}"),
+        }
+    }
+    println!();
+}
+
+fn print_sweep(mode: Mode, answer: SweepAnswer, sizes: &[u32]) {
+    match answer {
+        SweepAnswer::Refused(number) => println!("{}: refused with {number}", mode.name()),
+        SweepAnswer::Swept { idle, moved } => {
+            let largest: Vec<String> = sizes
+                .chunks(4)
+                .map(|z| format!(" {} {} {} {}", z[0], z[1], z[2], z[3]))
+                .collect();
+            println!(
+                "{}: {idle} idle, {moved} moved; largest components{}",
+                mode.name(),
+                largest.join(",")
+            );
+        }
+    }
+}
+
+fn main() {
+    let mut state = 1;
+    let (panel, mut o) = make_panel(&mut state);
+    println!("start");
+    print_energies(&panel, &o.spins);
+    for mode in Mode::ALL {
+        let c = make_choices(&mut state);
+        let answer = sweep(mode, &panel, &c, &mut o);
+        print_sweep(mode, answer, &o.sizes);
+        print_energies(&panel, &o.spins);
+    }
+    // A fault in the last task: the first task does not move either.
+    let mut c = make_choices(&mut state);
+    c.flips[TASKS * N - 1] = 2;
+    let before = o.clone();
+    let answer = sweep(Mode::Pair, &panel, &c, &mut o);
+    print_sweep(Mode::Pair, answer, &o.sizes);
+    println!(
+        "  {}",
+        if before == o {
+            "every buffer is as it was"
+        } else {
+            "buffers were written"
+        }
+    );
+    print_energies(&panel, &o.spins);
+}

@@ -1,0 +1,163 @@
+/* Replica-overlap cluster moves: the library libtsorvenk.a.
+ *
+ * For every input each function is proved to give one number and one content of every lent buffer: the promises are in
+ * crates/tsorvenk/specs, over the definitions in crates/paper/specs. The back end that compiled the archive is trusted.
+ *
+ * Slices. A buffer is lent as a pointer and its number of elements. The pointer must be valid for that many elements,
+ * for writing too where it is not const, and aligned for its type. Buffers must not overlap; only two that are both const
+ * may. For a length of 0 give a pointer that is not null and is aligned; nothing is read or written through it. Nothing
+ * else is assumed: lengths, numbers and contents may be anything, and what is wrong is refused. No function keeps a
+ * pointer, allocates, or has state between calls; calls on different buffers may run at the same time.
+ *
+ * A buffer that a mode and form do not take is ignored, at any length and with any content.
+ *
+ * Refusals, tested in this order. A refusal returns its number, and every buffer keeps its bytes:
+ *
+ *   1  n not 1 to 4096, d not 1 to 4, s not 1 to 64, group size not 2 to 8, or not 2 in CMR; a mode above 5, a form
+ *      above 2; in a sweep t * r not s, or members above r
+ *   2  a buffer's length is not the exact one
+ *   3  a spin of any system is not +1 or -1
+ *   4  a neighbour is n or more, or fwd and bwd are not inverse
+ *   5  a system of the group, or the meter's, is s or more; one stands twice in the group; the order is no permutation
+ *   6  a coupling's size is above 1,000,000
+ *   7  a temperature is not from 1/1024 to 1,048,576, or not a number
+ *   8  a cut is below 0, infinite or not a number
+ *   9  a permutation, flip, grey number, reference site or mask byte is out of its set
+ *  10  a seed is n or more; or, outside CMR, some site acts and the seed does not
+ *
+ * A test is made only of what the mode and form take.
+ *
+ * Modes: 0 houd, 1 pair, 2 perm, 3 gperm, 4 Joerg, 5 CMR.
+ * Forms: 0 all clusters (SW), 1 one cluster (Wolff), 2 observe.
+ */
+#ifndef TSORVENK_H
+#define TSORVENK_H
+
+#include <stddef.h>
+#include <stdint.h>
+
+#ifdef __cplusplus
+extern "C" {
+#endif
+
+enum { TSORVENK_HOUD, TSORVENK_PAIR, TSORVENK_PERM, TSORVENK_GPERM, TSORVENK_JORG, TSORVENK_CMR };
+enum { TSORVENK_SW, TSORVENK_WOLFF, TSORVENK_OBSERVE };
+
+/* Numbers that are no refusals: of a step with no acting site, and of frames for whose answer there is no room. */
+enum { TSORVENK_IDLE = 64, TSORVENK_NO_ROOM = 65 };
+
+/* One move or observation of one group, of N = group_len systems.
+ *
+ *   n, d, s      sites, directions, systems
+ *   spins        s * n, system by system: the spin of site i in system k is at k * n + i, +1 or -1
+ *   fwd, bwd     n * d: entry i * d + e is the neighbour of site i in direction e, forward and backward
+ *   couplings    n * d, at the bond's entry                        Joerg, CMR, in every form
+ *   group        N systems, 2 to 8 (CMR: 2); they differ, and their order matters
+ *   temperature                                                    Joerg, CMR, in every form
+ *   cuts         n * d, at the bond's entry; a bond is drawn where scale * strength is above its cut
+ *                                                                  Joerg, CMR, in every form
+ *   reference    a site                                            gperm, in every form
+ *   seed         a site                                            Wolff
+ *   flips        n, each 0 or 1                                    SW of houd, pair, Joerg, CMR
+ *   perms        SW: n rows of N, Wolff: one row of N that is not the identity; each row a permutation of 0 to N - 1:
+ *                replica k gets the old spin of replica p(k)       SW and Wolff of perm, gperm
+ *   greys        SW: n, each 0 to 3; Wolff: one, 1 to 3; bit 0 flips the first replica, bit 1 the second
+ *                                                                  SW and Wolff of CMR
+ *
+ * In SW the entry at a component's label is the component's choice, and entries that no component uses are tested too.
+ * Written, unless refused:
+ *
+ *   labels       n: the smallest site of each site's component (CMR: blue components)
+ *   grey_labels  n: the same of grey components                    SW and Wolff of CMR
+ *   counts       n + 1: count k is the number of components of size k, count 0 is 0 (CMR: blue)
+ *   sizes        4: the largest sizes in falling order, filled with 0 (CMR: blue)
+ *   spins        the group's rows after the move; idle and observe leave them as they are
+ *
+ * Returns 0 if some site acts (CMR: always), TSORVENK_IDLE if none does, else the refusal 1 to 10. */
+uint8_t tsorvenk_step(uint8_t mode, uint8_t form, size_t n, size_t d, size_t s,
+    int8_t *spins, size_t spins_len, const uint32_t *fwd, size_t fwd_len, const uint32_t *bwd, size_t bwd_len,
+    const int32_t *couplings, size_t couplings_len, const uint32_t *group, size_t group_len,
+    float temperature, const float *cuts, size_t cuts_len, size_t reference, size_t seed,
+    const uint8_t *flips, size_t flips_len, const uint8_t *perms, size_t perms_len, const uint8_t *greys, size_t greys_len,
+    uint32_t *labels, size_t labels_len, uint32_t *grey_labels, size_t grey_labels_len,
+    uint32_t *counts, size_t counts_len, uint32_t *sizes, size_t sizes_len);
+
+/* A sweep over t temperatures of r replicas, t * r = s, in groups of N = members systems.
+ *
+ * Temperature j owns the order's entries from j * r on; its groups are runs of N, and what is left over does not move. Task
+ * number j * (r / N) + g, rounded down, is the group g of temperature j. There are K = t * (r / N) tasks, those of masked
+ * temperatures too. Each task is the step that it would be alone; its areas in the buffers are at its number:
+ *
+ *   spins, fwd, bwd, couplings                                     as in a step
+ *   order         s: a permutation of the systems
+ *   masks         t, each 0 or 1: 1 masks its temperature, whose tasks' areas are neither read nor written
+ *   temperatures  t                                                Joerg, CMR, in every form
+ *   cuts          K * n * d                                        Joerg, CMR, in every form
+ *   references    K                                                gperm, in every form
+ *   seeds         K                                                Wolff
+ *   flips         K * n                                            SW of houd, pair, Joerg, CMR
+ *   perms         SW: K * n * N, Wolff: K * N                      SW and Wolff of perm, gperm
+ *   greys         SW: K * n, Wolff: K                              SW and Wolff of CMR
+ *
+ * Written, unless refused:
+ *
+ *   labels        K * n
+ *   grey_labels   K * n                                            SW and Wolff of CMR
+ *   counts        K * (n + 1)
+ *   sizes         K * 4
+ *   tally         2: how many unmasked tasks were idle, and how many were not, even if every choice was 0
+ *   spins         the rows of the groups of unmasked tasks
+ *
+ * Tests 1 to 7 and the mask bytes (9) are made over the whole sweep, masked temperatures too, then 8, 9 and 10 of each
+ * unmasked task in ascending order; all before anything is written.
+ *
+ * Returns 0 if swept, else the refusal 1 to 10. */
+uint8_t tsorvenk_sweep(uint8_t mode, uint8_t form, size_t n, size_t d, size_t s, size_t t, size_t r, size_t members,
+    int8_t *spins, size_t spins_len, const uint32_t *fwd, size_t fwd_len, const uint32_t *bwd, size_t bwd_len,
+    const int32_t *couplings, size_t couplings_len, const uint32_t *order, size_t order_len,
+    const uint8_t *masks, size_t masks_len, const float *temperatures, size_t temperatures_len,
+    const float *cuts, size_t cuts_len, const uint32_t *references, size_t references_len,
+    const uint32_t *seeds, size_t seeds_len,
+    const uint8_t *flips, size_t flips_len, const uint8_t *perms, size_t perms_len, const uint8_t *greys, size_t greys_len,
+    uint32_t *labels, size_t labels_len, uint32_t *grey_labels, size_t grey_labels_len,
+    uint32_t *counts, size_t counts_len, uint32_t *sizes, size_t sizes_len, uint32_t *tally, size_t tally_len);
+
+/* The energy of one system: minus the sum over all n * d bonds of the coupling times both spins.
+ *
+ *   spins s * n, fwd and bwd n * d, couplings n * d                as in a step, all of them taken
+ *   system       below s
+ *   energy       1: written unless refused
+ *
+ * Returns 0, or the refusal 1 to 6. */
+uint8_t tsorvenk_energy(size_t n, size_t d, size_t s,
+    const int8_t *spins, size_t spins_len, const uint32_t *fwd, size_t fwd_len, const uint32_t *bwd, size_t bwd_len,
+    const int32_t *couplings, size_t couplings_len, size_t system, int64_t *energy, size_t energy_len);
+
+/* The components of the bonds whose byte in holds is 1.
+ *
+ *   fwd          n * d, each below n; a backward table is not needed
+ *   holds        n * d, at the bond's entry, each 0 or 1
+ *   labels n, counts n + 1, sizes 4                                written as by a step, unless refused
+ *
+ * Returns 0, or the refusal 1 (n or d out of range), 2, 4 (a neighbour is n or more) or 9 (a byte of holds). */
+uint8_t tsorvenk_label(size_t n, size_t d, const uint32_t *fwd, size_t fwd_len, const uint8_t *holds, size_t holds_len,
+    uint32_t *labels, size_t labels_len, uint32_t *counts, size_t counts_len, uint32_t *sizes, size_t sizes_len);
+
+/* The frame program of docs/FRAMES.md on a text in memory.
+ *
+ *   text         of any length
+ *   out          the answer's frames are written to its front, and the rest of it is kept. 6157 bytes are room for every
+ *                answer
+ *   written      1: the number of bytes of the answer
+ *
+ * A text that the program refuses, 11 among its numbers, is answered by the line that says so: that is an answer too.
+ *
+ * Returns 0 if the answer is written, 2 if written_len is not 1, TSORVENK_NO_ROOM if out is too short for the answer; in
+ * the last two cases nothing is written. */
+uint8_t tsorvenk_frames(const uint8_t *text, size_t text_len, uint8_t *out, size_t out_len, size_t *written, size_t written_len);
+
+#ifdef __cplusplus
+}
+#endif
+
+#endif

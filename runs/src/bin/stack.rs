@@ -1,0 +1,78 @@
+//! stack: how much of the stack each call of the port uses, at the largest sizes.
+//!
+//! The part of the stack that a call will use is painted first; what is no longer paint after it was used.
+use calls::{Form, Label, Mode, Port};
+use std::hint::black_box;
+use std::mem::MaybeUninit;
+use tsorvenk_runs::port;
+use tsorvenk_runs::rand::Rand;
+use tsorvenk_runs::timing::{self, torus, N};
+
+const ROOM: usize = 1 << 20;
+const PAINT: u8 = 0xa5;
+/// More is painted than is looked at, since the frames do not start at one place.
+const PAINTED: usize = ROOM + 16384;
+
+#[inline(never)]
+fn paint() {
+    let mut room = MaybeUninit::<[u8; PAINTED]>::uninit();
+    let start = black_box(room.as_mut_ptr().cast::<u8>());
+    (0..PAINTED).for_each(|k| unsafe { start.add(k).write_volatile(PAINT) });
+}
+
+/// Read below this frame, from the far end of the paint; an array of its own would be probed, and so written.
+#[inline(never)]
+fn used() -> usize {
+    let mark = 0u8;
+    let here = black_box(&mark) as *const u8;
+    let paint = |k: &usize| unsafe { here.wrapping_sub(*k).read_volatile() } == PAINT;
+    let left = (0..ROOM).rev().take_while(paint);
+    ROOM - left.count()
+}
+
+fn line<T>(name: &str, call: impl FnOnce() -> T) {
+    paint();
+    black_box(call());
+    println!("{name:12} {:7.1} KiB", used() as f64 / 1024.0);
+}
+
+fn run(port: &mut dyn Port) {
+    let mut rand = Rand::new(1);
+    let mut most = |mode: Mode, form: Form| {
+        let members = if mode == Mode::Cmr { 2 } else { 8 };
+        let panel = timing::panel(&mut rand, mode, form, 4, 64);
+        let case = timing::single(&mut rand, panel, members);
+        let mut lent = case.lent.clone();
+        let name = format!("{} {}", mode.name(), form.name());
+        line(&name, || port.step(case.step(&mut lent)));
+        let case = timing::swept(&mut rand, mode, form, 4, members);
+        let mut lent = case.lent.clone();
+        line("  its sweep", || port.sweep(case.sweep(&mut lent)));
+    };
+    for mode in Mode::ALL {
+        Form::ALL.iter().for_each(|&form| most(mode, form));
+    }
+    let panel = timing::panel(&mut rand, Mode::Jorg, Form::Observe, 4, 64);
+    let case = timing::single(&mut rand, panel, 2);
+    line("meter", || port.energy(case.meter(63)));
+    let (fwd, holds) = (torus(4), vec![1; 4 * N]);
+    let (mut labels, mut counts, mut sizes) = (vec![0; N], vec![0; N + 1], vec![0; 4]);
+    let call = Label {
+        n: N,
+        d: 4,
+        fwd: &fwd,
+        holds: &holds,
+        labels: &mut labels,
+        counts: &mut counts,
+        sizes: &mut sizes,
+    };
+    line("labelling", || port.label(call));
+}
+
+// The main thread's stack has room for the paint: eight times as much is usual.
+fn main() {
+    match port::linked() {
+        Some(mut port) => run(port.as_mut()),
+        None => println!("port: left out, its static library was not found when this was built"),
+    }
+}

@@ -1,0 +1,37 @@
+//! The functions of include/tsorvenk.h.
+#[rustfmt::skip]
+extern "C" {
+    pub fn tsorvenk_step(
+        mode: u8, form: u8, n: usize, d: usize, s: usize,
+        spins: *mut i8, spins_len: usize, fwd: *const u32, fwd_len: usize, bwd: *const u32, bwd_len: usize,
+        couplings: *const i32, couplings_len: usize, group: *const u32, group_len: usize,
+        temperature: f32, cuts: *const f32, cuts_len: usize, reference: usize, seed: usize,
+        flips: *const u8, flips_len: usize, perms: *const u8, perms_len: usize, greys: *const u8, greys_len: usize,
+        labels: *mut u32, labels_len: usize, grey_labels: *mut u32, grey_labels_len: usize,
+        counts: *mut u32, counts_len: usize, sizes: *mut u32, sizes_len: usize,
+    ) -> u8;
+    pub fn tsorvenk_sweep(
+        mode: u8, form: u8, n: usize, d: usize, s: usize, t: usize, r: usize, members: usize,
+        spins: *mut i8, spins_len: usize, fwd: *const u32, fwd_len: usize, bwd: *const u32, bwd_len: usize,
+        couplings: *const i32, couplings_len: usize, order: *const u32, order_len: usize,
+        masks: *const u8, masks_len: usize, temperatures: *const f32, temperatures_len: usize,
+        cuts: *const f32, cuts_len: usize, references: *const u32, references_len: usize,
+        seeds: *const u32, seeds_len: usize,
+        flips: *const u8, flips_len: usize, perms: *const u8, perms_len: usize, greys: *const u8, greys_len: usize,
+        labels: *mut u32, labels_len: usize, grey_labels: *mut u32, grey_labels_len: usize,
+        counts: *mut u32, counts_len: usize, sizes: *mut u32, sizes_len: usize,
+        tally: *mut u32, tally_len: usize,
+    ) -> u8;
+    pub fn tsorvenk_energy(
+        n: usize, d: usize, s: usize,
+        spins: *const i8, spins_len: usize, fwd: *const u32, fwd_len: usize, bwd: *const u32, bwd_len: usize,
+        couplings: *const i32, couplings_len: usize, system: usize, energy: *mut i64, energy_len: usize,
+    ) -> u8;
+    pub fn tsorvenk_label(
+        n: usize, d: usize, fwd: *const u32, fwd_len: usize, holds: *const u8, holds_len: usize,
+        labels: *mut u32, labels_len: usize, counts: *mut u32, counts_len: usize, sizes: *mut u32, sizes_len: usize,
+    ) -> u8;
+    pub fn tsorvenk_frames(
+        text: *const u8, text_len: usize, out: *mut u8, out_len: usize, written: *mut usize, written_len: usize,
+    ) -> u8;
+}
