@@ -1,13 +1,17 @@
 #!/usr/bin/env python3
 """The frame program beside the reading of document 01 in frames.py, on texts that are drawn: whole panels and damaged ones.
 
-    compare.py [COUNT [SEED]] [--program PATH]
+    compare.py [COUNT [SEED]] [--program PATH | --library PATH]
 
 COUNT is 300 and SEED 1 where they are not given: the same two numbers draw the same texts. The program is proved and built first, unless
-PATH names a built one. Writes how many texts got each answer, as they were drawn, and the shortest text on which the two differ; exit
-status 1 if there is one.
+--program names a built one. --library names a shared object of this machine with the exported tsorvenk_frames, which is asked in its place:
+
+    cc -shared -o libtsorvenk.so -Wl,--whole-archive "$(runs/library | tail -1)"
+
+Writes how many texts got each answer, as they were drawn, and the shortest text on which the two differ; exit status 1 if there is one.
 """
 import argparse
+import ctypes
 import os
 import platform
 import random
@@ -23,7 +27,7 @@ ROOM = 65536  # the program's buffer
 
 
 class Program:
-    """What answers a text: here the compiled program, one process a text."""
+    """What answers a text: the compiled program, one process a text."""
 
     def __init__(self, path=None):
         if path is None:
@@ -39,6 +43,22 @@ class Program:
 
     def answer(self, text):
         return subprocess.run(self.command, input=text, stdout=subprocess.PIPE, check=True).stdout
+
+
+class Library:
+    """The same function of the exported library, called in this process."""
+
+    room = 8192
+
+    def __init__(self, path):
+        self.frames = ctypes.CDLL(os.path.abspath(path)).tsorvenk_frames
+        self.frames.argtypes = [ctypes.c_char_p, ctypes.c_size_t] * 2 + [ctypes.POINTER(ctypes.c_size_t), ctypes.c_size_t]
+        self.frames.restype = ctypes.c_uint8
+
+    def answer(self, text):
+        out, written = ctypes.create_string_buffer(self.room), ctypes.c_size_t()
+        code = self.frames(text, len(text), out, self.room, ctypes.byref(written), 1)
+        return out.raw[:written.value] if code == 0 else b"code %d" % code
 
 
 # ---- what is drawn: each maker gives a text
@@ -198,13 +218,18 @@ def kind_of(text, said):
     return "moved" if any(len({spins[t * n + i] for t in group}) > 1 for i in range(n)) else "idle"
 
 
-def compare(program, count, seed):
+def answered(program, count, seed):
+    """Each drawn case with the program's answer, a thousand texts at a time."""
     draw = random.Random(seed)
-    cases = [drawn(draw) for _ in range(count)]
     with ThreadPoolExecutor(os.cpu_count()) as pool:
-        found = list(pool.map(lambda case: program.answer(case[1]), cases))
+        for start in range(0, count, 1000):
+            cases = [drawn(draw) for _ in range(min(1000, count - start))]
+            yield from zip(cases, pool.map(lambda case: program.answer(case[1]), cases))
+
+
+def compare(program, count, seed):
     kinds, ways, bad = Counter(), {}, []
-    for (way, text), got in zip(cases, found):
+    for (way, text), got in answered(program, count, seed):
         want = frames.answer(text)
         kind = kind_of(text, want)
         kinds[kind] += 1
@@ -223,8 +248,10 @@ def main():
     read.add_argument("count", nargs="?", type=int, default=300)
     read.add_argument("seed", nargs="?", type=int, default=1)
     read.add_argument("--program")
+    read.add_argument("--library")
     given = read.parse_args()
-    kinds, ways, bad = compare(Program(given.program), given.count, given.seed)
+    program = Library(given.library) if given.library else Program(given.program)
+    kinds, ways, bad = compare(program, given.count, given.seed)
     for way in sorted(ways):
         print("%-18s %5d  %s" % (way, sum(ways[way].values()), shown(ways[way])))
     print("%-18s %5d  %s" % ("all", given.count, shown(kinds)))
