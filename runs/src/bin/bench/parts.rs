@@ -1,8 +1,9 @@
 //! The test of all spins, and the meter.
 use crate::Bench;
-use calls::{Form, MeterAnswer, Mode};
+use calls::{Form, MeterAnswer, Mode, Port};
 use std::hint::black_box;
 use tsorvenk_runs::case::Single;
+use tsorvenk_runs::model::Model;
 use tsorvenk_runs::timing::{self, median};
 
 impl Bench {
@@ -47,9 +48,17 @@ impl Bench {
         let run = |energy: &mut i64| *energy = plain_energy(black_box(&case));
         let plain = median(self.repetitions, &mut energy, |_| {}, run);
         assert_eq!(answer, MeterAnswer::Energy(energy));
-        let name = "meter, 2 systems";
-        let ratios = format!("({:5.2} {:5.2})", all / plain, (all - tests) / plain);
-        println!("{name:32} port {all:9.2} = tests {tests:9.2} + sum {:9.2} | plain loop {plain:9.2} {ratios}", all - tests);
+        let run = |answer: &mut MeterAnswer| *answer = Model.energy(black_box(&case).meter(0));
+        let mut tested = MeterAnswer::Refused(0);
+        let same_tests = median(self.repetitions, &mut tested, |_| {}, run);
+        assert_eq!(answer, tested);
+        let sum = all - tests;
+        println!(
+            "{:32} port {all:9.2} = tests {tests:9.2} + sum {sum:9.2} | plain loop {plain:9.2} (sum {:5.2}) | with the same tests {same_tests:9.2} ({:5.2})",
+            "meter, 2 systems",
+            sum / plain,
+            all / same_tests,
+        );
     }
 }
 
