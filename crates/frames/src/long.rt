@@ -75,7 +75,7 @@ fn cut(text: &mut [u8], end: usize, spelt: bool) -> usize
 }
 
 // Cuts a long last line to a length that is still too long for any frame; it keeps its line feed if it is spelt to its end. The length of what is left.
-pub fn shorten(text: &mut [u8]) -> usize
+pub(crate) fn shorten(text: &mut [u8]) -> usize
     ensures { λ r. ⌜ Counts r (now (text .exit)) ⌝ }
 {
     let len = text.len();
