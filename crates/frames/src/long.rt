@@ -1,4 +1,4 @@
-// Texts that fill the buffer. No such text is accepted, since five good lines have at most 12,303 bytes; which refusal it gets may rest on how its
+// Texts that fill the buffer. No such text is accepted, since five good lines have at most 12,327 bytes; which refusal it gets may rest on how its
 // line at the buffer's end goes on.
 use libc::STDIN_FILENO;
 ghost use Prim.Native.Nat.{_≤_};
