@@ -1,4 +1,4 @@
--- The spins that a column's lowest bits show. Assumes nothing.
+-- The spins that a column's lowest bits show.
 use Prim.Native.Nat.{ℕ, zero, suc, _%_, _/_, _<_}
 use mathlib.Core.Path.{_≡_, refl, _∙_, ap}
 use mathlib.Core.Bool.{Bool, true, false, cond, Bool·beq}

@@ -1,4 +1,4 @@
--- A bond's coupling: it is small, so the machine reads it back as it is. Assumes nothing.
+-- A bond's coupling: it is small, so the machine reads it back as it is.
 use Prim.Native.Nat.{ℕ, _+_, _*_, _≤_}
 use mathlib.Core.Path.{_≡_}
 use mathlib.Core.List.{List}

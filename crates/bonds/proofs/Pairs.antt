@@ -1,4 +1,4 @@
--- Jörg's sum over the pairs of two columns, taken from the lowest bits up. Assumes nothing.
+-- Jörg's sum over the pairs of two columns, taken from the lowest bits up.
 use Prim.Native.Nat.{ℕ, zero, suc, _+_, _*_, _/_, _%_, _^_, _≤_}
 use mathlib.Core.Path.{_≡_, sym, _∙_, ap}
 use mathlib.Core.Bool.{Bool, true, false, not, cond, _&&_}

@@ -1,4 +1,4 @@
--- Rows of a table, written byte by byte and site by site. Assumes nothing.
+-- Rows of a table, written byte by byte and site by site.
 use Prim.Native.Nat.{ℕ, _+_, _*_, _≤_, _<_}
 use mathlib.Core.Path.{_≡_, refl, sym, _∙_, ap}
 use mathlib.Core.Bool.{Bool, false}

@@ -1,4 +1,4 @@
--- How tight the promises are: for one input they allow one table. Assumes nothing.
+-- How tight the promises are: for one input they allow one table.
 use Prim.Native.Nat.{ℕ, zero, suc, _*_, _/_, _%_, _<_}
 use mathlib.Core.Path.{_≡_, sym, _∙_}
 use mathlib.Core.Bool.{Bool}

@@ -1,4 +1,4 @@
--- Laws of the bonds' rules: which places of the patterns they read, and that blue flips keep what is red. Assumes nothing.
+-- Laws of the bonds' rules: which places of the patterns they read, and that blue flips keep what is red.
 use Prim.Native.Nat.{ℕ, zero, suc, _+_, _*_, _/_, _<_}
 use mathlib.Core.Path.{_≡_, refl, sym, _∙_, ap}
 use mathlib.Core.Logic.{_↔_}

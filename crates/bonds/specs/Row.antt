@@ -1,4 +1,4 @@
--- A table in the making: the bytes of one site written, and those of the sites so far. Assumes nothing.
+-- A table in the making: the bytes of one site written, and those of the sites so far.
 use Prim.Native.Nat.{ℕ, _+_, _≤_, _<_}
 use mathlib.Core.Path.{_≡_}
 use mathlib.Core.Bool.{Bool}

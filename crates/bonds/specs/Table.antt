@@ -1,4 +1,4 @@
--- What the tables of holding bonds are made of and what they say: bond (i, e) has the entry i * d + e. A column is a site's group as one byte. Assumes nothing.
+-- What the tables of holding bonds are made of and what they say: bond (i, e) has the entry i * d + e. A column is a site's group as one byte.
 use Prim.Native.Nat.{ℕ, _+_, _*_, _≤_, _<_}
 use mathlib.Core.Path.{_≡_}
 use mathlib.Core.Bool.{Bool, _&&_}

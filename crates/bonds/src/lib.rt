@@ -1,7 +1,7 @@
 // Which bonds hold, as a byte a bond: entry i*d+e is 1 where the bond (i, e) holds, and else 0.
 ghost use mathlib.Core.Path.{_≡_};
 ghost use Prim.Native.Nat.{_*_, _≤_, _<_};
-ghost use lib.ListN.{length, getD};
+ghost use lib.ListN.{length};
 ghost use mathlib.Core.Bool.{_&&_};
 ghost use lib.Dec.{eqb};
 ghost use lib.IntN.{natAbs, _*ℤ_};

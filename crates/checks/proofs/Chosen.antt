@@ -1,6 +1,6 @@
--- Test 9 from the tests of its parts. Assumes nothing.
+-- Test 9 from the tests of its parts.
 use Prim.Native.Nat.{ℕ, _+_, _*_, _≤_, _<_}
-use mathlib.Core.Path.{_≡_, refl, sym, _∙_, ap}
+use mathlib.Core.Path.{_≡_, refl, _∙_, ap}
 use mathlib.Core.Bool.{Bool, true, _&&_}
 use mathlib.Core.List.{List}
 use native.Mathlib.Nat.{one-mul, zero-mul, zero-add}
@@ -15,7 +15,7 @@ use Rattle.paper.specs.Panel.Takes.{isGperm, isWolff, flipsBy, permsBy, greysBy
 use Rattle.paper.specs.Component.Marks.{Tells}
 use Rattle.paper.specs.Refusal.Rules.{When, NotIdentity, Chosen}
 use Rattle.paper.specs.Law.ByTest.{never, and-left, and-right}
-use Rattle.lattice.specs.Telling.{Test, said, same, both}
+use Rattle.lattice.specs.Telling.{Test, same, both}
 use Rattle.moves.specs.Task.{choicesOf}
 use Rattle.checks.specs.Choices.{EveryCall, Long, AtMost, PermRows, RowMoves}
 

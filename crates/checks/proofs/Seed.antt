@@ -1,4 +1,4 @@
--- The seed's test from the flags of the acting sites. Assumes nothing.
+-- The seed's test from the flags of the acting sites.
 use Prim.Native.Nat.{ℕ, _≤_, _<_}
 use mathlib.Core.Path.{_≡_, refl, sym, _∙_}
 use mathlib.Core.Bool.{Bool, true, false, not, _||_}
@@ -12,9 +12,8 @@ use Rattle.paper.specs.declared.Group.{Group}
 use Rattle.paper.specs.declared.Mode.{Mode}
 use Rattle.paper.specs.declared.Mode.the-variants.{Houd, Pair, Perm, Gperm, Jorg, Cmr}
 use Rattle.paper.specs.declared.Form.{Form}
-use Rattle.paper.specs.Panel.Input.{Call}
 use Rattle.paper.specs.Panel.Takes.{isCmr, isWolff}
-use Rattle.paper.specs.Site.Acting.{testBy, acts, SomeActs}
+use Rattle.paper.specs.Site.Acting.{testBy, acts}
 use Rattle.paper.specs.Component.Marks.{Flags, Tells}
 use Rattle.paper.specs.Refusal.Rules.{Seeded}
 use Rattle.paper.specs.Law.ByTest.{never}

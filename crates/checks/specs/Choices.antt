@@ -1,4 +1,4 @@
--- Tests 8, 9 and 10 of a task, as the functions are handed them. Assumes nothing.
+-- Tests 8, 9 and 10 of a task, as the functions are handed them.
 use Prim.Native.Nat.{ℕ, _+_, _*_, _≤_, _<_}
 use mathlib.Core.Path.{_≡_}
 use mathlib.Core.Bool.{Bool, true}

@@ -1,4 +1,4 @@
--- Each test's verdict is the only one. Assumes nothing.
+-- Each test's verdict is the only one.
 use Prim.Native.Nat.{ℕ}
 use mathlib.Core.Path.{_≡_}
 use mathlib.Core.List.{List, []}

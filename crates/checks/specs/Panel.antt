@@ -1,4 +1,4 @@
--- Tests 1 to 7 of a move, as the functions are handed them. Assumes nothing.
+-- Tests 1 to 7 of a move, as the functions are handed them.
 use Prim.Native.Nat.{ℕ, _+_, _*_, _≤_}
 use mathlib.Core.Path.{_≡_}
 use mathlib.Core.List.{List, [], _∷_}

@@ -1,4 +1,4 @@
--- The choices of a component lie within the buffer that is lent. Assumes nothing.
+-- The choices of a component lie within the buffer that is lent.
 use Prim.Native.Nat.{ℕ, _+_, _*_, _≤_, _<_}
 use mathlib.Core.Path.{_≡_}
 use mathlib.Core.Bool.{true, false}

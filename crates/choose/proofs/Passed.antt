@@ -1,4 +1,4 @@
--- A loop over all sites that stores the value f i at each place i. Assumes nothing.
+-- A loop over all sites that stores the value f i at each place i.
 use Prim.Native.Nat.{ℕ, _+_, _≤_, _<_}
 use mathlib.Core.Path.{_≡_, refl, _∙_}
 use mathlib.Core.List.{List}

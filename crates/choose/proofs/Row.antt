@@ -1,4 +1,4 @@
--- A component's row of places, lent as a part of the permutations. Assumes nothing.
+-- A component's row of places, lent as a part of the permutations.
 use Prim.Native.Nat.{ℕ, _+_, _*_, _-_, _≤_, _<_}
 use mathlib.Core.Path.{_≡_, _∙_, ap}
 use mathlib.Core.List.{List}

@@ -1,4 +1,4 @@
--- The test that `reach` makes at a site is the form's. Assumes nothing.
+-- The test that `reach` makes at a site is the form's.
 use Prim.Native.Nat.{ℕ, _<_}
 use mathlib.Core.Path.{_≡_, refl, _∙_, ap}
 use mathlib.Core.Bool.{Bool, true, false, cond, _&&_}

@@ -1,4 +1,4 @@
--- The exclusive or of a column of two systems and a grey number flips the spins that the number's bits name. Assumes nothing.
+-- The exclusive or of a column of two systems and a grey number flips the spins that the number's bits name.
 use Prim.Native.Nat.{ℕ, zero, suc, _<_}
 use mathlib.Core.Path.{_≡_, refl}
 use native.Mathlib.Omega.{arith}

@@ -1,4 +1,4 @@
--- What each site's column becomes, from the labels and the lent choices. Assumes nothing.
+-- What each site's column becomes, from the labels and the lent choices.
 use Prim.Native.Nat.{ℕ, _*_, _≤_, _<_}
 use mathlib.Core.Path.{_≡_}
 use mathlib.Core.Bool.{Bool, true, cond, _&&_}

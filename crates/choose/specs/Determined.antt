@@ -1,4 +1,4 @@
--- What each function ensures allows one content of the buffer that it writes. Assumes nothing.
+-- What each function ensures allows one content of the buffer that it writes.
 use Prim.Native.Nat.{ℕ, _<_}
 use mathlib.Core.Path.{_≡_, sym, _∙_}
 use mathlib.Core.List.{List}

@@ -1,4 +1,4 @@
--- Signed numbers as the machine holds them, by their bits: a test of equality, and a sign and its negative. Assumes nothing.
+-- Signed numbers as the machine holds them, by their bits: a test of equality, and a sign and its negative.
 use mathlib.Core.Path.{_≡_, refl, sym, _∙_, ap}
 use mathlib.Core.Bool.{Bool, true, false, cond}
 use mathlib.Core.Logic.{inl, inr}

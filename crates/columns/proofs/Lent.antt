@@ -1,4 +1,4 @@
--- Rows written through a lent middle part: where the part comes back, and what one row more does to the group's spins. Assumes nothing.
+-- Rows written through a lent middle part: where the part comes back, and what one row more does to the group's spins.
 use Prim.Native.Nat.{ℕ, _+_, _-_, _*_, _≤_, _<_}
 use mathlib.Core.Path.{_≡_, refl, _∙_}
 use mathlib.Core.Logic.{_⊎_, inl, inr, _≢_}

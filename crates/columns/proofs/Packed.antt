@@ -1,4 +1,4 @@
--- Rows read into columns: with no row all are 0, and one row more adds a bit to each. Assumes nothing.
+-- Rows read into columns: with no row all are 0, and one row more adds a bit to each.
 use Prim.Native.Nat.{ℕ, _+_, _-_, _*_, _%_, _^_, _≤_, _<_}
 use mathlib.Core.Path.{_≡_, sym, _∙_}
 use mathlib.Core.Logic.{inl, inr}

@@ -1,4 +1,4 @@
--- The bits of columns: one place more, what a shift reads, and the number that holds all of them. Assumes nothing.
+-- The bits of columns: one place more, what a shift reads, and the number that holds all of them.
 use Prim.Native.Nat.{ℕ, zero, suc, _+_, _*_, _/_, _%_, _^_, _≤_, _<_}
 use mathlib.Core.Path.{_≡_, refl}
 use mathlib.Core.Bool.{Bool, true, false}

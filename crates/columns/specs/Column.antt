@@ -1,4 +1,4 @@
--- A site's whole group as one number, its column: bit k is set where member k is +1. Assumes nothing.
+-- A site's whole group as one number, its column: bit k is set where member k is +1.
 use Prim.Native.Nat.{ℕ, zero, suc, _+_, _-_, _*_, _/_, _%_, _^_, _≤_, _<_}
 use mathlib.Core.Path.{_≡_, refl, sym, _∙_, ap}
 use mathlib.Core.Logic.{inl, inr}
@@ -19,7 +19,6 @@ use Rattle.paper.specs.Site.Acting.{eqZ}
 use Rattle.paper.specs.Component.Sizes.{bit}
 use Rattle.paper.specs.Move.Moving.{partner}
 use Rattle.paper.specs.Refusal.Rules.{Spin}
-use Rattle.paper.specs.Law.Patterns.{same-is}
 
 -- the number whose bits below m are f 0, f 1, ..
 unfoldable pub code : ℕ → (ℕ → Bool) → ℕ

@@ -1,4 +1,4 @@
--- How tight the promises are: any two results that a function's promise allows for one input are equal. Assumes nothing.
+-- How tight the promises are: any two results that a function's promise allows for one input are equal.
 use Prim.Native.Nat.{ℕ, _/_, _%_, _<_}
 use mathlib.Core.Path.{_≡_, sym, _∙_}
 use mathlib.Core.Logic.{_⊎_, inl, inr, _≢_}

@@ -1,4 +1,4 @@
--- A buffer that a loop writes from its front: its first i elements are f 0, f 1, .., and the others are as they were. Assumes nothing.
+-- A buffer that a loop writes from its front: its first i elements are f 0, f 1, .., and the others are as they were.
 use Prim.Native.Nat.{ℕ, _+_, _≤_, _<_}
 use mathlib.Core.Path.{_≡_, refl, _∙_}
 use mathlib.Core.List.{List}

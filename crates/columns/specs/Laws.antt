@@ -1,4 +1,4 @@
--- What callers of the functions on columns need of their promises. Assumes nothing.
+-- What callers of the functions on columns need of their promises.
 use Prim.Native.Nat.{ℕ, _<_}
 use mathlib.Core.Path.{_≡_, refl, sym, _∙_, ap}
 use mathlib.Core.Logic.{inl}

@@ -1,15 +1,15 @@
--- What is known of the places that a scan found. Assumes nothing.
-use Prim.Native.Nat.{ℕ, _+_, _*_, _≤_}
+-- What is known of the places that a scan found.
+use Prim.Native.Nat.{ℕ, _*_, _≤_}
 use mathlib.Core.Path.{_≡_, refl, sym, _∙_, ap}
 use mathlib.Core.List.{List, [], _++_, map}
 use native.Mathlib.Nat.{mul-le-mul}
 use lib.ListN.{length, drop}
 use Rattle.paper.specs.declared.Group.{Group}
 use Rattle.paper.specs.Refusal.Rule.{Broken}
-use Rattle.paper.specs.Answer.Frame.{bytes, words, signed, Frame, FrameSizes, frameLattice, frameCall, groupBytes}
+use Rattle.paper.specs.Answer.Frame.{bytes, words, signed, Frame, FrameSizes, frameCall}
 use Rattle.frame.specs.declared.Places.{Places}
 use Rattle.frame.specs.Spelling.{spelling-kept, spellingRules}
-use Rattle.frame.specs.Scan.{sizesIn, latticeOf, groupIn, Placed}
+use Rattle.frame.specs.Scan.{latticeOf, groupIn, Placed}
 use Rattle.frame.specs.Reading.{Held, Readout, ReadAs, noGroup}
 use Rattle.frame.specs.declared.Frames.{Frames}
 use Rattle.frame.specs.declared.Found.the-variants.{Fault}

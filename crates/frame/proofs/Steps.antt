@@ -1,6 +1,6 @@
--- The text's lines one after another: what each test adds to what is known, and what its failure breaks. Assumes nothing.
-use Prim.Native.Nat.{ℕ, suc, _+_, _*_, _≤_, _<_}
-use mathlib.Core.Path.{_≡_, refl, sym, _∙_, ap, subst}
+-- The text's lines one after another: what each test adds to what is known, and what its failure breaks.
+use Prim.Native.Nat.{ℕ, _*_, _≤_}
+use mathlib.Core.Path.{_≡_, refl, sym, _∙_, ap}
 use mathlib.Core.Logic.{inl, inr}
 use mathlib.Core.List.{List, [], _∷_}
 use native.Mathlib.Omega.{arith}
@@ -10,8 +10,7 @@ use Rattle.paper.specs.Panel.Input.{Lattice}
 use Rattle.paper.specs.Refusal.Rule.{Rule, rule, Broken}
 use Rattle.paper.specs.Answer.Frame.{next, bytes, Spelt, Frame, FrameSizes, GroupSize, frameLattice, groupBytes}
 use Rattle.frame.specs.declared.Sizes.{Sizes}
-use Rattle.frame.specs.declared.Places.{Places}
-use Rattle.frame.specs.Spelling.{line2, line3, line4, line5, spellingRules, Spelling}
+use Rattle.frame.specs.Spelling.{line2, line3, line4, line5, spellingRules}
 use Rattle.frame.specs.Scan.{Passed, sizesIn, latticeOf, Headed, Tabled, Placed}
 
 -- the last three

@@ -1,4 +1,4 @@
--- The backward table of a forward one: right wherever there is one. Assumes nothing.
+-- The backward table of a forward one: right wherever there is one.
 use Prim.Native.Nat.{ℕ}
 use mathlib.Core.Bool.{Bool, true, false}
 use mathlib.Core.List.{List, []}

@@ -1,4 +1,4 @@
--- What each public function's promise allows for one input is one answer and one content of every lent buffer. Assumes nothing.
+-- What each public function's promise allows for one input is one answer and one content of every lent buffer.
 use Prim.Native.Nat.{ℕ, _*_}
 use mathlib.Core.Path.{_≡_, refl, sym, _∙_, ap}
 use mathlib.Core.List.{List, _++_, map}

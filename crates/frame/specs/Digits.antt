@@ -1,16 +1,15 @@
--- Lower-case hexadecimal both ways: what is written reads back, and what is read was so written. Assumes nothing.
+-- Lower-case hexadecimal both ways: what is written reads back, and what is read was so written.
 use Prim.Native.Nat.{ℕ, zero, suc, _+_, _-_, _*_, _/_, _%_, _≤_, _<_}
-use mathlib.Core.Path.{_≡_, refl, sym, _∙_, ap}
+use mathlib.Core.Path.{_≡_, refl, ap}
 use mathlib.Core.Logic.{_⊎_, inl, inr}
-use mathlib.Core.Bool.{Bool, true, false, cond}
-use mathlib.Core.List.{List, [], _∷_, _++_, map}
+use mathlib.Core.Bool.{false}
+use mathlib.Core.List.{List, [], _∷_}
 use native.Mathlib.Omega.{arith}
 use native.Mathlib.Decide.{decLt}
 use borrow.Author.Tests.{lt-ltb, le-ltb, ne-eqb}
-use lib.Dec.{eqb, ltb}
+use lib.Dec.{eqb}
 use lib.ListN.{length, getD}
-use lib.IntN.{ℤ, pos, negsuc}
-use Rattle.paper.specs.Answer.Frame.{digit, digitValue, hex, unhex, words, twoBytes, signed, spinByte}
+use Rattle.paper.specs.Answer.Frame.{digit, digitValue, hex, unhex}
 
 -- 0 to 9 or a to f
 abbrev pub Digit : ℕ → Type 0

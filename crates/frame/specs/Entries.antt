@@ -1,12 +1,12 @@
--- The entries that a line's bytes stand for, by their places in the text. Assumes nothing.
-use Prim.Native.Nat.{ℕ, suc, _+_, _*_, _≤_, _<_}
-use mathlib.Core.Path.{_≡_, refl, sym, _∙_, ap}
+-- The entries that a line's bytes stand for, by their places in the text.
+use Prim.Native.Nat.{ℕ, _+_, _*_, _<_}
+use mathlib.Core.Path.{_≡_, sym, _∙_, ap}
 use mathlib.Core.List.{List, map}
 use native.Mathlib.Omega.{arith}
 use lib.ListN.{length, getD, drop, length-map, List·getD-map}
-use lib.IntN.{ℤ, pos}
+use lib.IntN.{pos}
 use Rattle.paper.specs.Answer.Frame.{bytes, words, signed, Frame}
-use Rattle.frame.specs.Lines.{byteAt, wordAt, TwoDigits, FourDigits, line-fits, line-byte, line-two}
+use Rattle.frame.specs.Lines.{byteAt, wordAt, FourDigits, line-byte, line-two}
 use Rattle.frame.specs.Words.{words-at, words-length}
 
 -- where the two bytes of word k stand

@@ -1,27 +1,26 @@
--- Reading and writing against the whole program: what was read is the paper's call, and what was written is an answer to the text. Assumes nothing.
-use Prim.Native.Nat.{ℕ, zero, suc, _+_, _*_, _≤_, _<_}
-use mathlib.Core.Path.{_≡_, refl, sym, _∙_, ap}
+-- Reading and writing against the whole program: what was read is the paper's call, and what was written is an answer to the text.
+use Prim.Native.Nat.{ℕ, zero, suc, _*_, _≤_, _<_}
+use mathlib.Core.Path.{_≡_, sym, _∙_, ap}
 use mathlib.Core.Logic.{inl, inr}
 use mathlib.Core.Bool.{Bool, true, false, _&&_}
-use mathlib.Core.List.{List, [], _++_, map}
+use mathlib.Core.List.{List, []}
 use native.Mathlib.Omega.{arith}
 use lib.Dec.{eqb}
-use lib.ListN.{length, getD, take, drop, length-map}
+use lib.ListN.{length, take, drop, length-map}
 use lib.Seq.{take-at}
-use lib.IntN.{ℤ}
 use Rattle.paper.specs.declared.Group.{Group}
 use Rattle.paper.specs.declared.Answer.{Answer}
-use Rattle.paper.specs.Panel.Input.{Lattice, Call, Buffers}
+use Rattle.paper.specs.Panel.Input.{Call, Buffers}
 use Rattle.paper.specs.Component.Links.{Linked.stay}
 use Rattle.paper.specs.Component.Sizes.{bit, countWhere, counted, sizeOf}
 use Rattle.paper.specs.Refusal.Rule.{Kept, Broken}
 use Rattle.paper.specs.Answer.Move.{Answers, Seen, Accepted}
-use Rattle.paper.specs.Answer.Frame.{bytes, words, signed, frameLattice, frameCall, frameChoices, frameBuffers, HasBack, frameRules, refusal, FrameAnswers}
+use Rattle.paper.specs.Answer.Frame.{bytes, signed, frameLattice, frameCall, frameChoices, frameBuffers, HasBack, frameRules, refusal, FrameAnswers}
 use Rattle.frame.specs.declared.Sizes.{Sizes}
-use Rattle.frame.specs.Spelling.{line2, line3, line5, spellingRules, valueRules, Spelling, spelling-of, misspelt, misvalued, all-kept}
+use Rattle.frame.specs.Spelling.{line2, line3, spellingRules, valueRules, Spelling, spelling-of, misspelt, misvalued, all-kept}
 use Rattle.frame.specs.Digits.{Below}
 use Rattle.frame.specs.Words.{words-length}
-use Rattle.frame.specs.Reading.{Held, Misread, Readout}
+use Rattle.frame.specs.Reading.{Held, Readout}
 use Rattle.frame.specs.Writing.{resultOf, TwoByte, Fitted, fitted-take}
 
 -- ---- what was read: the used part of each buffer is the paper's, and has the exact length

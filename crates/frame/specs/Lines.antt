@@ -1,12 +1,12 @@
--- A frame by its places in the text: a line of m bytes after its tag takes 2m + 3 characters. Assumes nothing.
+-- A frame by its places in the text: a line of m bytes after its tag takes 2m + 3 characters.
 use Prim.Native.Nat.{ℕ, zero, suc, _+_, _-_, _*_, _≤_, _<_}
 use mathlib.Core.Path.{_≡_, refl, sym, _∙_, ap, subst}
 use mathlib.Core.Logic.{inl, inr}
 use mathlib.Core.List.{List, [], _∷_, _++_}
 use native.Mathlib.Omega.{arith}
 use native.Mathlib.Decide.{decLt}
-use lib.ListN.{length, getD, take, drop, length-append, length-drop, length-take, take-append-drop, List·getD-append}
-use lib.Seq.{drop-at, drop-drop, getD-drop, getD-take, drop-cons, getD-at, length-take-le}
+use lib.ListN.{length, getD, take, drop, length-append, length-drop, take-append-drop, List·getD-append}
+use lib.Seq.{drop-drop, getD-drop, getD-take, drop-cons, getD-at, length-take-le}
 use Rattle.paper.specs.Answer.Frame.{digitValue, hex, unhex, firstLine, next, bytes, Spelt, Frame}
 use Rattle.frame.specs.Digits.{Digit, Digits, Below, not-feed, hex-length, hex-digits, unhex-hex, hex-unhex, unhex-small, unhex-length, unhex-at}
 

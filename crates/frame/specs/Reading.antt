@@ -1,11 +1,10 @@
--- What reading a text answers and leaves in the lent buffers. Assumes nothing.
+-- What reading a text answers and leaves in the lent buffers.
 use Prim.Native.Nat.{ℕ, _*_, _≤_}
 use mathlib.Core.Path.{_≡_}
 use mathlib.Core.List.{List, [], _++_, map}
 use lib.ListN.{drop, replicate}
 use lib.IntN.{ℤ}
 use Rattle.paper.specs.declared.Group.{Group}
-use Rattle.paper.specs.Panel.Input.{Lattice}
 use Rattle.paper.specs.Refusal.Rule.{Kept, Broken}
 use Rattle.paper.specs.Answer.Frame.{bytes, words, signed, frameCall}
 use Rattle.frame.specs.Spelling.{line2, line3, line5, spellingRules}

@@ -1,14 +1,14 @@
--- What is written reads back. Assumes nothing.
-use Prim.Native.Nat.{ℕ, zero, suc, _≤_, _<_}
-use mathlib.Core.Path.{_≡_, refl, sym, _∙_, ap}
+-- What is written reads back.
+use Prim.Native.Nat.{ℕ, zero, suc, _<_}
+use mathlib.Core.Path.{_≡_, refl, _∙_, ap}
 use mathlib.Core.Logic.{inl, inr}
 use mathlib.Core.List.{List, [], _∷_, _++_, map, append-assoc, append-nil}
 use native.Mathlib.Omega.{arith}
-use lib.ListN.{length, getD, drop, length-map, List·getD-map}
+use lib.ListN.{length, getD, length-map, List·getD-map}
 use lib.IntN.{ℤ, pos}
 use lib.Signed.{mag}
 use Rattle.paper.specs.Refusal.Rules.{Spin, Spins}
-use Rattle.paper.specs.Answer.Frame.{hex, unhex, firstLine, next, bytes, words, signed, twoBytes, spinByte, line}
+use Rattle.paper.specs.Answer.Frame.{hex, next, bytes, words, signed, twoBytes, spinByte, line}
 use Rattle.frame.specs.Digits.{Below, Digits, hex-digits, unhex-hex}
 use Rattle.frame.specs.Words.{twoBytes-small, words-twoBytes, spinByte-small, signed-spinByte}
 use Rattle.frame.specs.Lines.{first-line, next-line}

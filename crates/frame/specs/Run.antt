@@ -1,6 +1,6 @@
--- The whole program on a text: what its functions promise, and why that answers the text. Assumes nothing.
+-- The whole program on a text: what its functions promise, and why that answers the text.
 use Prim.Native.Nat.{ℕ, zero, suc, _+_, _*_, _≤_, _<_}
-use mathlib.Core.Path.{_≡_, refl, sym, _∙_, ap, subst}
+use mathlib.Core.Path.{_≡_, refl, sym, _∙_, subst}
 use mathlib.Core.Logic.{inl, inr}
 use mathlib.Core.List.{List, [], _∷_, _++_}
 use native.Mathlib.Omega.{arith}
@@ -12,11 +12,11 @@ use Rattle.paper.specs.declared.Answer.{Answer}
 use Rattle.paper.specs.declared.Answer.the-variants.{Refused, Idle, Moved}
 use Rattle.paper.specs.declared.Mode.the-variants.{Perm}
 use Rattle.paper.specs.declared.Form.the-variants.{Sw}
-use Rattle.paper.specs.Panel.Input.{Lattice, Call, Choices, Buffers}
+use Rattle.paper.specs.Panel.Input.{Call, Buffers}
 use Rattle.paper.specs.Site.Bonds.{whole}
-use Rattle.paper.specs.Refusal.Rule.{Kept, Broken}
+use Rattle.paper.specs.Refusal.Rule.{Kept}
 use Rattle.paper.specs.Refusal.Rules.{Inverse}
-use Rattle.paper.specs.Answer.Move.{Answers, Refuses, Rests, Goes, Accepted.idle, Accepted.moved}
+use Rattle.paper.specs.Answer.Move.{Answers, Accepted.idle, Accepted.moved}
 use Rattle.paper.specs.Answer.Task.{table}
 use Rattle.paper.specs.Answer.Frame.{frameLattice, frameCall, frameChoices, frameBuffers, HasBack, refusal, FrameAnswers}
 use Rattle.moves.specs.Task.{callOf, choicesOf, buffersOf}
@@ -26,7 +26,6 @@ use Rattle.frame.specs.declared.Found.the-variants.{Fault, Panel}
 use Rattle.frame.specs.declared.Written.{Written}
 use Rattle.frame.specs.declared.Written.the-variants.{Wrote, NoRoom}
 use Rattle.frame.specs.Spelling.{spellingRules, Spelling, spelling-of, misspelt, misvalued, all-kept}
-use Rattle.frame.specs.Scan.{sizesIn}
 use Rattle.frame.specs.Reading.{Rooms, Held, Misread, Readout, FoundAs}
 use Rattle.frame.specs.Writing.{resultOf, TwoByte, Fitted, WrittenAs, fitted-take, fitted-drop}
 use Rattle.frame.specs.Back.{Reversed, back-complete}

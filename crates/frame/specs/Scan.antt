@@ -1,4 +1,4 @@
--- What the codec's functions answer. Assumes nothing.
+-- What the codec's functions answer.
 use Prim.Native.Nat.{ℕ, _+_, _*_, _≤_, _<_}
 use mathlib.Core.Path.{_≡_, _∙_, ap}
 use mathlib.Core.List.{List, []}
@@ -6,7 +6,7 @@ use native.Mathlib.Omega.{arith}
 use lib.ListN.{length, getD, drop}
 use Rattle.paper.specs.declared.Group.{Group}
 use Rattle.paper.specs.Panel.Input.{Lattice}
-use Rattle.paper.specs.Refusal.Rule.{Kept, Broken}
+use Rattle.paper.specs.Refusal.Rule.{Broken}
 use Rattle.paper.specs.Answer.Task.{table}
 use Rattle.paper.specs.Answer.Frame.{next, Spelt, Frame, FrameSizes, groupBytes, frameLattice}
 use Rattle.frame.specs.Lines.{byteAt, DigitsEnd, line-of, line-next}

@@ -1,10 +1,9 @@
--- The rules on how the text is spelt: the first eight of a frame's, which the others follow. Assumes nothing.
-use Prim.Native.Nat.{ℕ, _+_, _*_}
+-- The rules on how the text is spelt: the first eight of a frame's, which the others follow.
+use Prim.Native.Nat.{ℕ, _*_}
 use mathlib.Core.Path.{_≡_, refl}
-use mathlib.Core.Logic.{_⊎_, inl, inr}
+use mathlib.Core.Logic.{inl, inr}
 use mathlib.Core.List.{List, [], _∷_, _++_}
 use lib.ListN.{length}
-use Rattle.paper.specs.Panel.Input.{Lattice}
 use Rattle.paper.specs.Refusal.Rule.{Rule, rule, Kept, Broken}
 use Rattle.paper.specs.Refusal.Rules.{Spins, Grouped, Chosen}
 use Rattle.paper.specs.Answer.Frame.{next, Spelt, Frame, frameLattice, frameBuffers, frameCall, frameChoices, groupBytes, FrameSizes, HasBack, GroupSize, frameRules}

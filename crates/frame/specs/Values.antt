@@ -1,20 +1,17 @@
--- The library's rules on the move that a text asks for: of a text that is spelt well, they are broken just where the program's other rules are. Assumes nothing.
-use Prim.Native.Nat.{ℕ, zero, suc, _+_, _*_, _≤_, _<_}
-use mathlib.Core.Path.{_≡_, refl, sym, _∙_, ap}
-use mathlib.Core.Bool.{Bool, true, false}
-use mathlib.Core.Logic.{_⊎_, inl, inr}
-use mathlib.Core.List.{List, [], _∷_, map}
+-- The library's rules on the move that a text asks for: of a text that is spelt well, they are broken just where the program's other rules are.
+use Prim.Native.Nat.{ℕ, zero, suc, _+_, _*_}
+use mathlib.Core.Path.{_≡_, refl, _∙_, ap}
+use mathlib.Core.Logic.{inl, inr}
+use mathlib.Core.List.{List, []}
 use native.Mathlib.Omega.{arith}
 use lib.ListN.{length, drop, length-map}
-use lib.IntN.{ℤ}
 use Rattle.paper.specs.declared.Mode.the-variants.{Perm}
-use Rattle.paper.specs.Panel.Input.{Lattice, Call, Choices, Buffers}
 use Rattle.paper.specs.Refusal.Rule.{Rule, Kept, Broken}
 use Rattle.paper.specs.Refusal.Rules.{Ranged, Exact, Inverse, Chosen, rules}
 use Rattle.paper.specs.Law.ByTest.{never}
 use Rattle.paper.specs.Answer.Task.{table}
-use Rattle.paper.specs.Answer.Frame.{bytes, words, signed, frameLattice, frameCall, frameChoices, frameBuffers, groupBytes, HasBack}
-use Rattle.frame.specs.Spelling.{line2, line3, line5, Spelling, valueRules}
+use Rattle.paper.specs.Answer.Frame.{bytes, signed, frameLattice, frameCall, frameChoices, frameBuffers, groupBytes, HasBack}
+use Rattle.frame.specs.Spelling.{line2, line3, Spelling, valueRules}
 use Rattle.frame.specs.Words.{words-length}
 
 table-length : (m : ℕ) (f : ℕ → ℕ) → length (table m f) ≡ m

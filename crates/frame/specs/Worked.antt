@@ -1,5 +1,5 @@
--- Worked refusals of spelling and size. Assumes nothing.
-use Prim.Native.Nat.{ℕ, _<_, _≤_}
+-- Worked refusals of spelling and size.
+use Prim.Native.Nat.{ℕ}
 use mathlib.Core.Path.{_≡_, refl, ap}
 use mathlib.Core.Bool.{true}
 use mathlib.Core.Logic.{inl, inr}
@@ -8,7 +8,7 @@ use native.Mathlib.Omega.{arith}
 use lib.ListN.{length, getD}
 use Rattle.paper.specs.Refusal.Rule.{Broken}
 use Rattle.paper.specs.Law.ByTest.{every, belowTest, below-by}
-use Rattle.paper.specs.Answer.Frame.{hex, unhex, firstLine, next, bytes, Spelt, Frame}
+use Rattle.paper.specs.Answer.Frame.{hex, unhex, firstLine, next, bytes, Spelt}
 use Rattle.frame.specs.Spelling.{spellingRules}
 
 spelt-by : (tag : ℕ) (text : List ℕ) → text ≡ hex (tag ∷ bytes text) ++ (10 ∷ next text)

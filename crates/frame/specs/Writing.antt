@@ -1,14 +1,12 @@
--- What writing an answer leaves in the lent buffer. Assumes nothing.
-use Prim.Native.Nat.{ℕ, zero, suc, _+_, _*_, _/_, _%_, _≤_, _<_}
+-- What writing an answer leaves in the lent buffer.
+use Prim.Native.Nat.{ℕ, suc, _+_, _*_, _/_, _%_, _≤_, _<_}
 use mathlib.Core.Path.{_≡_, refl, sym, _∙_, ap}
-use mathlib.Core.List.{List, [], _∷_, _++_, map, append-assoc}
+use mathlib.Core.List.{List, [], _∷_, _++_, map}
 use native.Mathlib.Omega.{arith}
-use native.Mathlib.Nat.{zero-add}
 use native.Mathlib.Numerals.{add-one}
 use lib.ListN.{length, getD, take, drop, set, length-append, length-map}
 use lib.Seq.{sets, sets-eq, length-sets, take-at, drop-at, take-suc, take-all, length-take-le}
 use lib.IntN.{ℤ}
-use Rattle.paper.specs.Panel.Input.{Buffers}
 use Rattle.paper.specs.Answer.Frame.{digit, hex, line, result, twoBytes, spinByte}
 use Rattle.frame.specs.declared.Written.{Written}
 use Rattle.frame.specs.declared.Written.the-variants.{Wrote, NoRoom}

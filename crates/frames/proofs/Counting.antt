@@ -1,4 +1,4 @@
--- A number of bytes at the start of a list, as `io` speaks of it. Assumes nothing.
+-- A number of bytes at the start of a list, as `io` speaks of it.
 use Prim.Native.Nat.{ℕ, _≤_}
 use mathlib.Core.Path.{sym}
 use mathlib.Core.List.{List}

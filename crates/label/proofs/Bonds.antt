@@ -1,4 +1,4 @@
--- The forest grows bond by bond. Assumes nothing.
+-- The forest grows bond by bond.
 use Prim.Native.Nat.{ℕ, _+_, _*_, _≤_, _<_, zero-le}
 use mathlib.Core.Path.{_≡_, refl, sym, ap, _∙_}
 use mathlib.Core.Logic.{_⊎_, inl, inr}

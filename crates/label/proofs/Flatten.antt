@@ -1,4 +1,4 @@
--- The pass that makes every parent a root and tallies the sites of each. Assumes nothing.
+-- The pass that makes every parent a root and tallies the sites of each.
 use Prim.Native.Nat.{ℕ, _+_, _≤_, _<_, zero-le}
 use mathlib.Core.Path.{_≡_, refl, sym, ap, _∙_}
 use mathlib.Core.Logic.{_⊎_, inl, inr}

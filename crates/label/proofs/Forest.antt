@@ -1,4 +1,4 @@
--- Laws of the forest in `labels`: a climb from two sites, and the pass that makes every parent a root. Assumes nothing.
+-- Laws of the forest in `labels`: a climb from two sites, and the pass that makes every parent a root.
 use Prim.Native.Nat.{ℕ, _+_, _≤_, _<_}
 use mathlib.Core.Path.{_≡_, refl, sym, ap, _∙_}
 use mathlib.Core.Logic.{_⊎_, inl, inr}

@@ -1,4 +1,4 @@
--- Lists of sites: the sites that pass a test, gathered from the left, and the links along their bonds. Assumes nothing.
+-- Lists of sites: the sites that pass a test, gathered from the left, and the links along their bonds.
 use Prim.Native.Nat.{ℕ, _+_, _*_, _≤_, _<_}
 use mathlib.Core.Path.{_≡_, refl, sym, ap, _∙_}
 use mathlib.Core.Bool.{Bool, true, false}

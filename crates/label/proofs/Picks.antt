@@ -1,4 +1,4 @@
--- The list of the components' tallies. Assumes nothing.
+-- The list of the components' tallies.
 use Prim.Native.Nat.{ℕ, _+_, _≤_, _<_, zero-le}
 use mathlib.Core.Path.{_≡_, refl, sym, ap, _∙_}
 use mathlib.Core.Bool.{Bool, true, false, _&&_}

@@ -1,4 +1,4 @@
--- The places of the four largest sizes, as another size joins. Assumes nothing.
+-- The places of the four largest sizes, as another size joins.
 use Prim.Native.Nat.{ℕ, _+_, _≤_, _<_, zero-le}
 use mathlib.Core.Path.{_≡_, refl, sym}
 use mathlib.Core.Logic.{_⊎_, inl, inr, ⊎-elim}

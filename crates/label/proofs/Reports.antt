@@ -1,4 +1,4 @@
--- What the steps of `count` come to. Assumes nothing.
+-- What the steps of `count` come to.
 use Prim.Native.Nat.{ℕ, _+_, _≤_, _<_}
 use mathlib.Core.Path.{_≡_, refl, ap, _∙_}
 use mathlib.Core.Bool.{Bool, true, false, _&&_}

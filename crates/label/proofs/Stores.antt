@@ -1,4 +1,4 @@
--- What stands in a list after a store, and lists that are filled from the left. Assumes nothing.
+-- What stands in a list after a store, and lists that are filled from the left.
 use Prim.Native.Nat.{ℕ, _+_, _≤_, _<_, zero-le}
 use mathlib.Core.Path.{_≡_, refl, sym, _∙_, ap}
 use mathlib.Core.List.{List}

@@ -1,4 +1,4 @@
--- Lists of counts: entry r counts the first i that F r takes. Assumes nothing.
+-- Lists of counts: entry r counts the first i that F r takes.
 use Prim.Native.Nat.{ℕ, _+_, _≤_, _<_, zero-le}
 use mathlib.Core.Path.{_≡_, sym, ap, _∙_}
 use mathlib.Core.Bool.{Bool, true, false}

@@ -1,4 +1,4 @@
--- What the steps of `label` come to. Assumes nothing.
+-- What the steps of `label` come to.
 use Prim.Native.Nat.{ℕ, _+_, _*_, zero-le}
 use mathlib.Core.Path.{_≡_, refl, sym, ap, _∙_}
 use mathlib.Core.Logic.{inr, ⊎-elim}

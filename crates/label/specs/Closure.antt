@@ -1,4 +1,4 @@
--- Step relations that link the same numbers, with their laws. Nothing here knows of a lattice. Assumes nothing.
+-- Step relations that link the same numbers, with their laws. Nothing here knows of a lattice.
 use Prim.Native.Nat.{ℕ}
 use mathlib.Core.Path.{_≡_, refl, sym, _∙_}
 use mathlib.Core.Logic.{_⊎_, inl, inr, ⊎-elim}

@@ -1,4 +1,4 @@
--- What `label` and `count` ask and promise. Assumes nothing.
+-- What `label` and `count` ask and promise.
 use Prim.Native.Nat.{ℕ, _+_, _*_, _≤_, _<_}
 use mathlib.Core.Path.{_≡_}
 use mathlib.Core.List.{List}

@@ -1,4 +1,4 @@
--- Laws of `countWhere`. Assumes nothing.
+-- Laws of `countWhere`.
 use Prim.Native.Nat.{ℕ, zero, suc, _+_, _≤_, _<_, zero-le}
 use mathlib.Core.Path.{_≡_, refl, _∙_}
 use mathlib.Core.Logic.{⊎-elim}

@@ -1,4 +1,4 @@
--- What `components` answers, for every input, and what every lent buffer then holds. Assumes nothing.
+-- What `components` answers, for every input, and what every lent buffer then holds.
 use Prim.Native.Nat.{ℕ, _+_, _*_, _≤_, _<_}
 use mathlib.Core.Path.{_≡_}
 use mathlib.Core.List.{List, [], _∷_}

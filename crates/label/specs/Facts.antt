@@ -1,4 +1,4 @@
--- What labels and counts say. Assumes nothing.
+-- What labels and counts say.
 use Prim.Native.Nat.{ℕ, _+_, _*_, _≤_, _<_}
 use mathlib.Core.Path.{_≡_, refl, sym, ap, _∙_}
 use mathlib.Core.Logic.{_↔_, _≢_}

@@ -1,4 +1,4 @@
--- The forest that stands in the lent labels: a site's parent is its entry, and is at most the site. Assumes nothing.
+-- The forest that stands in the lent labels: a site's parent is its entry, and is at most the site.
 use Prim.Native.Nat.{ℕ, _≤_, _<_}
 use mathlib.Core.Path.{_≡_}
 use mathlib.Core.List.{List}

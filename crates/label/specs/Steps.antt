@@ -1,4 +1,4 @@
--- What the steps of `label` ask and promise. Assumes nothing.
+-- What the steps of `label` ask and promise.
 use Prim.Native.Nat.{ℕ, _+_, _*_, _≤_, _<_}
 use mathlib.Core.Path.{_≡_}
 use mathlib.Core.Bool.{Bool, true}

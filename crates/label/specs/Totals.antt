@@ -1,4 +1,4 @@
--- Sums of numbers over the numbers below m. Assumes nothing.
+-- Sums of numbers over the numbers below m.
 use Prim.Native.Nat.{ℕ, zero, suc, _+_, _*_, _<_}
 use mathlib.Core.Path.{_≡_, refl, sym, ap, _∙_}
 use mathlib.Core.Logic.{_≢_}

@@ -1,7 +1,7 @@
--- What the two tests of `cut_ok` say: a cut passes both exactly where it is finite and not negative. Assumes nothing.
+-- What the two tests of `cut_ok` say: a cut passes both exactly where it is finite and not negative.
 use mathlib.Core.Path.{_≡_, refl, ap, _∙_}
 use mathlib.Core.Bool.{Bool, true, false, _&&_, _||_}
-use Prim.Native.Nat.{ℕ, zero, suc, _+_, _*_, _<_}
+use Prim.Native.Nat.{ℕ, zero, suc, _*_, _<_}
 use native.Mathlib.Nat.{zero-mul, suc-mul}
 use native.Mathlib.Omega.{arith}
 use borrow.Author.Tests.{lt-ltb, ne-eqb}

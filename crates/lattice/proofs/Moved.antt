@@ -1,4 +1,4 @@
--- A flag that tells whether one of the numbers passed is moved. Assumes nothing.
+-- A flag that tells whether one of the numbers passed is moved.
 use Prim.Native.Nat.{ℕ, _+_, _≤_, _<_}
 use mathlib.Core.Path.{_≡_, subst}
 use mathlib.Core.Logic.{_⊎_, inl, inr}

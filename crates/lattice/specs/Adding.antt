@@ -1,4 +1,4 @@
--- A loop that adds n signed numbers of bounded size: its total fits, and is their sum. Assumes nothing.
+-- A loop that adds n signed numbers of bounded size: its total fits, and is their sum.
 use Prim.Native.Nat.{ℕ, _+_, _*_, _^_, _≤_, _<_}
 use mathlib.Core.Path.{_≡_, refl, sym, _∙_, ap}
 use native.Mathlib.Nat.{le-antisymm, lt-of-le-of-lt, le-trans, mul-le-mul-right}

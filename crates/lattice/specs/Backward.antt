@@ -1,4 +1,4 @@
--- The backward table, worked out from the forward one. Assumes nothing.
+-- The backward table, worked out from the forward one.
 use Prim.Native.Nat.{ℕ, _+_, _*_, _/_, _%_, _≤_, _<_}
 use mathlib.Core.Path.{_≡_, refl, sym, _∙_, ap, subst}
 use mathlib.Core.Bool.{Bool, true, false}

@@ -1,4 +1,4 @@
--- Each test's promise allows one answer; `backward-determined` is in Backward.antt. Assumes nothing.
+-- Each test's promise allows one answer; `backward-determined` is in Backward.antt.
 use Prim.Native.Nat.{ℕ, _+_, _*_, _≤_, _<_}
 use mathlib.Core.Path.{_≡_}
 use mathlib.Core.Bool.{Bool}

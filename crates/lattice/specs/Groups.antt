@@ -1,4 +1,4 @@
--- A group's systems one at a time. Assumes nothing.
+-- A group's systems one at a time.
 use Prim.Native.Nat.{ℕ, _<_}
 use mathlib.Core.Path.{_≡_, sym}
 use native.Mathlib.Decide.{decLt}

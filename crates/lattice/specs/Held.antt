@@ -1,6 +1,6 @@
 -- Signed numbers as the machine holds them: a local holds bits, an operation reads numbers from them and stores the bits of its result.
 -- `Holds w n z`: the bits n read as z, which fits. `Value w y z`: what an operation computed, y, is z, which fits.
--- A need that asks `SFits w y` is `asks v`, and a return of y's bits is `reads (stored v)`, for v a `Value` built as the code is built. Assumes nothing.
+-- A need that asks `SFits w y` is `asks v`, and a return of y's bits is `reads (stored v)`, for v a `Value` built as the code is built.
 use mathlib.Core.Path.{_≡_, refl, sym, _∙_, ap, subst}
 use mathlib.Core.Bool.{Bool, true, false}
 use Prim.Native.Nat.{ℕ, _*_, _^_, _<_, _≤_}

@@ -1,4 +1,4 @@
--- Bounds on sums and products in ℤ, and what the machine reads back from a signed number's bits. Assumes nothing.
+-- Bounds on sums and products in ℤ, and what the machine reads back from a signed number's bits.
 use mathlib.Core.Path.{_≡_, refl, sym, ap, subst}
 use mathlib.Core.Bool.{Bool, true, false, cond, _&&_}
 use Prim.Native.Nat.{ℕ, zero, suc, _+_, _*_, _-_, _^_, _<_, _≤_}

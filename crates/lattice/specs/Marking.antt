@@ -1,4 +1,4 @@
--- Permutations by marks: a number whose bit v is set where v was met. Assumes nothing.
+-- Permutations by marks: a number whose bit v is set where v was met.
 use Prim.Native.Nat.{ℕ, zero, suc, _+_, _-_, _*_, _/_, _%_, _^_, _≤_, _<_}
 use mathlib.Core.Path.{_≡_, refl, sym, _∙_, ap, subst}
 use mathlib.Core.Logic.{_⊎_, inl, inr, ⊎-elim}

@@ -1,4 +1,4 @@
--- Spins: their products, their ranges, and what the machine reads back from their bits. Assumes nothing.
+-- Spins: their products, their ranges, and what the machine reads back from their bits.
 use Prim.Native.Nat.{ℕ, _^_, _≤_}
 use mathlib.Core.Path.{_≡_, refl, sym, _∙_, subst}
 use mathlib.Core.Logic.{inl, inr}

@@ -1,4 +1,4 @@
--- Sums in ℤ: one more summand, and a bound on the whole from a bound on each. Assumes nothing.
+-- Sums in ℤ: one more summand, and a bound on the whole from a bound on each.
 use Prim.Native.Nat.{ℕ, zero, suc, _+_, _*_, _<_, _≤_}
 use mathlib.Core.Path.{_≡_}
 use native.Mathlib.Nat.{suc-mul}

@@ -1,4 +1,4 @@
--- Neighbour tables: their cells, and that one sense of being inverse gives the other. Assumes nothing.
+-- Neighbour tables: their cells, and that one sense of being inverse gives the other.
 use Prim.Native.Nat.{ℕ, _+_, _*_, _≤_, _<_}
 use mathlib.Core.Path.{_≡_, sym, _∙_, ap}
 use mathlib.Core.List.{List}

@@ -1,4 +1,4 @@
--- How tests are put together, as the code puts its flags together. Assumes nothing.
+-- How tests are put together, as the code puts its flags together.
 use Prim.Native.Nat.{ℕ, _+_, _≤_, _<_, zero-le}
 use mathlib.Core.Path.{_≡_, refl, sym, _∙_, subst}
 use mathlib.Core.Logic.{_⊎_, inl, inr, ⊎-elim}

@@ -1,4 +1,4 @@
--- What a row over a lattice says of its bonds: where they end, and how large their terms and sums are. Assumes nothing.
+-- What a row over a lattice says of its bonds: where they end, and how large their terms and sums are.
 use Prim.Native.Nat.{ℕ, _+_, _*_, _≤_, _<_}
 use mathlib.Core.List.{List}
 use native.Mathlib.Nat.{le-refl}

@@ -1,4 +1,4 @@
--- The meter's promise allows one answer. Assumes nothing.
+-- The meter's promise allows one answer.
 use Prim.Native.Nat.{ℕ}
 use mathlib.Core.Path.{_≡_}
 use mathlib.Core.List.{List}

@@ -1,4 +1,4 @@
--- A system's row, as a part of all spins: its energy is the system's. Assumes nothing.
+-- A system's row, as a part of all spins: its energy is the system's.
 use Prim.Native.Nat.{ℕ, _+_, _-_, _*_, _≤_, _<_}
 use mathlib.Core.Path.{_≡_, ap}
 use mathlib.Core.List.{List}

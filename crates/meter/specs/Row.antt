@@ -1,4 +1,4 @@
--- One system's energy, from its own row of spins. Assumes nothing.
+-- One system's energy, from its own row of spins.
 use Prim.Native.Nat.{ℕ, _+_, _*_, _≤_, _<_}
 use mathlib.Core.Path.{_≡_}
 use mathlib.Core.List.{List}

@@ -1,10 +1,8 @@
--- From an accepted call to what the work asks, and from what the work leaves to the call's answer. Assumes nothing.
-use Prim.Native.Nat.{ℕ, _+_, _*_, _≤_, _<_}
+-- From an accepted call to what the work asks, and from what the work leaves to the call's answer.
+use Prim.Native.Nat.{ℕ}
 use mathlib.Core.Path.{_≡_, refl, sym, _∙_, subst⁻¹}
-use mathlib.Core.Bool.{Bool, true, false, not, _&&_}
-use mathlib.Core.List.{List, []}
-use native.Mathlib.Omega.{arith}
-use lib.ListN.{length, getD}
+use mathlib.Core.Bool.{Bool, true, false, _&&_}
+use mathlib.Core.List.{List}
 use lib.IntN.{ℤ}
 use lib.Ieee.{Float}
 use Rattle.paper.specs.declared.Group.{Group}
@@ -14,14 +12,13 @@ use Rattle.paper.specs.declared.Form.{Form}
 use Rattle.paper.specs.declared.Answer.{Answer}
 use Rattle.paper.specs.declared.Answer.the-variants.{Refused, Idle, Moved}
 use Rattle.paper.specs.Panel.Input.{Call, Choices, Buffers, size}
-use Rattle.paper.specs.Panel.Takes.{isCmr, isSw, isWolff, moves, flipsBy, greysBy}
-use Rattle.paper.specs.Refusal.Rule.{Kept}
+use Rattle.paper.specs.Panel.Takes.{isCmr, isSw, moves, flipsBy, greysBy}
 use Rattle.paper.specs.Refusal.Kept.{Valid, valid-kept}
 use Rattle.paper.specs.Answer.Move.{Answers}
 use Rattle.paper.specs.Law.ByTest.{never}
 use Rattle.moves.specs.Ready.{ready}
-use Rattle.moves.specs.Task.{callOf, choicesOf, buffersOf}
-use Rattle.moves.specs.Work.{LabelGiven, ChoiceGiven, Outputs, Rested, Went, WorkDone}
+use Rattle.moves.specs.Task.{callOf, buffersOf}
+use Rattle.moves.specs.Work.{LabelGiven, ChoiceGiven, Outputs, WorkDone}
 use Rattle.moves.specs.Cmr.{CmrGiven, GreyChoices, CmrDone}
 
 pub mode-cmr : (m : Mode) → isCmr m ≡ true → m ≡ Cmr

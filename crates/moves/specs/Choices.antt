@@ -1,4 +1,4 @@
--- What accepted choices tell the choosing functions. Assumes nothing.
+-- What accepted choices tell the choosing functions.
 use Prim.Native.Nat.{ℕ, _+_, _*_, _/_, _%_, _^_, _<_}
 use mathlib.Core.Path.{_≡_, refl, _∙_, ap}
 use mathlib.Core.Bool.{Bool, true, cond, _&&_}
@@ -7,13 +7,13 @@ use native.Mathlib.Nat.{div-add-mod', mod-lt, div-lt-iff-lt-mul}
 use lib.ListN.{length, getD}
 use lib.IntN.{ℤ}
 use Rattle.paper.specs.Panel.Input.{Call, Choices, Pattern, pattern, size, graph}
-use Rattle.paper.specs.Panel.Takes.{isPerm, isGperm, moves, entries, entry, permsBy}
+use Rattle.paper.specs.Panel.Takes.{isGperm, moves, entries, entry, permsBy}
 use Rattle.paper.specs.Site.Acting.{gauge, acts}
 use Rattle.paper.specs.Site.Bonds.{holds}
 use Rattle.paper.specs.Component.Labels.{Labels}
 use Rattle.paper.specs.Component.Sizes.{labelOf}
 use Rattle.paper.specs.Component.Marks.{Flags}
-use Rattle.paper.specs.Move.Moving.{permAt, reached, reachedBy, after}
+use Rattle.paper.specs.Move.Moving.{reached, reachedBy, after}
 use Rattle.paper.specs.Refusal.Rules.{Permutes}
 use Rattle.paper.specs.Law.Unique.{label-lt}
 use Rattle.paper.specs.Demand3.Step.{entry-lt}

@@ -1,9 +1,9 @@
--- The new columns that the choosing functions leave are those of the components' choices. Assumes nothing.
+-- The new columns that the choosing functions leave are those of the components' choices.
 use Prim.Native.Nat.{ℕ, _^_, _<_}
-use mathlib.Core.Path.{_≡_, refl, sym, _∙_, ap}
+use mathlib.Core.Path.{_≡_, refl, sym, ap}
 use mathlib.Core.Bool.{Bool, true, false, cond, _&&_}
 use mathlib.Core.List.{List}
-use lib.ListN.{length, getD}
+use lib.ListN.{getD}
 use Rattle.paper.specs.declared.Mode.{Mode}
 use Rattle.paper.specs.declared.Mode.the-variants.{Houd, Pair, Perm, Gperm, Jorg, Cmr}
 use Rattle.paper.specs.declared.Form.{Form}
@@ -14,7 +14,7 @@ use Rattle.paper.specs.Move.Moving.{flipBy, permAt}
 use Rattle.paper.specs.Law.ByTest.{never}
 use Rattle.columns.specs.Column.{shown, columnOf, flipped}
 use Rattle.rules.specs.Tables.{Table}
-use Rattle.choose.specs.Chosen.{isOne, reachedAt, flippedAt, permutedAt}
+use Rattle.choose.specs.Chosen.{reachedAt, flippedAt, permutedAt}
 use Rattle.moves.specs.Looked.{flag-at}
 use Rattle.moves.specs.Moved.{choiceColumn}
 use Rattle.moves.specs.Task.{chosenAt}

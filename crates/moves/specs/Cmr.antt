@@ -1,19 +1,16 @@
--- The work of a CMR task. Assumes nothing.
+-- The work of a CMR task.
 use Prim.Native.Nat.{ℕ, _+_, _*_, _^_, _≤_, _<_}
-use mathlib.Core.Path.{_≡_, refl, sym, _∙_, ap}
-use mathlib.Core.Bool.{Bool, true, false, cond, _&&_}
+use mathlib.Core.Path.{_≡_, refl}
+use mathlib.Core.Bool.{Bool, true, false, cond}
 use mathlib.Core.List.{List, []}
-use native.Mathlib.Omega.{arith}
 use lib.ListN.{length, getD}
-use lib.IntN.{ℤ, pos}
+use lib.IntN.{ℤ}
 use lib.Ieee.{Float}
 use Rattle.paper.specs.declared.Group.{Group}
 use Rattle.paper.specs.declared.Mode.the-variants.{Cmr}
 use Rattle.paper.specs.declared.Form.{Form}
-use Rattle.paper.specs.declared.Answer.{Answer}
-use Rattle.paper.specs.declared.Answer.the-variants.{Moved}
 use Rattle.paper.specs.declared.Sampler.{Sampler}
-use Rattle.paper.specs.Panel.Input.{Call, Choices, Pattern, pattern, patternOf, graph, size}
+use Rattle.paper.specs.Panel.Input.{Call, Choices, pattern, graph, size}
 use Rattle.paper.specs.Panel.Takes.{isSw, isWolff, moves, entries, takesGreys}
 use Rattle.paper.specs.Site.Acting.{acts, SomeActs}
 use Rattle.paper.specs.Site.Bonds.{samplerOf, holds, holdsGrey}
@@ -23,11 +20,10 @@ use Rattle.paper.specs.Component.Marks.{Flags, Marks}
 use Rattle.paper.specs.Move.Moving.{flipBy, Moves}
 use Rattle.columns.specs.Column.{shown, columnOf, column-lt, flipped, Columns}
 use Rattle.bonds.specs.Table.{Coupled, CmrOut, greyAt}
-use Rattle.label.specs.Contract.{Given, Labelled}
+use Rattle.label.specs.Contract.{Labelled}
 use Rattle.choose.specs.Chosen.{Becomes, reachedAt, greyedAt}
-use Rattle.moves.specs.Ready.{Ready, ReadyFor}
-use Rattle.moves.specs.Looked.{seenAt}
-use Rattle.moves.specs.Task.{Choosable, chosenAt}
+use Rattle.moves.specs.Ready.{Ready}
+use Rattle.moves.specs.Task.{chosenAt}
 use Rattle.moves.specs.Work.{Reports}
 
 -- ---- label: blue components

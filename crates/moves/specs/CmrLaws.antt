@@ -1,27 +1,24 @@
--- From the steps of a CMR task to the paper's move. Assumes nothing.
-use Prim.Native.Nat.{ℕ, _+_, _*_, _≤_, _<_}
-use mathlib.Core.Path.{_≡_, refl, sym, _∙_, ap}
-use mathlib.Core.Bool.{Bool, true, false, cond, _&&_}
-use mathlib.Core.List.{List, []}
-use native.Mathlib.Omega.{arith}
+-- From the steps of a CMR task to the paper's move.
+use Prim.Native.Nat.{ℕ, _<_}
+use mathlib.Core.Path.{_≡_, refl, _∙_}
+use mathlib.Core.Bool.{true, cond}
+use mathlib.Core.List.{List}
 use lib.ListN.{length, getD}
 use lib.IntN.{ℤ, pos}
 use lib.Ieee.{Float}
 use Rattle.paper.specs.declared.Group.{Group}
 use Rattle.paper.specs.declared.Mode.the-variants.{Cmr}
 use Rattle.paper.specs.declared.Form.{Form}
-use Rattle.paper.specs.Panel.Input.{Call, Choices, Pattern, pattern, graph, size}
-use Rattle.paper.specs.Panel.Takes.{isPerm, moves, takesGreys}
-use Rattle.paper.specs.Site.Acting.{acts}
-use Rattle.paper.specs.Site.Bonds.{samplerOf, holds, holdsGrey}
+use Rattle.paper.specs.Panel.Input.{Call, Choices, graph}
+use Rattle.paper.specs.Panel.Takes.{moves}
+use Rattle.paper.specs.Site.Bonds.{holdsGrey}
 use Rattle.paper.specs.Component.Labels.{Labels}
 use Rattle.paper.specs.Component.Sizes.{labelOf}
-use Rattle.paper.specs.Component.Marks.{Flags, Marks}
-use Rattle.paper.specs.Move.Moving.{flipSome, greyBit, greyAt, reached, after, final, Moves}
+use Rattle.paper.specs.Move.Moving.{flipSome, greyBit, greyAt, reached, after, Moves}
 use Rattle.paper.specs.Law.ByTest.{never}
 use Rattle.columns.specs.Column.{shown, columnOf, Columns}
-use Rattle.choose.specs.Chosen.{Becomes, reachedAt, greyedAt}
-use Rattle.moves.specs.Ready.{Ready, ReadyFor}
+use Rattle.choose.specs.Chosen.{reachedAt}
+use Rattle.moves.specs.Ready.{Ready}
 use Rattle.moves.specs.Looked.{flag-at}
 use Rattle.moves.specs.Moved.{Rows}
 use Rattle.moves.specs.Task.{callOf, choicesOf, WroteBack}

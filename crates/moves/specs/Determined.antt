@@ -1,16 +1,15 @@
--- What the public functions promise, they promise of one result. Assumes nothing.
+-- What the public functions promise, they promise of one result.
 use Prim.Native.Nat.{ℕ}
-use mathlib.Core.Path.{_≡_, refl, sym, _∙_}
+use mathlib.Core.Path.{_≡_, sym, _∙_}
 use mathlib.Core.Bool.{Bool}
 use mathlib.Core.List.{List}
 use lib.IntN.{ℤ}
-use lib.ListN.{length}
 use lib.Seq.{ext-getD}
 use Rattle.paper.specs.declared.Group.{Group}
 use Rattle.paper.specs.declared.Mode.{Mode}
 use Rattle.paper.specs.declared.Answer.{Answer}
 use Rattle.paper.specs.Panel.Input.{Call, Choices, Buffers}
-use Rattle.paper.specs.Component.Marks.{Flags, Tells}
+use Rattle.paper.specs.Component.Marks.{Flags}
 use Rattle.paper.specs.Answer.Move.{Answers}
 use Rattle.paper.specs.Law.Determined.{Same, determined}
 use Rattle.columns.specs.Determined.{columns-unique}

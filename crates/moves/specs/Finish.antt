@@ -1,21 +1,18 @@
--- What the steps of a task come to: the spins that the paper's move leaves. Assumes nothing.
-use Prim.Native.Nat.{ℕ, zero, suc, _+_, _*_, _≤_, _<_}
+-- What the steps of a task come to: the spins that the paper's move leaves.
+use Prim.Native.Nat.{ℕ, _<_}
 use mathlib.Core.Path.{_≡_, refl, sym, _∙_, ap}
 use mathlib.Core.Logic.{_≢_}
 use mathlib.Core.Bool.{Bool, true, false, cond, _&&_}
 use mathlib.Core.List.{List}
-use native.Mathlib.Omega.{arith}
 use lib.ListN.{length, getD}
-use lib.IntN.{ℤ, pos, negℤ, _*ℤ_}
-use Rattle.paper.specs.declared.Mode.{Mode}
-use Rattle.paper.specs.declared.Mode.the-variants.{Houd, Pair, Perm, Gperm, Jorg, Cmr}
+use lib.IntN.{ℤ, negℤ, _*ℤ_}
 use Rattle.paper.specs.declared.Form.{Form}
 use Rattle.paper.specs.declared.Form.the-variants.{Sw, Wolff, Observe}
 use Rattle.paper.specs.Panel.Input.{Call, Choices, Pattern, pattern, spin, size, system}
-use Rattle.paper.specs.Panel.Takes.{isPerm, isGperm, isCmr, moves, takesGreys}
+use Rattle.paper.specs.Panel.Takes.{isGperm, isCmr, moves, takesGreys}
 use Rattle.paper.specs.Site.Acting.{gauge, acts}
 use Rattle.paper.specs.Component.Sizes.{labelOf}
-use Rattle.paper.specs.Move.Moving.{flipSome, greyBit, greyAt, reached, reachedBy, after, afterGrey, final, Moves}
+use Rattle.paper.specs.Move.Moving.{flipSome, greyBit, greyAt, reached, reachedBy, after, final, Moves}
 use Rattle.paper.specs.Refusal.Rules.{Spin}
 use Rattle.paper.specs.Law.Patterns.{flip-spin}
 use Rattle.paper.specs.Law.ByTest.{never}

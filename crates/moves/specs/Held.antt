@@ -1,4 +1,4 @@
--- A table of bonds that was worked out on columns marks the bonds that hold. Assumes nothing.
+-- A table of bonds that was worked out on columns marks the bonds that hold.
 use Prim.Native.Nat.{ℕ, _<_}
 use mathlib.Core.Path.{_≡_, refl, sym, _∙_, ap}
 use mathlib.Core.Bool.{Bool, true, false, cond}

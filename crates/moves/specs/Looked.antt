@@ -1,17 +1,16 @@
--- From columns to acting sites, and from tables of bonds to labels. Assumes nothing.
-use Prim.Native.Nat.{ℕ, zero, suc, _+_, _*_, _^_, _≤_, _<_}
+-- From columns to acting sites, and from tables of bonds to labels.
+use Prim.Native.Nat.{ℕ, _<_}
 use mathlib.Core.Path.{_≡_, refl, sym, _∙_, ap}
 use mathlib.Core.Logic.{inl, inr}
-use mathlib.Core.Bool.{Bool, true, false, _&&_}
+use mathlib.Core.Bool.{Bool, true, false}
 use mathlib.Core.List.{List}
-use native.Mathlib.Omega.{arith}
 use lib.Dec.{eqb}
-use lib.ListN.{length, getD}
-use lib.IntN.{ℤ, pos, negsuc, _*ℤ_}
+use lib.ListN.{getD}
+use lib.IntN.{ℤ, pos, _*ℤ_}
 use Rattle.paper.specs.declared.Group.{Group}
 use Rattle.paper.specs.declared.Mode.{Mode}
 use Rattle.paper.specs.declared.Mode.the-variants.{Houd, Pair, Perm, Gperm, Jorg, Cmr}
-use Rattle.paper.specs.Panel.Input.{Graph, Call, Pattern, patternOf, size}
+use Rattle.paper.specs.Panel.Input.{Call, Pattern, patternOf, size}
 use Rattle.paper.specs.Panel.Takes.{isGperm}
 use Rattle.paper.specs.Site.Acting.{gauge, testBy, acts, SomeActs, NoneActs}
 use Rattle.paper.specs.Component.Sizes.{bit}

@@ -1,28 +1,25 @@
--- From new columns to moved spins. Assumes nothing.
-use Prim.Native.Nat.{ℕ, zero, suc, _+_, _*_, _/_, _^_, _≤_, _<_}
+-- From new columns to moved spins.
+use Prim.Native.Nat.{ℕ, _*_, _/_, _<_}
 use mathlib.Core.Path.{_≡_, refl, sym, _∙_, ap}
-use mathlib.Core.Logic.{inl, inr, _≢_}
 use mathlib.Core.Bool.{Bool, true, false, cond, _&&_}
 use mathlib.Core.List.{List}
-use native.Mathlib.Omega.{arith}
-use lib.Dec.{eqb, ltb}
+use lib.Dec.{ltb}
 use lib.ListN.{length, getD}
-use lib.IntN.{ℤ, pos, negsuc, negℤ, _*ℤ_}
+use lib.IntN.{ℤ, negℤ, _*ℤ_}
 use Rattle.paper.specs.declared.Mode.{Mode}
 use Rattle.paper.specs.declared.Mode.the-variants.{Houd, Pair, Perm, Gperm, Jorg, Cmr}
 use Rattle.paper.specs.declared.Form.{Form}
-use Rattle.paper.specs.declared.Form.the-variants.{Sw, Wolff, Observe}
-use Rattle.paper.specs.Panel.Input.{Call, Choices, Pattern, pattern, spin, size, system}
-use Rattle.paper.specs.Panel.Takes.{isPerm, isGperm, isCmr, moves, takesGreys}
+use Rattle.paper.specs.Panel.Input.{Call, Choices, Pattern, pattern, size}
+use Rattle.paper.specs.Panel.Takes.{isPerm, isGperm, moves}
 use Rattle.paper.specs.Site.Acting.{acts, gauge}
 use Rattle.paper.specs.Component.Sizes.{labelOf}
-use Rattle.paper.specs.Move.Moving.{partner, flipBy, permAt, greyAt, greyBit, flipSome, actBy, reached, reachedBy, after, afterGrey, final, Moves}
+use Rattle.paper.specs.Move.Moving.{partner, flipBy, permAt, flipSome, actBy, reached, after}
 use Rattle.paper.specs.Refusal.Rules.{Spin, Permutes}
 use Rattle.paper.specs.Law.Patterns.{flip-spin, times-spin, ungauge, gauge-cancel}
 use Rattle.paper.specs.Law.Partners.{partner-lt}
 use Rattle.paper.specs.Law.ByTest.{and-right}
 use Rattle.paper.specs.Demand3.Turns.{form-moves}
-use Rattle.columns.specs.Column.{shown, columnOf, shown-column, column-ext, shown-spin, signBy, flipped, Columns}
+use Rattle.columns.specs.Column.{shown, columnOf, shown-column, column-ext, signBy, flipped, Columns}
 use Rattle.moves.specs.Ready.{ReadyFor}
 use Rattle.moves.specs.Looked.{seenAt, one-times, gauge-spin}
 

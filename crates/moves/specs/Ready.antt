@@ -1,4 +1,4 @@
--- What an accepted call tells the work. Assumes nothing.
+-- What an accepted call tells the work.
 use Prim.Native.Nat.{ℕ, suc, _+_, _*_, _≤_, _<_}
 use mathlib.Core.Path.{_≡_}
 use mathlib.Core.Bool.{true}

@@ -1,33 +1,27 @@
--- What the steps of a task ask and promise. Assumes nothing.
-use Prim.Native.Nat.{ℕ, _+_, _*_, _^_, _≤_, _<_}
+-- What the steps of a task ask and promise.
+use Prim.Native.Nat.{ℕ, _*_, _^_, _≤_, _<_}
 use mathlib.Core.Path.{_≡_}
-use mathlib.Core.Bool.{Bool, true, false, cond}
+use mathlib.Core.Bool.{Bool, true, cond}
 use mathlib.Core.List.{List}
 use lib.ListN.{length, getD}
 use lib.IntN.{ℤ}
 use lib.Ieee.{Float}
 use Rattle.paper.specs.declared.Group.{Group}
 use Rattle.paper.specs.declared.Mode.{Mode}
-use Rattle.paper.specs.declared.Mode.the-variants.{Cmr}
 use Rattle.paper.specs.declared.Form.{Form}
-use Rattle.paper.specs.declared.Answer.{Answer}
-use Rattle.paper.specs.declared.Answer.the-variants.{Refused, Idle, Moved}
-use Rattle.paper.specs.Panel.Input.{Call, Choices, Buffers, member, graph, size}
-use Rattle.paper.specs.Panel.Takes.{isPerm, isGperm, isCmr, isDrawn, isSw, isWolff, moves, entries, flipsBy, permsBy}
-use Rattle.paper.specs.Site.Acting.{testBy, acts, SomeActs, NoneActs}
-use Rattle.paper.specs.Site.Bonds.{holds, holdsGrey}
-use Rattle.paper.specs.Component.Labels.{Labels}
-use Rattle.paper.specs.Component.Sizes.{labelOf, Sized, Counted, Largest}
+use Rattle.paper.specs.Panel.Input.{Call, Choices, Buffers, member}
+use Rattle.paper.specs.Panel.Takes.{isPerm, isGperm, isDrawn, isWolff, moves, entries, flipsBy}
+use Rattle.paper.specs.Site.Acting.{testBy}
+use Rattle.paper.specs.Site.Bonds.{holds}
+use Rattle.paper.specs.Component.Sizes.{labelOf, Sized}
 use Rattle.paper.specs.Component.Marks.{Flags, Tells}
-use Rattle.paper.specs.Move.Moving.{reachedBy, permAt, Moves}
-use Rattle.paper.specs.Refusal.Rules.{Permutes, Distinct}
+use Rattle.paper.specs.Refusal.Rules.{Distinct}
 use Rattle.columns.specs.Column.{Inside, Spinning, Columns}
-use Rattle.choose.specs.Chosen.{isOne, reachedAt}
+use Rattle.choose.specs.Chosen.{reachedAt}
 use Rattle.columns.specs.Rows.{Signed, Written}
 use Rattle.bonds.specs.Table.{Coupled, ActiveIn}
 use Rattle.rules.specs.Laws.{SomeSite}
-use Rattle.moves.specs.Ready.{Ready}
-use Rattle.moves.specs.Looked.{seenBy, seenAt}
+use Rattle.moves.specs.Looked.{seenBy}
 use Rattle.moves.specs.Moved.{choiceColumn}
 
 abbrev pub callOf : Mode → Form → ℕ → ℕ → ℕ → List ℕ → List ℕ → List ℤ → Group → Float → List Float → ℕ → ℕ → Call

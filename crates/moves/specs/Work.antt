@@ -1,4 +1,4 @@
--- What the work of a whole task asks and promises, in every mode but CMR. Assumes nothing.
+-- What the work of a whole task asks and promises, in every mode but CMR.
 use Prim.Native.Nat.{ℕ, _+_, _*_, _≤_, _<_}
 use mathlib.Core.Path.{_≡_}
 use mathlib.Core.Bool.{Bool, true, false}

@@ -1,4 +1,4 @@
--- Arrays that are filled place by place, and columns bit by bit. Assumes nothing.
+-- Arrays that are filled place by place, and columns bit by bit.
 use mathlib.Core.Path.{_≡_, refl, sym, _∙_, ap, subst⁻¹}
 use mathlib.Core.Bool.{Bool, true, false}
 use mathlib.Core.List.{List}

@@ -1,4 +1,4 @@
--- What the code writes at the first places, as a whole flip. Assumes nothing.
+-- What the code writes at the first places, as a whole flip.
 use mathlib.Core.Path.{_≡_, refl, sym, _∙_, ap}
 use mathlib.Core.Bool.{Bool, cond}
 use mathlib.Core.List.{List}

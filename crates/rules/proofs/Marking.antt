@@ -1,4 +1,4 @@
--- The look-up of every site's column, one site at a time. Assumes nothing.
+-- The look-up of every site's column, one site at a time.
 use mathlib.Core.Path.{_≡_, sym, _∙_, ap, subst}
 use mathlib.Core.Bool.{Bool, true, false}
 use mathlib.Core.List.{List}

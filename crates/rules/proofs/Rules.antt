@@ -1,4 +1,4 @@
--- The tests of the rules, one place or one pair at a time. Assumes nothing.
+-- The tests of the rules, one place or one pair at a time.
 use mathlib.Core.Path.{_≡_, refl, sym, _∙_, ap}
 use mathlib.Core.Logic.{inl, inr}
 use mathlib.Core.Bool.{true, false}

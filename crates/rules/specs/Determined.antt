@@ -1,4 +1,4 @@
--- For one input each public function's promise allows one result, and one content of the buffer that it was lent. Assumes nothing.
+-- For one input each public function's promise allows one result, and one content of the buffer that it was lent.
 use Prim.Native.Nat.{ℕ, _/_, _^_, _<_}
 use mathlib.Core.Path.{_≡_, refl, sym, _∙_}
 use mathlib.Core.Bool.{Bool, true, false}

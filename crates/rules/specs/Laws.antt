@@ -1,4 +1,4 @@
--- The rules on the column of a pattern are the rules on the pattern. Assumes nothing.
+-- The rules on the column of a pattern are the rules on the pattern.
 use Prim.Native.Nat.{ℕ, _*_, _/_, _<_}
 use mathlib.Core.Path.{_≡_, refl, sym, _∙_, ap, subst}
 use mathlib.Core.Bool.{Bool, true, false, cond}

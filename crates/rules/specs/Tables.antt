@@ -1,4 +1,4 @@
--- What the rules are worked out on: a pattern in an array, tables over all columns, and the bytes that a look-up leaves. Assumes nothing.
+-- What the rules are worked out on: a pattern in an array, tables over all columns, and the bytes that a look-up leaves.
 use Prim.Native.Nat.{ℕ, _^_, _≤_, _<_}
 use mathlib.Core.Path.{_≡_}
 use mathlib.Core.Bool.{Bool}

@@ -1,4 +1,4 @@
--- A move's promise allows one answer and one content of every buffer. Assumes nothing.
+-- A move's promise allows one answer and one content of every buffer.
 use Rattle.paper.specs.declared.Answer.{Answer}
 use Rattle.paper.specs.Panel.Input.{Call, Choices, Buffers}
 use Rattle.paper.specs.Answer.Move.{Answers}

@@ -1,4 +1,4 @@
--- The published names of the rules, as modes. Assumes nothing.
+-- The published names of the rules, as modes.
 use Rattle.paper.specs.declared.Mode.{Mode}
 use Rattle.paper.specs.declared.Mode.the-variants.{Houd, Pair, Perm, Gperm}
 use Rattle.steps.specs.declared.ActiveRule.{ActiveRule}

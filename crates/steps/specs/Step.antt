@@ -1,19 +1,13 @@
--- From the verdicts of the tests to a move's answer. Assumes nothing.
+-- From the verdicts of the tests to a move's answer.
 use Prim.Native.Nat.{ℕ, zero, suc}
 use mathlib.Core.Path.{_≡_, refl}
-use mathlib.Core.List.{List, [], _∷_, _++_}
+use mathlib.Core.List.{List, [], _∷_}
 use native.Mathlib.Omega.{arith}
 use lib.ListN.{length}
-use lib.IntN.{ℤ}
-use lib.Ieee.{Float}
-use Rattle.paper.specs.declared.Group.{Group}
-use Rattle.paper.specs.declared.Mode.{Mode}
-use Rattle.paper.specs.declared.Form.{Form}
-use Rattle.paper.specs.declared.Lengths.{Lengths}
 use Rattle.paper.specs.declared.Answer.the-variants.{Refused}
 use Rattle.paper.specs.Panel.Input.{Call, Choices, Buffers}
 use Rattle.paper.specs.Refusal.Rule.{Rule, Kept, Broken}
-use Rattle.paper.specs.Refusal.Rules.{lengthsOf, choiceRules, rules}
+use Rattle.paper.specs.Refusal.Rules.{lengthsOf, choiceRules}
 use Rattle.paper.specs.Refusal.Kept.{Sound, Valid, fit-of}
 use Rattle.paper.specs.Refusal.Verdict.{Verdict, broken-first, broken-later}
 use Rattle.paper.specs.Answer.Move.{Answers}

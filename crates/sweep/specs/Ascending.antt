@@ -1,4 +1,4 @@
--- Tasks in ascending order: what holds once the first K have run, and what one more does to it. Assumes nothing.
+-- Tasks in ascending order: what holds once the first K have run, and what one more does to it.
 use Prim.Native.Nat.{ℕ, _+_, _<_, _≤_}
 use mathlib.Core.Path.{_≡_, refl, sym, _∙_, ap}
 use mathlib.Core.Logic.{_⊎_, inl, inr, _≢_}

@@ -1,4 +1,4 @@
--- The sweep has one answer, and leaves one content of every buffer. Assumes nothing.
+-- The sweep has one answer, and leaves one content of every buffer.
 use Prim.Native.Nat.{ℕ}
 use mathlib.Core.List.{List}
 use lib.IntN.{ℤ}

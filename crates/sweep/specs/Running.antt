@@ -1,4 +1,4 @@
--- What the functions that run a task ask and promise. Assumes nothing.
+-- What the functions that run a task ask and promise.
 use Prim.Native.Nat.{ℕ, _+_, _-_, _*_}
 use mathlib.Core.Path.{_≡_, refl, sym, _∙_, ap}
 use mathlib.Core.Logic.{_≢_}

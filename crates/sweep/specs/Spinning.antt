@@ -1,4 +1,4 @@
--- A task keeps every spin +1 or -1. Assumes nothing.
+-- A task keeps every spin +1 or -1.
 use Prim.Native.Nat.{ℕ, _+_, _*_, _/_, _%_, _<_}
 use mathlib.Core.Path.{_≡_, ap}
 use mathlib.Core.Logic.{_⊎_, inl, inr, _≢_}

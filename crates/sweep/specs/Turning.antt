@@ -1,4 +1,4 @@
--- One turn of the sweep's loop. Assumes nothing.
+-- One turn of the sweep's loop.
 use Prim.Native.Nat.{ℕ, zero, suc, _+_, _≤_, _<_}
 use mathlib.Core.Path.{_≡_}
 use mathlib.Core.Bool.{Bool, true, false}

@@ -1,4 +1,4 @@
--- The whole sweep. Assumes nothing.
+-- The whole sweep.
 use Prim.Native.Nat.{ℕ, zero, suc}
 use mathlib.Core.Path.{_≡_, refl}
 use mathlib.Core.List.{List}

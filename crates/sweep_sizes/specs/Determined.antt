@@ -1,4 +1,4 @@
--- The verdict on sizes is the only one. Assumes nothing.
+-- The verdict on sizes is the only one.
 use Prim.Native.Nat.{ℕ}
 use mathlib.Core.Path.{_≡_}
 use Rattle.paper.specs.Refusal.Verdict.{Verdict, verdict-unique}

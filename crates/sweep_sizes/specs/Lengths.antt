@@ -1,4 +1,4 @@
--- The exact lengths of what a sweep is lent, as the functions are handed them. Assumes nothing.
+-- The exact lengths of what a sweep is lent, as the functions are handed them.
 use Prim.Native.Nat.{_+_, _*_}
 use mathlib.Core.Path.{_≡_}
 use mathlib.Core.List.{List, [], _∷_}

@@ -2,9 +2,7 @@
 use paper::Form;
 use paper::Mode;
 use tasks::Plan;
-ghost use mathlib.Core.Path.{_≡_};
 ghost use Rattle.paper.specs.Component.Marks.{Tells};
-ghost use Rattle.paper.specs.Refusal.Rules.{When};
 ghost use Rattle.paper.specs.Refusal.Verdict.{Verdict};
 ghost use Rattle.tasks.specs.Plan.{Planned};
 ghost use Rattle.sweep_sizes.specs.Lengths.{Always, Drawn, Chosen, sizeRules};

@@ -1,4 +1,4 @@
--- A test that is made only if its input is taken. Assumes nothing.
+-- A test that is made only if its input is taken.
 use Prim.Native.Nat.{ℕ}
 use mathlib.Core.Path.{_≡_}
 use mathlib.Core.Bool.{Bool}

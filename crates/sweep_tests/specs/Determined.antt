@@ -1,4 +1,4 @@
--- The verdict on a sweep is the only one. Assumes nothing.
+-- The verdict on a sweep is the only one.
 use Prim.Native.Nat.{ℕ}
 use mathlib.Core.Path.{_≡_}
 use Rattle.paper.specs.Panel.Input.{Buffers}

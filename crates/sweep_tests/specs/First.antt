@@ -1,4 +1,4 @@
--- Tests 1 to 7 and the mask bytes, over the whole sweep. Assumes nothing.
+-- Tests 1 to 7 and the mask bytes, over the whole sweep.
 use Prim.Native.Nat.{ℕ, zero, suc, _*_, _≤_, _<_}
 use mathlib.Core.Path.{_≡_, refl}
 use mathlib.Core.List.{List, [], _∷_, _++_}

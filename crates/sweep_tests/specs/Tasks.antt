@@ -1,4 +1,4 @@
--- Tests 8, 9 and 10 of unmasked tasks in ascending order. Assumes nothing.
+-- Tests 8, 9 and 10 of unmasked tasks in ascending order.
 use Prim.Native.Nat.{ℕ, zero, suc, _+_, _*_, _/_, _≤_, _<_}
 use mathlib.Core.Path.{_≡_, refl, _∙_}
 use mathlib.Core.Logic.{_⊎_, inl, inr}

@@ -1,4 +1,4 @@
--- The tests of a sweep, put together: the paper's rules. Assumes nothing.
+-- The tests of a sweep, put together: the paper's rules.
 use Prim.Native.Nat.{ℕ, zero, suc}
 use mathlib.Core.Path.{_≡_, refl}
 use mathlib.Core.Logic.{inl, inr}

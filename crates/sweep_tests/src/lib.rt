@@ -3,7 +3,7 @@ use sweep_sizes::SweepLengths;
 use tasks::Plan;
 ghost use lib.ListN.{length};
 ghost use Rattle.paper.specs.Component.Marks.{Tells};
-ghost use Rattle.paper.specs.Refusal.Rules.{When, SmallCouplings};
+ghost use Rattle.paper.specs.Refusal.Rules.{When};
 ghost use Rattle.paper.specs.Refusal.Verdict.{Verdict};
 ghost use Rattle.paper.specs.Answer.Sweep.{sweepRules};
 ghost use Rattle.tasks.specs.Plan.{tasksOf, sweepOf, lent};

@@ -1,4 +1,4 @@
--- A table of eight numbers filled from the front. Assumes nothing.
+-- A table of eight numbers filled from the front.
 use Prim.Native.Nat.{ℕ, zero, suc, _+_, _<_}
 use mathlib.Core.Path.{_≡_, refl, sym, _∙_, ap}
 use mathlib.Core.Logic.{_≢_}

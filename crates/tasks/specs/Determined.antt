@@ -1,4 +1,4 @@
--- Each function has one result. Assumes nothing.
+-- Each function has one result.
 use Prim.Native.Nat.{ℕ, _*_, _/_}
 use mathlib.Core.Path.{_≡_, ap, _∙_}
 use mathlib.Core.Bool.{Bool}

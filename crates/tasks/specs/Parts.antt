@@ -1,4 +1,4 @@
--- A part of a buffer that is lent and comes back written, also where the buffer ends before the part does. Assumes nothing.
+-- A part of a buffer that is lent and comes back written, also where the buffer ends before the part does.
 use Prim.Native.Nat.{ℕ, min, _+_, _-_, _*_, _≤_, _<_}
 use mathlib.Core.Path.{_≡_, refl, sym, _∙_, ap}
 use mathlib.Core.Logic.{_⊎_, inl, inr, _≢_}

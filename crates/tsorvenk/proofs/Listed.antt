@@ -1,9 +1,7 @@
--- The numbers of refusals are those of the paper's list. Assumes nothing.
-use Prim.Native.Nat.{ℕ, _≤_, _<_}
-use mathlib.Core.Path.{_≡_, refl}
+-- The numbers of refusals are those of the paper's list.
+use Prim.Native.Nat.{ℕ, _≤_}
 use mathlib.Core.Logic.{inl, inr}
-use mathlib.Core.List.{List, [], _∷_, _++_}
-use native.Mathlib.Omega.{arith}
+use mathlib.Core.List.{List, [], _∷_}
 use Rattle.paper.specs.Refusal.Rule.{Rule, Broken}
 
 -- 1 to 11

@@ -1,4 +1,4 @@
--- The returned number stands for the sweep's answer, and the counts for its counts. Assumes nothing.
+-- The returned number stands for the sweep's answer, and the counts for its counts.
 use Prim.Native.Nat.{ℕ, zero, suc}
 use mathlib.Core.Path.{_≡_, refl, sym, subst}
 use mathlib.Core.Logic.{inl, inr}

@@ -1,4 +1,4 @@
--- The returned number stands for what became of the frames. Assumes nothing.
+-- The returned number stands for what became of the frames.
 use Prim.Native.Nat.{ℕ}
 use mathlib.Core.Path.{_≡_, refl, sym, subst}
 use mathlib.Core.List.{List, [], _∷_}

@@ -1,4 +1,4 @@
--- What `tsorvenk_energy` answers. Assumes nothing.
+-- What `tsorvenk_energy` answers.
 use Prim.Native.Nat.{ℕ, zero, suc}
 use mathlib.Core.Path.{_≡_}
 use mathlib.Core.List.{List, _∷_}

@@ -1,4 +1,4 @@
--- What `tsorvenk_frames` answers. Assumes nothing.
+-- What `tsorvenk_frames` answers.
 use Prim.Native.Nat.{ℕ}
 use mathlib.Core.Path.{_≡_}
 use mathlib.Core.List.{List, [], _∷_}

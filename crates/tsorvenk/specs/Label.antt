@@ -1,4 +1,4 @@
--- What `tsorvenk_label` answers: 0 where all is written, else the refusal. Assumes nothing.
+-- What `tsorvenk_label` answers: 0 where all is written, else the refusal.
 use Prim.Native.Nat.{ℕ, zero, suc}
 use Rattle.label.specs.declared.Labelling.{Labelling}
 use Rattle.label.specs.declared.Labelling.the-variants.{Unlabelled, Written}

@@ -1,4 +1,4 @@
--- What `tsorvenk_step` answers. Assumes nothing.
+-- What `tsorvenk_step` answers.
 use Prim.Native.Nat.{ℕ}
 use mathlib.Core.Path.{_≡_}
 use Rattle.paper.specs.Panel.Input.{Call, Choices, Buffers}

@@ -1,4 +1,4 @@
--- What `tsorvenk_sweep` answers. Assumes nothing.
+-- What `tsorvenk_sweep` answers.
 use Prim.Native.Nat.{ℕ, zero, suc}
 use mathlib.Core.Path.{_≡_}
 use mathlib.Core.Logic.{_⊎_}

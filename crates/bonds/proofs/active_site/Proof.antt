@@ -1,4 +1,4 @@
--- `bonds::active_site` meets its contract. Assumes nothing.
+-- `bonds::active_site` meets its contract.
 use Prim.Native.Nat.{ℕ, _+_, _*_, _≤_, _-_}
 use mathlib.Core.Path.{_≡_, ap, _∙_}
 use native.Mathlib.Nat.{le-antisymm}

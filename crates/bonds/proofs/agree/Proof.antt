@@ -1,4 +1,4 @@
--- `bonds::agree` meets its contract. Assumes nothing.
+-- `bonds::agree` meets its contract.
 use Rattle.bonds.proofs.Bits.{pair-same}
 use Rattle.bonds.proofs.agree.Statement.{statement}
 use Rattle.bonds.proofs.agree.Tie as tie

@@ -1,4 +1,4 @@
--- `bonds::aligned` meets its contract: the coupling, or minus it, as the two bits agree. Assumes nothing.
+-- `bonds::aligned` meets its contract: the coupling, or minus it, as the two bits agree.
 use Prim.Native.Nat.{_%_}
 use mathlib.Core.Path.{_≡_, sym, ap, _∙_}
 use mathlib.Core.Bool.{Bool, true, false, cond}

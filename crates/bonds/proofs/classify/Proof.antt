@@ -1,4 +1,4 @@
--- `bonds::classify` meets its contract. Assumes nothing.
+-- `bonds::classify` meets its contract.
 use mathlib.Core.Path.{_≡_, sym, ap, _∙_}
 use mathlib.Core.Bool.{Bool, true, false, Bool·beq}
 use Prim.Native.Nat.{_≤_}

@@ -1,4 +1,4 @@
--- `bonds::clear` meets its contract. Assumes nothing.
+-- `bonds::clear` meets its contract.
 use Prim.Native.Nat.{ℕ, _≤_, _-_}
 use mathlib.Core.Path.{_≡_, refl, _∙_}
 use mathlib.Core.Bool.{Bool, false}

@@ -1,4 +1,4 @@
--- `bonds::cmr_bonds` meets its contract. Assumes nothing.
+-- `bonds::cmr_bonds` meets its contract.
 use Prim.Native.Nat.{_≤_, _-_}
 use mathlib.Core.Path.{sym, _∙_}
 use native.Mathlib.Nat.{le-antisymm}

@@ -1,4 +1,4 @@
--- `bonds::cmr_site` meets its contract. Assumes nothing.
+-- `bonds::cmr_site` meets its contract.
 use Prim.Native.Nat.{_+_, _*_, _≤_, _-_}
 use mathlib.Core.Path.{_≡_, ap, _∙_}
 use native.Mathlib.Nat.{le-antisymm}

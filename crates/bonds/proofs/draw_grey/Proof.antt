@@ -1,4 +1,4 @@
--- `bonds::draw_grey` meets its contract: each arm knows which constructor the kind is. Assumes nothing.
+-- `bonds::draw_grey` meets its contract: each arm knows which constructor the kind is.
 use mathlib.Core.Path.{sym, ap, _∙_}
 use borrow.Author.Needs.{needs}
 use Rattle.paper.specs.declared.BondKind.{BondKind}

@@ -1,4 +1,4 @@
--- `bonds::jorg_bond` meets its contract. Assumes nothing.
+-- `bonds::jorg_bond` meets its contract.
 use mathlib.Core.Path.{ap, _∙_}
 use borrow.Author.Tests.{eq-eqb, ne-eqb}
 use lib.IntN.{ℤ}

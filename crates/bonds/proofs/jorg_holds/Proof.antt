@@ -1,4 +1,4 @@
--- `bonds::jorg_holds` meets its contract: the machine's product is the strength, which fits. Assumes nothing.
+-- `bonds::jorg_holds` meets its contract: the machine's product is the strength, which fits.
 use Prim.Native.Nat.{_/_, _≤_}
 use mathlib.Core.Path.{ap, _∙_}
 use native.Mathlib.Nat.{le-trans}

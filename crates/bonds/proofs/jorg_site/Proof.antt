@@ -1,4 +1,4 @@
--- `bonds::jorg_site` meets its contract. Assumes nothing.
+-- `bonds::jorg_site` meets its contract.
 use Prim.Native.Nat.{_+_, _*_, _≤_, _-_}
 use mathlib.Core.Path.{_≡_, ap, _∙_}
 use mathlib.Core.Bool.{_&&_}

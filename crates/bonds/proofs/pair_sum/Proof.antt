@@ -1,4 +1,4 @@
--- `bonds::pair_sum` meets its contract: the total is the sum over the pairs passed, and the two columns are past them. Assumes nothing.
+-- `bonds::pair_sum` meets its contract: the total is the sum over the pairs passed, and the two columns are past them.
 use Prim.Native.Nat.{ℕ, _+_, _-_, _/_, _≤_}
 use mathlib.Core.Path.{_≡_, refl, ap, _∙_}
 use native.Mathlib.Nat.{le-antisymm, le-trans}

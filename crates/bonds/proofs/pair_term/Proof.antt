@@ -1,4 +1,4 @@
--- `bonds::pair_term` meets its contract. Assumes nothing.
+-- `bonds::pair_term` meets its contract.
 use Prim.Native.Nat.{_%_}
 use mathlib.Core.Path.{_≡_, sym, ap, _∙_}
 use mathlib.Core.Bool.{Bool, true, false}

@@ -1,4 +1,3 @@
-use borrow.Author.Needs.{needs}
 use denote.Ref.{now}
 use Rattle.checks.specs.Choices.{PermRows}
 use Rattle.lattice.specs.Telling.{when-taken, when-not}

@@ -1,9 +1,7 @@
 use borrow.Author.Needs.{needs}
-use Prim.Native.Nat.{_≤_, _*_}
-use mathlib.Core.Path.{_≡_, refl, sym, _∙_}
+use mathlib.Core.Path.{refl, sym, _∙_}
 use mathlib.Core.Logic.{inl, inr}
 use denote.Ref.{now}
-use lib.ListN.{length}
 use Rattle.paper.specs.Component.Marks.{passed, refused}
 use Rattle.paper.specs.Panel.Takes.{drawsBonds}
 use Rattle.paper.specs.Refusal.Rules.{When, Ranged, Fits, Spins, Inverse, Grouped, SmallCouplings, Warm}

@@ -1,4 +1,4 @@
--- `choose::flip_at` meets its contract: SW's byte is read within the lent flips, and the two other forms read none. Assumes nothing.
+-- `choose::flip_at` meets its contract: SW's byte is read within the lent flips, and the two other forms read none.
 use borrow.Author.Needs.{needs}
 use Rattle.choose.proofs.flip_at.Statement.{statement}
 use Rattle.choose.proofs.flip_at.Tie as tie

@@ -1,4 +1,4 @@
--- `choose::grey_column` meets its contract, by its sixteen cases. Assumes nothing.
+-- `choose::grey_column` meets its contract, by its sixteen cases.
 use native.Mathlib.Omega.{arith}
 use Rattle.choose.proofs.Xor.{xor-flips}
 use Rattle.choose.proofs.grey_column.Statement.{statement}

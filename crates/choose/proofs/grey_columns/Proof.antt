@@ -1,4 +1,4 @@
--- `choose::grey_columns` meets its contract. The invariant: the columns below i are new, the others are old. Assumes nothing.
+-- `choose::grey_columns` meets its contract. The invariant: the columns below i are new, the others are old.
 use Prim.Native.Nat.{_<_, _-_}
 use mathlib.Core.Path.{_≡_, _∙_}
 use denote.Ref.{now}

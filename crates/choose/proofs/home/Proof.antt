@@ -1,4 +1,4 @@
--- `choose::home` meets its contract: Wolff alone reads the seed's label. Assumes nothing.
+-- `choose::home` meets its contract: Wolff alone reads the seed's label.
 use Prim.Native.Nat.{_<_}
 use denote.Ref.{now}
 use lib.ListN.{length}

@@ -1,4 +1,4 @@
--- `choose::permute_columns` meets its contract. The invariant: the columns below i are new, the others are old. Assumes nothing.
+-- `choose::permute_columns` meets its contract. The invariant: the columns below i are new, the others are old.
 use Prim.Native.Nat.{ℕ, _+_, _*_, _≤_, _-_}
 use mathlib.Core.Path.{_≡_}
 use mathlib.Core.Logic.{⊎-elim}

@@ -1,4 +1,4 @@
--- `choose::reach` meets its contract. The invariant: the marks below i are made. Assumes nothing.
+-- `choose::reach` meets its contract. The invariant: the marks below i are made.
 use Prim.Native.Nat.{_<_, _-_}
 use mathlib.Core.Path.{_∙_}
 use mathlib.Core.Bool.{cond}

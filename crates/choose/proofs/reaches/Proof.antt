@@ -1,4 +1,4 @@
--- `choose::reaches` meets its contract, form by form. Assumes nothing.
+-- `choose::reaches` meets its contract, form by form.
 use borrow.Author.Needs.{needs}
 use Rattle.choose.proofs.reaches.Statement.{statement}
 use Rattle.choose.proofs.reaches.Tie as tie

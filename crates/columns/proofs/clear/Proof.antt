@@ -1,4 +1,4 @@
--- `clear` meets its contract. The invariant: the first i columns are 0. Assumes nothing.
+-- `clear` meets its contract. The invariant: the first i columns are 0.
 use mathlib.Core.Path.{_≡_, refl}
 use denote.Ref.{now}
 use Prim.Native.Nat.{_-_, _≤_}

@@ -1,4 +1,4 @@
--- `pack` meets its contract. The invariant: the columns have the bits of the first k members. Assumes nothing.
+-- `pack` meets its contract. The invariant: the columns have the bits of the first k members.
 use mathlib.Core.Path.{_≡_}
 use denote.Ref.{now}
 use Prim.Native.Nat.{_+_, _-_, _*_, _≤_}

@@ -1,4 +1,4 @@
--- `pack_row` meets its contract. The invariant: the first i columns have their bit. Assumes nothing.
+-- `pack_row` meets its contract. The invariant: the first i columns have their bit.
 use mathlib.Core.Path.{_≡_, _∙_, ap}
 use denote.Ref.{now}
 use Prim.Native.Nat.{_+_, _-_, _*_, _≤_}

@@ -1,4 +1,4 @@
--- `permute_group_site` meets its contract. The invariant: `out` is the column of the first k places. Assumes nothing.
+-- `permute_group_site` meets its contract. The invariant: `out` is the column of the first k places.
 use mathlib.Core.Path.{_≡_, sym}
 use denote.Ref.{now}
 use Prim.Native.Nat.{_+_, _-_, _*_, _/_, _%_, _^_, _≤_, _<_}

@@ -1,4 +1,4 @@
--- `pick` meets its contract, by the test of the bit. Assumes nothing.
+-- `pick` meets its contract, by the test of the bit.
 use mir.Syntax.{w8}
 use mir.ValLaws.{toZ-ofZ}
 use borrow.Author.Needs.{needs}

@@ -1,4 +1,4 @@
--- `reference_signs` meets its contract. The invariant: the first k signs are the members' spins. Assumes nothing.
+-- `reference_signs` meets its contract. The invariant: the first k signs are the members' spins.
 use mathlib.Core.Path.{refl, _∙_}
 use denote.Ref.{now}
 use Prim.Native.Nat.{_+_, _-_, _*_, _≤_, _<_}

@@ -1,4 +1,4 @@
--- `signs` meets its contract, by the mode. Assumes nothing.
+-- `signs` meets its contract, by the mode.
 use mathlib.Core.Path.{_≡_, refl, sym, _∙_}
 use lib.ListN.{getD-replicate}
 use lib.IntN.{pos}

@@ -1,4 +1,4 @@
--- `weigh` meets its contract, by the test of the two numbers' bits. Assumes nothing.
+-- `weigh` meets its contract, by the test of the two numbers' bits.
 use native.Mathlib.Nat.{one-mul, zero-mul}
 use mathlib.Core.Path.{sym}
 use mir.Syntax.{w8}

@@ -1,4 +1,4 @@
--- `write_row` meets its contract. The invariant: the first i spins are written. Assumes nothing.
+-- `write_row` meets its contract. The invariant: the first i spins are written.
 use mathlib.Core.Path.{_≡_, _∙_}
 use denote.Ref.{now}
 use Prim.Native.Nat.{_-_, _≤_}

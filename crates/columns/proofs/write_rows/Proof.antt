@@ -1,4 +1,4 @@
--- `write_rows` meets its contract. The invariant: the rows of the first k members are written. Assumes nothing.
+-- `write_rows` meets its contract. The invariant: the rows of the first k members are written.
 use mathlib.Core.Path.{_≡_}
 use denote.Ref.{now}
 use Prim.Native.Nat.{_+_, _-_, _*_, _≤_}

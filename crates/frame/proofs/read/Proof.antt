@@ -1,4 +1,4 @@
--- `frame::read` meets its contract: a scan, and where nothing is wrong the lines are read. Assumes nothing.
+-- `frame::read` meets its contract: a scan, and where nothing is wrong the lines are read.
 use mathlib.Core.Path.{subst}
 use Rattle.frame.specs.Scan.{ScannedAs}
 use Rattle.frame.proofs.Known.{misread}

@@ -1,4 +1,4 @@
--- `frame::read_places` meets its contract. Assumes nothing.
+-- `frame::read_places` meets its contract.
 use native.Mathlib.Omega.{arith}
 use Rattle.frame.proofs.Known.{group-high, spins-few, bonds-few, perms-few, spins-there, fwd-there, group-there, perms-there, readout}
 use borrow.Author.Needs.{needs}

@@ -1,4 +1,4 @@
--- `frame::run` meets its contract: its own arrays have room for every panel, and are made of 0. Assumes nothing.
+-- `frame::run` meets its contract: its own arrays have room for every panel, and are made of 0.
 use Rattle.frame.specs.Run.{made}
 use borrow.Author.Needs.{needs}
 use Rattle.frame.proofs.run.Statement.{statement}

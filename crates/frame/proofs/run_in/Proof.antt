@@ -1,4 +1,4 @@
--- `frame::run_in` meets its contract: a text is refused by its spelling, or its move answers. Assumes nothing.
+-- `frame::run_in` meets its contract: a text is refused by its spelling, or its move answers.
 use Rattle.frame.specs.Run.{misread-answers, readout-of, panel-given}
 use borrow.Author.Needs.{needs}
 use Rattle.frame.proofs.run_in.Statement.{statement}

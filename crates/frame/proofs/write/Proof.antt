@@ -1,4 +1,4 @@
--- `frame::write` meets its contract: three lines, one behind another. Assumes nothing.
+-- `frame::write` meets its contract: three lines, one behind another.
 use Prim.Native.Nat.{ℕ, _+_, _*_, _≤_}
 use mathlib.Core.Path.{_≡_, refl}
 use mathlib.Core.List.{List, _++_}

@@ -1,4 +1,4 @@
--- `frame::write_refusal` meets its contract: five stores. Assumes nothing.
+-- `frame::write_refusal` meets its contract: five stores.
 use mathlib.Core.Path.{refl}
 use native.Mathlib.Omega.{arith}
 use lib.ListN.{length-set}

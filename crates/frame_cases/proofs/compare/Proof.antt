@@ -1,4 +1,4 @@
--- `frame_cases::compare` is safe and ends: what the library wrote is within the buffer. Assumes nothing.
+-- `frame_cases::compare` is safe and ends: what the library wrote is within the buffer.
 use Prim.Native.Nat.{_≤_}
 use mathlib.Core.Path.{sym}
 use lib.ListN.{length}

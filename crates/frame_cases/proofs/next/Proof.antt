@@ -1,4 +1,4 @@
--- `frame_cases::next` is safe and ends: a case that has no room is not read. Assumes nothing.
+-- `frame_cases::next` is safe and ends: a case that has no room is not read.
 use mathlib.Core.Path.{sym}
 use native.Mathlib.Omega.{arith}
 use lib.Seq.{length-take-le}

@@ -1,4 +1,4 @@
--- `frame_cases::run_cases` counts no more cases than it has turns, and ends. Assumes nothing.
+-- `frame_cases::run_cases` counts no more cases than it has turns, and ends.
 use Prim.Native.Nat.{_+_, _≤_}
 use mathlib.Core.Path.{_≡_}
 use lib.ListN.{length}

@@ -1,4 +1,4 @@
--- `frames::answer` is safe and ends: what the library wrote is within the buffer. Assumes nothing.
+-- `frames::answer` is safe and ends: what the library wrote is within the buffer.
 use Prim.Native.Nat.{_≤_}
 use mathlib.Core.Path.{sym}
 use lib.ListN.{length}

@@ -1,4 +1,4 @@
--- `all_below` meets its contract: after i turns the flag tells of the numbers below i. Assumes nothing.
+-- `all_below` meets its contract: after i turns the flag tells of the numbers below i.
 use Prim.Native.Nat.{_<_, _-_}
 use lib.ListN.{length, getD}
 use Rattle.lattice.specs.Telling.{Flagged, flag-start, flag-more, flag-end, same, test-lt}

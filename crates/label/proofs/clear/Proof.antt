@@ -1,4 +1,4 @@
--- `clear` meets its contract. Assumes nothing.
+-- `clear` meets its contract.
 use Prim.Native.Nat.{_-_}
 use native.Mathlib.Omega.{arith}
 use lib.ListN.{length, length-set}

@@ -1,4 +1,4 @@
--- `components` meets its contract: each place past a test knows that test's rule, and each refusal that the next is broken. Assumes nothing.
+-- `components` meets its contract: each place past a test knows that test's rule, and each refusal that the next is broken.
 use mathlib.Core.Path.{refl}
 use mathlib.Core.Logic.{inl, inr}
 use denote.Ref.{now}

@@ -1,4 +1,4 @@
--- `count` meets its contract. Assumes nothing.
+-- `count` meets its contract.
 use Prim.Native.Nat.{_≤_}
 use mathlib.Core.Path.{sym}
 use native.Mathlib.Omega.{arith}

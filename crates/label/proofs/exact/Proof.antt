@@ -1,4 +1,4 @@
--- `exact` meets its contract: it tests the lengths one by one. Assumes nothing.
+-- `exact` meets its contract: it tests the lengths one by one.
 use Prim.Native.Nat.{_+_, _*_}
 use native.Mathlib.Nat.{mul-le-mul}
 use native.Mathlib.Omega.{arith}

@@ -1,4 +1,4 @@
--- `gather` meets its contract. Assumes nothing.
+-- `gather` meets its contract.
 use Prim.Native.Nat.{ℕ, _+_, _*_, _-_, _<_}
 use mathlib.Core.Path.{sym, ap}
 use native.Mathlib.Omega.{arith}

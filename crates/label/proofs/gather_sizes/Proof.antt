@@ -1,4 +1,4 @@
--- `gather_sizes` meets its contract. Assumes nothing.
+-- `gather_sizes` meets its contract.
 use Prim.Native.Nat.{ℕ, _-_, _<_}
 use mathlib.Core.Path.{sym, ap}
 use mathlib.Core.Bool.{Bool}

@@ -1,4 +1,4 @@
--- `insert` meets its contract. Assumes nothing.
+-- `insert` meets its contract.
 use Rattle.label.proofs.Ranks.{into-none, into-fourth, into-third, into-second, into-first}
 use Rattle.label.proofs.insert.Statement.{statement}
 use Rattle.label.proofs.insert.Tie as tie

@@ -1,4 +1,4 @@
--- `join_block` meets its contract. Assumes nothing.
+-- `join_block` meets its contract.
 use Prim.Native.Nat.{_-_, _≤_}
 use mathlib.Core.Path.{refl, sym}
 use native.Mathlib.Omega.{arith}

@@ -1,4 +1,4 @@
--- `join_listed` meets its contract. Assumes nothing.
+-- `join_listed` meets its contract.
 use Prim.Native.Nat.{_+_, _*_, _-_, _<_}
 use native.Mathlib.Omega.{arith}
 use native.Mathlib.Nat.{le-antisymm}

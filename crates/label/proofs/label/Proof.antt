@@ -1,4 +1,4 @@
--- `label` meets its contract. Assumes nothing.
+-- `label` meets its contract.
 use Rattle.label.proofs.Whole.{bonding-start, labelled}
 use borrow.Author.Needs.{needs}
 use Rattle.label.proofs.label.Statement.{statement}

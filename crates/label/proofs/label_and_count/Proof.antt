@@ -1,4 +1,4 @@
--- `label_and_count` meets its contract. Assumes nothing.
+-- `label_and_count` meets its contract.
 use mathlib.Core.Path.{_≡_, sym, _∙_}
 use native.Mathlib.Omega.{arith}
 use lib.ListN.{length, take}

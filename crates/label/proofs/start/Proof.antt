@@ -1,4 +1,4 @@
--- `start` meets its contract. Assumes nothing.
+-- `start` meets its contract.
 use Prim.Native.Nat.{_-_}
 use native.Mathlib.Omega.{arith}
 use lib.ListN.{length, length-set}

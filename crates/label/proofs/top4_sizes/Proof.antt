@@ -1,4 +1,4 @@
--- `top4_sizes` meets its contract. Assumes nothing.
+-- `top4_sizes` meets its contract.
 use Prim.Native.Nat.{_-_, _≤_}
 use native.Mathlib.Omega.{arith}
 use native.Mathlib.Nat.{le-antisymm}

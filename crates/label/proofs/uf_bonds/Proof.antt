@@ -1,4 +1,4 @@
--- `uf_bonds` meets its contract. Assumes nothing.
+-- `uf_bonds` meets its contract.
 use Prim.Native.Nat.{_-_}
 use mathlib.Core.Path.{refl}
 use native.Mathlib.Omega.{arith}

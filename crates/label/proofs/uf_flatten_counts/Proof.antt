@@ -1,4 +1,4 @@
--- `uf_flatten_counts` meets its contract. Assumes nothing.
+-- `uf_flatten_counts` meets its contract.
 use Prim.Native.Nat.{_-_, _≤_}
 use native.Mathlib.Omega.{arith}
 use lib.ListN.{length, length-set}

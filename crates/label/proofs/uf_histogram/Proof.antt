@@ -1,4 +1,4 @@
--- `uf_histogram` meets its contract. Assumes nothing.
+-- `uf_histogram` meets its contract.
 use Prim.Native.Nat.{_-_, _<_}
 use native.Mathlib.Omega.{arith}
 use lib.ListN.{length}

@@ -1,4 +1,4 @@
--- `union` meets its contract. Assumes nothing.
+-- `union` meets its contract.
 use Prim.Native.Nat.{_+_, _<_}
 use native.Mathlib.Omega.{arith}
 use Rattle.label.proofs.Forest.{Climb, climb-start, climb-turn, parent-y, climb-y, climb-falls, climb-end}

@@ -1,4 +1,4 @@
--- `heights` keeps its indices in range and ends. Assumes nothing.
+-- `heights` keeps its indices in range and ends.
 use Prim.Native.Nat.{_*_, _-_, _≤_}
 use native.Mathlib.Nat.{mul-le-mul}
 use native.Mathlib.Omega.{arith}

@@ -1,4 +1,4 @@
--- `shapes` keeps its indices in range and ends. Assumes nothing.
+-- `shapes` keeps its indices in range and ends.
 use borrow.Author.Needs.{needs}
 use Rattle.label_runs.proofs.shapes.Statement.{statement}
 use Rattle.label_runs.proofs.shapes.Tie as tie

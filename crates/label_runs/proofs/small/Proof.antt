@@ -1,4 +1,4 @@
--- `small` keeps its indices in range and ends. Assumes nothing.
+-- `small` keeps its indices in range and ends.
 use Prim.Native.Nat.{_-_, _≤_}
 use borrow.Author.Needs.{needs}
 use Rattle.label_runs.proofs.small.Statement.{statement}

@@ -1,4 +1,4 @@
--- `with_room` keeps its parts within the arrays. Assumes nothing.
+-- `with_room` keeps its parts within the arrays.
 use Prim.Native.Nat.{_*_, _≤_}
 use mathlib.Core.Path.{sym}
 use native.Mathlib.Nat.{mul-le-mul}

@@ -1,4 +1,4 @@
--- `alone` meets its contract: its two tests. Assumes nothing.
+-- `alone` meets its contract: its two tests.
 use borrow.Author.Needs.{needs}
 use Rattle.paper.specs.Panel.Input.{member}
 use Rattle.lattice.specs.Groups.{Fresh, Alone}

@@ -1,4 +1,4 @@
--- `back_ok` meets its contract: it reads the neighbour, and the way back where there is one. Assumes nothing.
+-- `back_ok` meets its contract: it reads the neighbour, and the way back where there is one.
 use Prim.Native.Nat.{_+_, _*_, _<_}
 use native.Mathlib.Omega.{arith}
 use borrow.Author.Needs.{needs}

@@ -1,5 +1,5 @@
 -- `backward` meets its contract: where there is an inverse the filled table is one, so the test that fails says that there is none.
--- Assumes nothing.
+--
 use native.Mathlib.Omega.{arith}
 use borrow.Author.Needs.{needs}
 use Rattle.paper.specs.Component.Marks.{told, denied}

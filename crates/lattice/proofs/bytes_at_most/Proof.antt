@@ -1,4 +1,4 @@
--- `bytes_at_most` meets its contract: after i turns the flag tells of the bytes below i. Assumes nothing.
+-- `bytes_at_most` meets its contract: after i turns the flag tells of the bytes below i.
 use Prim.Native.Nat.{_≤_, _-_}
 use borrow.Author.Needs.{needs}
 use lib.ListN.{length, getD}

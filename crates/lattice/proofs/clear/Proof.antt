@@ -1,4 +1,4 @@
--- `clear` meets its contract: after k turns the first k are 0. Assumes nothing.
+-- `clear` meets its contract: after k turns the first k are 0.
 use Prim.Native.Nat.{ℕ, _-_, _≤_}
 use mathlib.Core.Path.{_≡_}
 use mathlib.Core.List.{List}

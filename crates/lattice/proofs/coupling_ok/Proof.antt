@@ -1,4 +1,4 @@
--- `coupling_ok` meets its contract: no more than the bound above 0, nor below. Assumes nothing.
+-- `coupling_ok` meets its contract: no more than the bound above 0, nor below.
 use mir.Facts.{toZ-ofZ}
 use Rattle.lattice.specs.Ints.{within}
 use Rattle.lattice.proofs.coupling_ok.Statement.{statement}

@@ -1,4 +1,4 @@
--- `couplings_ok` meets its contract: after i turns the flag tells of the couplings below i. Assumes nothing.
+-- `couplings_ok` meets its contract: after i turns the flag tells of the couplings below i.
 use Prim.Native.Nat.{_≤_, _-_}
 use borrow.Author.Needs.{needs}
 use lib.IntN.{ℤ, pos, natAbs}

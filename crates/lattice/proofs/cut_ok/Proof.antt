@@ -1,4 +1,4 @@
--- `cut_ok` meets its contract, with the literals by their bits. Assumes nothing.
+-- `cut_ok` meets its contract, with the literals by their bits.
 use lib.Ieee.{div, ofBits, ofInt}
 use Rattle.lattice.proofs.Cuts.{meaning}
 use Rattle.lattice.proofs.cut_ok.Statement.{statement}

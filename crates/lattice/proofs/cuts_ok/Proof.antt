@@ -1,4 +1,4 @@
--- `cuts_ok` meets its contract: after i turns the flag tells of the cuts below i. Assumes nothing.
+-- `cuts_ok` meets its contract: after i turns the flag tells of the cuts below i.
 use Prim.Native.Nat.{_-_}
 use borrow.Author.Needs.{needs}
 use mathlib.Core.Path.{_≡_}

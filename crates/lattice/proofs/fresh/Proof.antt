@@ -1,4 +1,4 @@
--- `fresh` meets its contract: after j turns the flag tells of the systems before j. Assumes nothing.
+-- `fresh` meets its contract: after j turns the flag tells of the systems before j.
 use Prim.Native.Nat.{_-_}
 use mathlib.Core.Path.{_≡_}
 use borrow.Author.Needs.{needs}

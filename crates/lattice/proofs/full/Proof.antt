@@ -1,4 +1,4 @@
--- `full` meets its contract: below 64 by a shift, at 64 the largest number. Assumes nothing.
+-- `full` meets its contract: below 64 by a shift, at 64 the largest number.
 use mathlib.Core.Path.{ap}
 use Prim.Native.Nat.{ℕ, _-_, _^_}
 use native.Mathlib.Nat.{le-antisymm}

@@ -1,4 +1,4 @@
--- `group_ok` meets its contract: after k turns the flag tells of the systems before k. Assumes nothing.
+-- `group_ok` meets its contract: after k turns the flag tells of the systems before k.
 use Prim.Native.Nat.{_-_}
 use borrow.Author.Needs.{needs}
 use Rattle.paper.specs.Refusal.Rules.{Grouped}

@@ -1,4 +1,4 @@
--- `lead_all_back` meets its contract: after i turns the bonds of the sites before i are done. Assumes nothing.
+-- `lead_all_back` meets its contract: after i turns the bonds of the sites before i are done.
 use Prim.Native.Nat.{ℕ, _-_, _*_, _≤_}
 use mathlib.Core.Path.{ap}
 use mathlib.Core.List.{List}

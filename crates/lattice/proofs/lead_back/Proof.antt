@@ -1,4 +1,4 @@
--- `lead_back` meets its contract: it writes the way back, where the neighbour is a site. Assumes nothing.
+-- `lead_back` meets its contract: it writes the way back, where the neighbour is a site.
 use Prim.Native.Nat.{_+_, _*_, _<_}
 use native.Mathlib.Omega.{arith}
 use borrow.Author.Needs.{needs}

@@ -1,4 +1,4 @@
--- `lead_site_back` meets its contract: after e turns the site's first e bonds are done. Assumes nothing.
+-- `lead_site_back` meets its contract: after e turns the site's first e bonds are done.
 use Prim.Native.Nat.{ℕ, _+_, _-_, _*_, _≤_}
 use mathlib.Core.List.{List}
 use native.Mathlib.Omega.{arith}

@@ -1,4 +1,4 @@
--- `marked` meets its contract: the shift loses nothing. Assumes nothing.
+-- `marked` meets its contract: the shift loses nothing.
 use mathlib.Core.Path.{ap}
 use borrow.Author.Needs.{needs}
 use lib.Bits.{bitOr}

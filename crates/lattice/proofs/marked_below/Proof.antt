@@ -1,4 +1,4 @@
--- `marked_below` meets its contract: the shift loses nothing. Assumes nothing.
+-- `marked_below` meets its contract: the shift loses nothing.
 use mathlib.Core.Path.{ap}
 use native.Mathlib.Omega.{arith}
 use borrow.Author.Needs.{needs}

@@ -1,4 +1,4 @@
--- `not_identity` meets its contract: after k turns the flag tells of the numbers before k. Assumes nothing.
+-- `not_identity` meets its contract: after k turns the flag tells of the numbers before k.
 use Prim.Native.Nat.{_-_}
 use borrow.Author.Needs.{needs}
 use lib.ListN.{length, getD}

@@ -1,4 +1,4 @@
--- `order_marks` meets its contract: after k turns the first k are marked. Assumes nothing.
+-- `order_marks` meets its contract: after k turns the first k are marked.
 use Prim.Native.Nat.{_-_}
 use borrow.Author.Needs.{needs}
 use lib.ListN.{getD}

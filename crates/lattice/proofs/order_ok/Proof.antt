@@ -1,4 +1,4 @@
--- `order_ok` meets its contract: all s marks are set just if the order is a permutation. Assumes nothing.
+-- `order_ok` meets its contract: all s marks are set just if the order is a permutation.
 use borrow.Author.Needs.{needs}
 use Rattle.lattice.specs.Marking.{marks-tell}
 use Rattle.lattice.proofs.order_ok.Statement.{statement}

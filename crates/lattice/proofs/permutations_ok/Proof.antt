@@ -1,4 +1,4 @@
--- `permutations_ok` meets its contract: a byte that is too large is in a row that is no permutation. Assumes nothing.
+-- `permutations_ok` meets its contract: a byte that is too large is in a row that is no permutation.
 use Prim.Native.Nat.{_<_}
 use native.Mathlib.Omega.{arith}
 use borrow.Author.Needs.{needs}

@@ -1,4 +1,4 @@
--- `ranged` meets its contract: it tests the sizes, the bounds on the group's, and CMR's own. Assumes nothing.
+-- `ranged` meets its contract: it tests the sizes, the bounds on the group's, and CMR's own.
 use mathlib.Core.Path.{_≡_}
 use mathlib.Core.Bool.{true}
 use borrow.Author.Needs.{needs}

@@ -1,4 +1,4 @@
--- `row_marks` meets its contract: after k turns the first k are marked. Assumes nothing.
+-- `row_marks` meets its contract: after k turns the first k are marked.
 use Prim.Native.Nat.{_+_, _-_, _<_}
 use native.Mathlib.Omega.{arith}
 use borrow.Author.Needs.{needs}

@@ -1,4 +1,4 @@
--- `rows_full` meets its contract: after r turns the flag tells of the rows before r. Assumes nothing.
+-- `rows_full` meets its contract: after r turns the flag tells of the rows before r.
 use Prim.Native.Nat.{_-_}
 use native.Mathlib.Omega.{arith}
 use borrow.Author.Needs.{needs}

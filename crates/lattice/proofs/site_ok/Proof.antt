@@ -1,4 +1,4 @@
--- `site_ok` meets its contract: after e turns the flag tells of the directions below e. Assumes nothing.
+-- `site_ok` meets its contract: after e turns the flag tells of the directions below e.
 use Prim.Native.Nat.{_-_}
 use borrow.Author.Needs.{needs}
 use Rattle.paper.specs.Refusal.Rules.{Back}

@@ -1,4 +1,4 @@
--- `sizes_ok` meets its contract: it tests the bounds one by one. Assumes nothing.
+-- `sizes_ok` meets its contract: it tests the bounds one by one.
 use Rattle.paper.specs.Refusal.Rules.{Sizes}
 use Rattle.lattice.specs.Telling.{same, both, test-le}
 use Rattle.lattice.proofs.sizes_ok.Statement.{statement}

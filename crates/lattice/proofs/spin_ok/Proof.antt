@@ -1,4 +1,4 @@
--- `spin_ok` meets its contract: a signed test of equality compares the bits, which a number has to itself. Assumes nothing.
+-- `spin_ok` meets its contract: a signed test of equality compares the bits, which a number has to itself.
 use mathlib.Core.Path.{sym, ap, _∙_}
 use mathlib.Core.Logic.{inl, inr, ⊎-elim}
 use mir.Syntax.{w8}

@@ -1,4 +1,4 @@
--- `spins_ok` meets its contract: after i turns the flag tells of the spins below i. Assumes nothing.
+-- `spins_ok` meets its contract: after i turns the flag tells of the spins below i.
 use Prim.Native.Nat.{_-_}
 use borrow.Author.Needs.{needs}
 use lib.IntN.{ℤ, pos}

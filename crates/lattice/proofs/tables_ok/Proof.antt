@@ -1,4 +1,4 @@
--- `tables_ok` meets its contract: after i turns the flag tells of the sites below i, in both senses. Assumes nothing.
+-- `tables_ok` meets its contract: after i turns the flag tells of the sites below i, in both senses.
 use Prim.Native.Nat.{_-_}
 use borrow.Author.Needs.{needs}
 use Rattle.paper.specs.Refusal.Rules.{Back, Inverse}

@@ -1,4 +1,4 @@
--- `temperature_ok` meets its contract: the literals by their bits are the definition's bounds. Assumes nothing.
+-- `temperature_ok` meets its contract: the literals by their bits are the definition's bounds.
 use mathlib.Core.Bool.{_&&_}
 use lib.Ieee.{binary32, div, le, ofBits, ofInt}
 use Rattle.paper.specs.Site.Bonds.{whole}

@@ -1,4 +1,4 @@
--- `temperatures_ok` meets its contract: after i turns the flag tells of the temperatures below i. Assumes nothing.
+-- `temperatures_ok` meets its contract: after i turns the flag tells of the temperatures below i.
 use Prim.Native.Nat.{_-_}
 use borrow.Author.Needs.{needs}
 use lib.Ieee.{nan}

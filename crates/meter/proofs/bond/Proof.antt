@@ -1,4 +1,4 @@
--- `bond` meets its contract: each factor is read back as it was, and a spin changes no size. Assumes nothing.
+-- `bond` meets its contract: each factor is read back as it was, and a spin changes no size.
 use mir.Syntax.{w8, w32, w64}
 use mir.Val.{toZ, ofZ}
 use Rattle.lattice.specs.Held.{Value, given, asks, stored, reads, held-wide}

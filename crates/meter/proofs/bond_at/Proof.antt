@@ -1,4 +1,4 @@
--- `bond_at` meets its contract: it reads the coupling and the spins at the two ends. Assumes nothing.
+-- `bond_at` meets its contract: it reads the coupling and the spins at the two ends.
 use Prim.Native.Nat.{ℕ, _+_, _*_, _≤_, _<_}
 use mathlib.Core.Path.{_≡_, _∙_, ap, subst⁻¹}
 use native.Mathlib.Omega.{arith}

@@ -1,4 +1,4 @@
--- `energy` meets its contract: each place past a test knows that test's rule, and each refusal that the next one is broken. Assumes nothing.
+-- `energy` meets its contract: each place past a test knows that test's rule, and each refusal that the next one is broken.
 use Prim.Native.Nat.{_+_, _*_, _≤_}
 use mathlib.Core.Path.{refl, _∙_, ap}
 use mathlib.Core.Logic.{inl, inr}

@@ -1,4 +1,4 @@
--- `exact` meets its contract: it compares the lengths one by one. Assumes nothing.
+-- `exact` meets its contract: it compares the lengths one by one.
 use native.Mathlib.Nat.{mul-le-mul}
 use native.Mathlib.Omega.{arith}
 use Prim.Native.Nat.{_*_}

@@ -1,4 +1,4 @@
--- `row_sum` meets its contract: after i turns the total is the sum over the sites before i. Assumes nothing.
+-- `row_sum` meets its contract: after i turns the total is the sum over the sites before i.
 use Prim.Native.Nat.{_+_, _-_}
 use borrow.Author.Needs.{needs}
 use lib.IntN.{_+ℤ_}

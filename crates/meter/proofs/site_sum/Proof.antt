@@ -1,4 +1,4 @@
--- `site_sum` meets its contract: after e turns the total is the sum of the site's first e bonds. Assumes nothing.
+-- `site_sum` meets its contract: after e turns the total is the sum of the site's first e bonds.
 use Prim.Native.Nat.{_+_, _-_}
 use borrow.Author.Needs.{needs}
 use lib.IntN.{_+ℤ_}

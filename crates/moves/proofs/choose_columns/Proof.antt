@@ -1,17 +1,11 @@
 use borrow.Author.Needs.{needs}
-use Prim.Native.Nat.{ℕ, _*_, _^_, _<_, _≤_}
 use mathlib.Core.Path.{_≡_, refl, sym, _∙_}
-use mathlib.Core.Bool.{Bool, true, false, not, _&&_}
-use mathlib.Core.List.{List}
-use native.Mathlib.Omega.{arith}
+use mathlib.Core.Bool.{true, false}
 use denote.Ref.{now}
-use lib.ListN.{length, getD}
+use lib.ListN.{length}
 use Rattle.paper.specs.declared.Mode.{Mode}
 use Rattle.paper.specs.declared.Form.{Form}
 use Rattle.paper.specs.Panel.Takes.{isPerm, isSw, flipsBy}
-use Rattle.paper.specs.Component.Marks.{Flags}
-use Rattle.choose.specs.Chosen.{Sites, Becomes, reachedAt}
-use Rattle.moves.specs.Task.{Choosable}
 use Rattle.moves.specs.Choosing.{by-flips, by-perms}
 use Rattle.moves.proofs.choose_columns.Statement.{statement}
 use Rattle.moves.proofs.choose_columns.Tie as tie

@@ -1,8 +1,6 @@
 use borrow.Author.Needs.{needs}
-use mathlib.Core.Path.{_≡_, refl, sym, _∙_}
-use mathlib.Core.Bool.{Bool, true, false}
+use mathlib.Core.Path.{sym, _∙_}
 use denote.Ref.{now}
-use Rattle.paper.specs.Panel.Takes.{isDrawn}
 use Rattle.paper.specs.Site.Bonds.{samplerOf}
 use Rattle.moves.specs.Held.{drawn-marks, plain-marks}
 use Rattle.moves.proofs.hold.Statement.{statement}

@@ -1,9 +1,7 @@
 use borrow.Author.Needs.{needs}
 use Prim.Native.Nat.{ℕ, _<_}
-use mathlib.Core.Path.{_≡_, sym, _∙_}
-use native.Mathlib.Omega.{arith}
+use mathlib.Core.Path.{sym, _∙_}
 use denote.Ref.{now}
-use lib.ListN.{length}
 use Rattle.paper.specs.Refusal.Rules.{Spin}
 use Rattle.columns.specs.Laws.{signed-spins, packed-gauge}
 use Rattle.rules.specs.Laws.{looked-flags, looked-tells}

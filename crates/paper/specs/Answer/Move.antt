@@ -1,9 +1,7 @@
--- What a move answers, for every input, and what every lent buffer then holds. Assumes nothing.
+-- What a move answers, for every input, and what every lent buffer then holds.
 use mathlib.Core.Path.{_≡_}
-use mathlib.Core.Bool.{true, false}
-use mathlib.Core.List.{List}
+use mathlib.Core.Bool.{false}
 use Prim.Native.Nat.{ℕ}
-use lib.IntN.{ℤ}
 use Rattle.paper.specs.declared.Answer.{Answer}
 use Rattle.paper.specs.declared.Answer.the-variants.{Refused, Idle, Moved}
 use Rattle.paper.specs.Answer.Number.{number}

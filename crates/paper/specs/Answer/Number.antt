@@ -1,6 +1,5 @@
--- What each case of an answer stands for in the paper: its refusal number, 0 where the call is accepted, and its values. Assumes nothing.
+-- What each case of an answer stands for in the paper: its refusal number, 0 where the call is accepted, and its values.
 use Prim.Native.Nat.{ℕ}
-use mathlib.Core.Bool.{Bool, true, false}
 use Rattle.paper.specs.declared.Answer.{Answer}
 use Rattle.paper.specs.declared.Answer.the-variants.{Refused, Idle, Moved}
 use Rattle.paper.specs.declared.SweepAnswer.{SweepAnswer}

@@ -1,22 +1,22 @@
--- What a sweep answers, for every input: each task is the move that it would be alone. Assumes nothing.
+-- What a sweep answers, for every input: each task is the move that it would be alone.
 use Prim.Native.Nat.{ℕ, zero, suc, _+_, _*_, _≤_, _<_}
 use mathlib.Core.Path.{_≡_}
 use mathlib.Core.Logic.{_≢_}
-use mathlib.Core.Bool.{Bool, true, false, cond}
+use mathlib.Core.Bool.{true, false, cond}
 use mathlib.Core.List.{List, [], _∷_, _++_}
 use lib.ListN.{length, getD}
 use lib.IntN.{ℤ}
-use lib.Ieee.{Float, nan}
+use lib.Ieee.{nan}
 use Rattle.paper.specs.declared.Answer.{Answer}
 use Rattle.paper.specs.declared.SweepAnswer.{SweepAnswer}
 use Rattle.paper.specs.declared.SweepAnswer.the-variants.{Fault, Swept}
-use Rattle.paper.specs.Panel.Input.{Call, Choices, Buffers, spin, pattern, size, system}
+use Rattle.paper.specs.Panel.Input.{Call, Buffers, spin, pattern, system}
 use Rattle.paper.specs.Panel.Takes.{takesCuts, takesFlips, takesPerms, takesGreys, takesReference, takesSeed, entries}
 use Rattle.paper.specs.Refusal.Rule.{Rule, rule, Kept, Broken}
 use Rattle.paper.specs.Refusal.Rules.{When, Ranged, Spins, Inverse, Permutes, SmallCouplings, Warm, choiceRules}
 use Rattle.paper.specs.Answer.Number.{sweepNumber, idleOf, movedOf}
 use Rattle.paper.specs.Answer.Move.{Answers}
-use Rattle.paper.specs.Answer.Task.{Sweep, groups, tasks, masked, part, taskCall, taskChoices, areas, idleTasks, movedTasks}
+use Rattle.paper.specs.Answer.Task.{Sweep, tasks, masked, taskCall, taskChoices, areas, idleTasks, movedTasks}
 
 -- what all tasks share
 abbrev pub common : Sweep → Call

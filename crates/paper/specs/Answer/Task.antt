@@ -1,16 +1,15 @@
--- A sweep: its tasks, each a move with its own areas. Assumes nothing.
-use Prim.Native.Nat.{ℕ, zero, suc, _+_, _*_, _/_, _%_, _≤_, _<_}
-use mathlib.Core.Path.{_≡_}
-use mathlib.Core.Bool.{Bool, true, false, not, cond, _&&_}
+-- A sweep: its tasks, each a move with its own areas.
+use Prim.Native.Nat.{ℕ, zero, suc, _+_, _*_, _/_, _%_}
+use mathlib.Core.Bool.{Bool, not, cond, _&&_}
 use mathlib.Core.List.{List, [], _∷_}
 use lib.Dec.{eqb, ltb}
-use lib.ListN.{length, getD, take, drop}
+use lib.ListN.{getD, take, drop}
 use lib.IntN.{ℤ}
 use lib.Ieee.{Float, nan}
 use Rattle.paper.specs.declared.Group.{Group}
 use Rattle.paper.specs.declared.Mode.{Mode}
 use Rattle.paper.specs.declared.Form.{Form}
-use Rattle.paper.specs.Panel.Input.{Lattice, Call, Choices, Buffers, size}
+use Rattle.paper.specs.Panel.Input.{Lattice, Call, Choices, Buffers}
 use Rattle.paper.specs.Panel.Takes.{entries}
 use Rattle.paper.specs.Site.Acting.{acts}
 use Rattle.paper.specs.Component.Sizes.{countWhere}

@@ -1,4 +1,4 @@
--- Bytes that say yes or no: of each site, of each bond, and of a single claim. Assumes nothing.
+-- Bytes that say yes or no: of each site, of each bond, and of a single claim.
 use Prim.Native.Nat.{ℕ, _+_, _*_, _<_}
 use mathlib.Core.Path.{_≡_, subst}
 use mathlib.Core.Bool.{Bool, true, false, not}

@@ -1,4 +1,4 @@
--- Whether a pattern acts is not changed by a choice. Assumes nothing.
+-- Whether a pattern acts is not changed by a choice.
 use Prim.Native.Nat.{ℕ, _/_, _<_}
 use mathlib.Core.Path.{_≡_, refl, sym, _∙_, ap}
 use mathlib.Core.Bool.{Bool, true, false, cond}

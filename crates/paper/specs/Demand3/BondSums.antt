@@ -1,4 +1,4 @@
--- A step of a reversible mode turns the two ends of every bond alike, so the group's sum over the bond stays. Assumes nothing.
+-- A step of a reversible mode turns the two ends of every bond alike, so the group's sum over the bond stays.
 use Prim.Native.Nat.{ℕ, _<_}
 use mathlib.Core.Path.{_≡_, refl, sym, _∙_, ap}
 use mathlib.Core.Bool.{Bool, true, false, cond}

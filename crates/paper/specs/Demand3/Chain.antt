@@ -1,4 +1,4 @@
--- After an accepted move of a reversible mode the next is accepted too, if its own choices and buffers are right, and it has an outcome. Assumes nothing.
+-- After an accepted move of a reversible mode the next is accepted too, if its own choices and buffers are right, and it has an outcome.
 use Prim.Native.Nat.{ℕ, zero, suc, _+_, _*_, _/_, _%_, _<_}
 use mathlib.Core.Path.{_≡_, refl, sym, _∙_, ap}
 use mathlib.Core.Logic.{_⊎_, inl, inr}

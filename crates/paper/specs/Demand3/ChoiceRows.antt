@@ -1,4 +1,4 @@
--- Permutations as buffers: composites, inverses and the identity are permutations, and do what they say. Assumes nothing.
+-- Permutations as buffers: composites, inverses and the identity are permutations, and do what they say.
 use Prim.Native.Nat.{ℕ, zero, suc, _+_, _*_, _/_, _%_, _<_}
 use mathlib.Core.Path.{_≡_, refl, sym, _∙_, ap}
 use mathlib.Core.Logic.{_≢_}

@@ -1,4 +1,4 @@
--- The choices of pair and houd: they add modulo 2, and each undoes itself. Assumes nothing.
+-- The choices of pair and houd: they add modulo 2, and each undoes itself.
 use Prim.Native.Nat.{ℕ, zero, suc, _+_, _%_, _<_, _≤_}
 use mathlib.Core.Path.{_≡_, refl, sym}
 use mathlib.Core.Bool.{Bool, true, false, cond}

@@ -1,4 +1,4 @@
--- Composite, inverse and identical choices pass test 9 wherever the choices that they are made of do. Assumes nothing.
+-- Composite, inverse and identical choices pass test 9 wherever the choices that they are made of do.
 use Prim.Native.Nat.{ℕ, _+_, _*_, _%_, _<_, _≤_}
 use mathlib.Core.Path.{_≡_, refl, sym, _∙_}
 use mathlib.Core.Bool.{Bool, true, false, _&&_}

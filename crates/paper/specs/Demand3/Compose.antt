@@ -1,4 +1,4 @@
--- Two steps of a reversible mode, one after the other. Assumes nothing.
+-- Two steps of a reversible mode, one after the other.
 use Prim.Native.Nat.{ℕ, _<_}
 use mathlib.Core.Path.{_≡_, refl, sym, _∙_, ap}
 use mathlib.Core.Bool.{Bool, true, false, cond}

@@ -1,4 +1,4 @@
--- What the modes of demand 3 share: each permutes the group's gauged patterns, and leaves those that do not act. Assumes nothing.
+-- What the modes of demand 3 share: each permutes the group's gauged patterns, and leaves those that do not act.
 use Prim.Native.Nat.{ℕ, zero, suc, _*_, _/_, _<_}
 use mathlib.Core.Path.{_≡_, refl, sym, _∙_, ap}
 use mathlib.Core.Bool.{Bool, true, false, cond, _&&_}

@@ -1,6 +1,6 @@
 -- Demand 3 of document 00: the pair, perm, gperm and two-replica houd moves act as a group. Each part below cites its clause. The moves are those
 -- of demand 2: `Answers` is what the public moves ensure. An accepted move has tested that spins are +1 or -1, systems distinct and neighbour
--- tables inverse. Read from the top; Demand3/Theorem.antt proves `Demand3` for every such call, and `Boundary`. Assumes nothing.
+-- tables inverse. Read from the top; Demand3/Theorem.antt proves `Demand3` for every such call, and `Boundary`.
 use Prim.Native.Nat.{ℕ, zero, suc, _+_, _*_, _/_, _%_, _<_}
 use mathlib.Core.Path.{_≡_}
 use mathlib.Core.Logic.{_≢_, _↔_}

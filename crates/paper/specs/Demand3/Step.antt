@@ -1,4 +1,4 @@
--- What an accepted call of a reversible mode tells, all of it from the rules that it keeps. Assumes nothing.
+-- What an accepted call of a reversible mode tells, all of it from the rules that it keeps.
 use Prim.Native.Nat.{ℕ, suc, _+_, _*_, _<_, _≤_}
 use mathlib.Core.Path.{_≡_, refl, _∙_, ap}
 use mathlib.Core.Bool.{true, false}

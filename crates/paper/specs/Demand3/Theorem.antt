@@ -1,4 +1,4 @@
--- Demand 3 holds for every call of its modes, and stops at row 12. Assumes nothing.
+-- Demand 3 holds for every call of its modes, and stops at row 12.
 use Prim.Native.Nat.{ℕ, _<_}
 use mathlib.Core.Path.{_≡_, refl, sym, _∙_}
 use mathlib.Core.Bool.{Bool, true, false, _&&_}

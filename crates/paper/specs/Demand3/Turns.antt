@@ -1,4 +1,4 @@
--- What one step of a reversible mode does: each site's gauged pattern is permuted, and the sites that act and the labels stay. Assumes nothing.
+-- What one step of a reversible mode does: each site's gauged pattern is permuted, and the sites that act and the labels stay.
 use Prim.Native.Nat.{ℕ, _<_}
 use mathlib.Core.Path.{_≡_, refl, sym, _∙_}
 use mathlib.Core.Bool.{Bool, true, false, cond, _&&_}

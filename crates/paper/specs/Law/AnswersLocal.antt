@@ -1,4 +1,4 @@
--- A move's answer on one list of spins is its answer on another with the same rows of its group. Assumes nothing.
+-- A move's answer on one list of spins is its answer on another with the same rows of its group.
 use Prim.Native.Nat.{ℕ, _<_}
 use mathlib.Core.Path.{_≡_, sym, _∙_, ap}
 use mathlib.Core.Bool.{true}

@@ -1,4 +1,4 @@
--- Answers by computing a test, for worked examples. Assumes nothing.
+-- Answers by computing a test, for worked examples.
 use Prim.Native.Nat.{ℕ, zero, suc, _+_, _*_, _≤_, _<_}
 use mathlib.Core.Path.{_≡_, refl, sym, _∙_, ap, subst}
 use mathlib.Core.Logic.{_⊎_, inl, inr}

@@ -1,4 +1,4 @@
--- Tests, and what it tells that they pass. Assumes nothing.
+-- Tests, and what it tells that they pass.
 use Prim.Native.Nat.{ℕ, zero, suc, _<_}
 use mathlib.Core.Path.{_≡_, refl, ap}
 use mathlib.Core.Bool.{Bool, true, false, _&&_}

@@ -1,4 +1,4 @@
--- Lists by their cells: the cell of row t and column i is t * n + i. Assumes nothing.
+-- Lists by their cells: the cell of row t and column i is t * n + i.
 use Prim.Native.Nat.{ℕ, zero, suc, _+_, _*_, _/_, _%_, _<_}
 use mathlib.Core.Path.{_≡_, refl, _∙_, ap}
 use mathlib.Core.List.{List, [], _∷_}

@@ -1,4 +1,4 @@
--- Claims that a test decides, and the verdict on a list of them. Assumes nothing.
+-- Claims that a test decides, and the verdict on a list of them.
 use Prim.Native.Nat.{ℕ, zero, suc, _≤_, _<_}
 use mathlib.Core.Path.{_≡_, refl, sym, _∙_}
 use mathlib.Core.Logic.{_⊎_, inl, inr}

@@ -1,4 +1,4 @@
--- How tight the promise is: one input has one answer and one content of every lent buffer. Assumes nothing.
+-- How tight the promise is: one input has one answer and one content of every lent buffer.
 use Prim.Native.Nat.{ℕ, _<_}
 use mathlib.Core.Path.{_≡_, refl, sym, _∙_, ap}
 use mathlib.Core.Bool.{Bool, true, false}

@@ -1,4 +1,4 @@
--- The rules that an accepted text keeps, by name. Assumes nothing.
+-- The rules that an accepted text keeps, by name.
 use Prim.Native.Nat.{ℕ, _*_}
 use mathlib.Core.Path.{_≡_}
 use mathlib.Core.List.{List, []}

@@ -1,4 +1,4 @@
--- One text has one output. Assumes nothing.
+-- One text has one output.
 use Prim.Native.Nat.{ℕ, _+_, _*_, _/_, _%_, _<_}
 use mathlib.Core.Path.{_≡_, sym, _∙_, ap, subst}
 use mathlib.Core.Logic.{inl, inr}

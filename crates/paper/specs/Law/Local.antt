@@ -1,4 +1,4 @@
--- A move depends on its own group's rows alone: with other spins in the other systems it does the same. For sweeps and for two teams. Assumes nothing.
+-- A move depends on its own group's rows alone: with other spins in the other systems it does the same. For sweeps and for two teams.
 use Prim.Native.Nat.{ℕ, _+_, _*_, _/_, _<_}
 use mathlib.Core.Path.{_≡_, refl, ap}
 use mathlib.Core.Bool.{Bool, true, false, cond}

@@ -1,4 +1,4 @@
--- For a group of distinct systems the moved spins exist, whatever the labels: `Moves` asks for nothing contradictory. Assumes nothing.
+-- For a group of distinct systems the moved spins exist, whatever the labels: `Moves` asks for nothing contradictory.
 use Prim.Native.Nat.{ℕ, _+_, _*_, _/_, _%_, _<_, _≤_}
 use mathlib.Core.Path.{_≡_, refl, sym, _∙_, ap}
 use mathlib.Core.Logic.{_⊎_, inl, inr}

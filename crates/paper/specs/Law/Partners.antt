@@ -1,4 +1,4 @@
--- Laws of the exchange of partners, and of patterns whose pairs agree. Assumes nothing.
+-- Laws of the exchange of partners, and of patterns whose pairs agree.
 use Prim.Native.Nat.{ℕ, zero, suc, _+_, _*_, _/_, _<_, _≤_}
 use mathlib.Core.Path.{_≡_, refl, sym, _∙_, ap}
 use mathlib.Core.Bool.{Bool, true, false, not, _||_}

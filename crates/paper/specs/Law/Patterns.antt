@@ -1,4 +1,4 @@
--- Laws of patterns of spins: what the tests say, partners, and gauges. Assumes nothing.
+-- Laws of patterns of spins: what the tests say, partners, and gauges.
 use Prim.Native.Nat.{ℕ, zero, suc, _+_, _*_, _<_}
 use mathlib.Core.Path.{_≡_, refl, sym, ap}
 use mathlib.Core.Logic.{inl, inr}

@@ -1,4 +1,4 @@
--- Small consequences of the definitions, for all modes. Assumes nothing.
+-- Small consequences of the definitions, for all modes.
 use mathlib.Core.Path.{_≡_, refl, sym, _∙_, ap}
 use mathlib.Core.List.{List}
 use lib.IntN.{ℤ}

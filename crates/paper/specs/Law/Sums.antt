@@ -1,4 +1,4 @@
--- Sums of integers over the numbers below m: a permutation of the places changes none. Assumes nothing.
+-- Sums of integers over the numbers below m: a permutation of the places changes none.
 use mathlib.Core.Path.{_≡_, refl, sym, _∙_, ap}
 use mathlib.Core.Logic.{_≢_, _⊎_, inl, inr}
 use mathlib.Core.Bool.{Bool, true, false, cond}

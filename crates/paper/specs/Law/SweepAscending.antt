@@ -1,4 +1,4 @@
--- Tasks run one after another: a task that meets its own rows and areas as they were before the sweep does what it would do alone. Assumes nothing.
+-- Tasks run one after another: a task that meets its own rows and areas as they were before the sweep does what it would do alone.
 use Prim.Native.Nat.{ℕ, suc, _+_, _*_, _/_, _%_, _<_, _≤_}
 use mathlib.Core.Path.{_≡_, refl, sym, _∙_, ap}
 use mathlib.Core.Logic.{_⊎_, inl, inr}

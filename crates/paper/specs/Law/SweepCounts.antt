@@ -1,4 +1,4 @@
--- The two counts of a sweep are those of its tasks' answers: a task is counted as idle exactly if it answers idle. Assumes nothing.
+-- The two counts of a sweep are those of its tasks' answers: a task is counted as idle exactly if it answers idle.
 use Prim.Native.Nat.{ℕ, zero, suc, _+_, _<_}
 use mathlib.Core.Path.{_≡_, refl}
 use mathlib.Core.Bool.{Bool, true, false}

@@ -1,4 +1,4 @@
--- One sweep has one answer and one content of every buffer. Assumes nothing.
+-- One sweep has one answer and one content of every buffer.
 use Prim.Native.Nat.{ℕ, zero, suc, _+_, _*_, _/_, _%_, _<_}
 use mathlib.Core.Path.{_≡_, refl, sym, _∙_, ap}
 use mathlib.Core.Logic.{_⊎_, inl, inr, _≢_}

@@ -1,4 +1,4 @@
--- The rules that an accepted sweep keeps, by name. Assumes nothing.
+-- The rules that an accepted sweep keeps, by name.
 use Prim.Native.Nat.{ℕ, zero, suc, _≤_, _<_}
 use mathlib.Core.Path.{_≡_, refl, sym}
 use mathlib.Core.Bool.{Bool, true, false, cond}

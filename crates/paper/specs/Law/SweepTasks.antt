@@ -1,4 +1,4 @@
--- In a sweep that is accepted each unmasked task keeps all the rules of a move, so it is one. Assumes nothing.
+-- In a sweep that is accepted each unmasked task keeps all the rules of a move, so it is one.
 use Prim.Native.Nat.{ℕ, zero, suc, _+_, _*_, _%_, _<_}
 use mathlib.Core.Path.{_≡_, refl, sym, _∙_}
 use mathlib.Core.Bool.{false, cond}

@@ -1,4 +1,4 @@
--- Every sweep has a verdict, and it is computed. Assumes nothing.
+-- Every sweep has a verdict, and it is computed.
 use Prim.Native.Nat.{ℕ, zero, suc, _+_, _*_}
 use mathlib.Core.Path.{_≡_, refl, subst}
 use mathlib.Core.Bool.{Bool, true, false, cond}

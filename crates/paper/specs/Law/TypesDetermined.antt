@@ -1,4 +1,4 @@
--- The functions on the types: what each promises, it promises of one result. Assumes nothing.
+-- The functions on the types: what each promises, it promises of one result.
 use Prim.Native.Nat.{ℕ}
 use mathlib.Core.Path.{_≡_, sym, _∙_}
 use mathlib.Core.Bool.{Bool}

@@ -1,4 +1,4 @@
--- Labels, counts, sizes and moved spins are each determined. Assumes nothing.
+-- Labels, counts, sizes and moved spins are each determined.
 use Prim.Native.Nat.{ℕ, zero, suc, _+_, _/_, _%_, _≤_, _<_}
 use mathlib.Core.Path.{_≡_, refl, sym, _∙_, ap}
 use mathlib.Core.Logic.{_⊎_, inl, inr, _≢_, _↔_}

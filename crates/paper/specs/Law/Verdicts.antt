@@ -1,4 +1,4 @@
--- Each test of the table of refusals is decided, so every move, sweep and metering has a verdict, and it is computed. Assumes nothing.
+-- Each test of the table of refusals is decided, so every move, sweep and metering has a verdict, and it is computed.
 use Prim.Native.Nat.{ℕ, suc, _+_, _*_, _<_}
 use mathlib.Core.Path.{_≡_, refl, subst}
 use mathlib.Core.Bool.{_&&_}

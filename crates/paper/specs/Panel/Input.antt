@@ -1,4 +1,4 @@
--- What one move is handed. A call has the panel, the group and the sites; the choices are the draws; the buffers are what is lent and may change. Assumes nothing.
+-- What one move is handed. A call has the panel, the group and the sites; the choices are the draws; the buffers are what is lent and may change.
 use Prim.Native.Nat.{ℕ, _+_, _*_}
 use mathlib.Core.List.{List}
 use lib.ListN.{getD}

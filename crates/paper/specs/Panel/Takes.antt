@@ -1,4 +1,4 @@
--- Which inputs each mode and form takes. Assumes nothing.
+-- Which inputs each mode and form takes.
 use Prim.Native.Nat.{ℕ}
 use mathlib.Core.Bool.{Bool, true, false, not, _&&_}
 use Rattle.paper.specs.declared.Mode.{Mode}

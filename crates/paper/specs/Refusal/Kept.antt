@@ -1,4 +1,4 @@
--- The rules that an accepted move keeps, by name. Assumes nothing.
+-- The rules that an accepted move keeps, by name.
 use mathlib.Core.List.{List}
 use lib.IntN.{ℤ}
 use Rattle.paper.specs.Panel.Input.{Call, Choices, Buffers, size}

@@ -1,5 +1,5 @@
--- The refusals 1 to 10, as the rules that an accepted input keeps, in their order. A rule asks only of what the mode and form take. Assumes nothing.
-use Prim.Native.Nat.{ℕ, _+_, _*_, _/_, _≤_, _<_}
+-- The refusals 1 to 10, as the rules that an accepted input keeps, in their order. A rule asks only of what the mode and form take.
+use Prim.Native.Nat.{ℕ, _+_, _*_, _≤_, _<_}
 use mathlib.Core.Path.{_≡_}
 use mathlib.Core.Logic.{_⊎_}
 use mathlib.Core.Bool.{Bool, true, false, not, _&&_, _||_}

@@ -1,7 +1,7 @@
--- What a test of rules answers: 0 where all are kept, else the number of the first that is broken. Assumes nothing.
+-- What a test of rules answers: 0 where all are kept, else the number of the first that is broken.
 use Prim.Native.Nat.{ℕ, zero, suc}
-use mathlib.Core.Path.{_≡_, refl, ap}
-use mathlib.Core.Logic.{_⊎_, inl, inr}
+use mathlib.Core.Path.{_≡_, refl}
+use mathlib.Core.Logic.{inl, inr}
 use mathlib.Core.List.{List, [], _∷_, _++_}
 use Rattle.paper.specs.Refusal.Rule.{Rule, Kept, Broken, broken-unique, broken-not-kept}
 

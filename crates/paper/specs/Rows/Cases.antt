@@ -1,4 +1,4 @@
--- The lattices, calls and buffers of document 01's rows. Assumes nothing.
+-- The lattices, calls and buffers of document 01's rows.
 use Prim.Native.Nat.{ℕ, zero, suc, _^_}
 use Prim.Native.Char.{code}
 use Prim.Native.String.{String, [] as end, _∷_ as _then_}

@@ -1,4 +1,4 @@
--- CMR moves by computing (not rows of document 01): SW and Wolff. Assumes nothing.
+-- CMR moves by computing (not rows of document 01): SW and Wolff.
 use Prim.Native.Nat.{ℕ}
 use mathlib.Core.Path.{refl, sym}
 use mathlib.Core.List.{List, [], _∷_}

@@ -1,4 +1,4 @@
--- Row 13's text, by computing. Assumes nothing.
+-- Row 13's text, by computing.
 use Prim.Native.Nat.{ℕ}
 use mathlib.Core.Path.{_≡_, refl}
 use mathlib.Core.Logic.{inr}

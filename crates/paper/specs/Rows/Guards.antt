@@ -1,4 +1,4 @@
--- Values that no row of document 01 pins. Assumes nothing.
+-- Values that no row of document 01 pins.
 use Prim.Native.Nat.{ℕ, _^_}
 use mathlib.Core.Path.{_≡_, refl}
 use mathlib.Core.Bool.{true, false}

@@ -1,4 +1,4 @@
--- The table, by computing. Assumes nothing.
+-- The table, by computing.
 use mathlib.Core.Path.{refl}
 use lib.Ieee.{mul, div, lt, ofInt, round}
 use Rattle.paper.specs.declared.Mode.the-variants.{Pair, Perm}

@@ -1,4 +1,4 @@
--- Worked refusals: one input with a fault for each number 1 to 10. Assumes nothing.
+-- Worked refusals: one input with a fault for each number 1 to 10.
 use Prim.Native.Nat.{ℕ, suc, _<_}
 use mathlib.Core.Path.{refl}
 use mathlib.Core.Bool.{Bool, true, not, cond}

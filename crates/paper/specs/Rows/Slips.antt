@@ -1,4 +1,4 @@
--- Moves by computing (not rows of document 01) that shut out its slips. Two systems, A and B, in each. Assumes nothing.
+-- Moves by computing (not rows of document 01) that shut out its slips. Two systems, A and B, in each.
 use Prim.Native.Nat.{ℕ}
 use mathlib.Core.Path.{refl}
 use mathlib.Core.List.{List, [], _∷_}

@@ -1,4 +1,4 @@
--- Worked refusals of sweeps: what is tested, and in which order. Assumes nothing.
+-- Worked refusals of sweeps: what is tested, and in which order.
 use Prim.Native.Nat.{ℕ}
 use mathlib.Core.Path.{refl}
 use mathlib.Core.List.{List, [], _∷_}

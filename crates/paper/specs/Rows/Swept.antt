@@ -1,5 +1,5 @@
 -- A sweep by computing: perm, SW, one site and four temperatures of two replicas. Task 0 is idle, task 1 moves, task 2 moves by the identity and
--- task 3 is masked. Assumes nothing.
+-- task 3 is masked.
 use Prim.Native.Nat.{ℕ, zero, suc, _≤_, _<_}
 use mathlib.Core.Path.{_≡_, refl, sym, _∙_}
 use mathlib.Core.Logic.{_⊎_, inl, inr}

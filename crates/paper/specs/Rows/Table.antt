@@ -1,4 +1,4 @@
--- Document 01's rows to prove, as one statement. Rows/Proved.antt proves it. Assumes nothing.
+-- Document 01's rows to prove, as one statement. Rows/Proved.antt proves it.
 use Prim.Native.Nat.{ℕ}
 use mathlib.Core.Path.{_≡_}
 use mathlib.Core.Bool.{Bool, true, false}

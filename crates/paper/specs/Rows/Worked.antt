@@ -1,4 +1,4 @@
--- The moves of rows 12 and 13, by computing. Assumes nothing.
+-- The moves of rows 12 and 13, by computing.
 use mathlib.Core.Path.{refl}
 use mathlib.Core.List.{[]}
 use Rattle.paper.specs.declared.Mode.the-variants.{Pair, Perm}

@@ -1,4 +1,4 @@
--- Which sites act: a test on the group's pattern at the site, for any N. Assumes nothing.
+-- Which sites act: a test on the group's pattern at the site, for any N.
 use Prim.Native.Nat.{ℕ, zero, suc, _+_, _*_, _/_, _<_}
 use mathlib.Core.Path.{_≡_}
 use mathlib.Core.Bool.{Bool, true, false, not, _||_}

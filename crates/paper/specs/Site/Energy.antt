@@ -1,5 +1,5 @@
--- Sums over bonds. Assumes nothing.
-use Prim.Native.Nat.{ℕ, _+_, _*_}
+-- Sums over bonds.
+use Prim.Native.Nat.{ℕ}
 use mathlib.Core.List.{List}
 use lib.ListN.{getD}
 use lib.IntN.{ℤ, pos, negℤ, _*ℤ_}

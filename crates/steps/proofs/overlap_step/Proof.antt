@@ -1,8 +1,7 @@
 use borrow.Author.Needs.{needs}
-use mathlib.Core.Path.{_≡_}
 use denote.Ref.{now}
 use Rattle.paper.specs.Panel.Input.{Call, Choices, Buffers}
-use Rattle.paper.specs.Refusal.Rule.{Kept, Broken}
+use Rattle.paper.specs.Refusal.Rule.{Kept}
 use Rattle.paper.specs.Refusal.Rules.{choiceRules}
 use Rattle.paper.specs.Refusal.Verdict.{Verdict}
 use Rattle.moves.specs.Task.{callOf, choicesOf, buffersOf}

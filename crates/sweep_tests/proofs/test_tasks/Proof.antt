@@ -1,4 +1,4 @@
--- `test_tasks` meets its contract. The invariant: the tasks below k keep their rules. Assumes nothing.
+-- `test_tasks` meets its contract. The invariant: the tasks below k keep their rules.
 use borrow.Author.Needs.{needs}
 use Prim.Native.Nat.{_-_, _≤_, _<_}
 use mathlib.Core.Path.{_≡_}

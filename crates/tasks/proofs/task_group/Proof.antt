@@ -1,4 +1,4 @@
--- `task_group` meets its contract. The invariant: the systems of the first x places are read. Assumes nothing.
+-- `task_group` meets its contract. The invariant: the systems of the first x places are read.
 use borrow.Author.Needs.{needs}
 use Prim.Native.Nat.{ℕ, _+_, _-_, _*_, _/_, _%_, _≤_, _<_}
 use mathlib.Core.Path.{_≡_, ap}

@@ -1,4 +1,4 @@
--- `form_of` meets its contract. Assumes nothing.
+-- `form_of` meets its contract.
 use borrow.Author.Needs.{needs}
 use mathlib.Core.Path.{_≡_, refl}
 use native.Mathlib.Omega.{arith}

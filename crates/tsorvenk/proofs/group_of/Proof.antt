@@ -1,4 +1,4 @@
--- `group_of` meets its contract. Assumes nothing.
+-- `group_of` meets its contract.
 use borrow.Author.Needs.{needs}
 use Rattle.paper.specs.Answer.Task.{table}
 use Rattle.tsorvenk.proofs.group_of.Statement.{statement}

@@ -1,4 +1,4 @@
--- `mode_of` meets its contract. Assumes nothing.
+-- `mode_of` meets its contract.
 use borrow.Author.Needs.{needs}
 use mathlib.Core.Path.{_≡_, refl}
 use native.Mathlib.Omega.{arith}

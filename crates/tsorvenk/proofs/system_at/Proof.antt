@@ -1,4 +1,4 @@
--- `system_at` meets its contract. Assumes nothing.
+-- `system_at` meets its contract.
 use borrow.Author.Needs.{needs}
 use mathlib.Core.Path.{sym}
 use lib.ListN.{List·getD-eq-default}

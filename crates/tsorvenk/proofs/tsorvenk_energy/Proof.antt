@@ -1,6 +1,6 @@
--- `tsorvenk_energy` meets its contract: without room for the energy the sizes decide, else the meter answers. Assumes nothing.
+-- `tsorvenk_energy` meets its contract: without room for the energy the sizes decide, else the meter answers.
 use borrow.Author.Needs.{needs}
-use mathlib.Core.Path.{_≡_, subst}
+use mathlib.Core.Path.{subst}
 use mir.Syntax.{w64}
 use mir.ValLaws.{toZ-ofZ}
 use denote.Ref.{now}

@@ -1,4 +1,4 @@
--- `tsorvenk_label` meets its contract. Assumes nothing.
+-- `tsorvenk_label` meets its contract.
 use borrow.Author.Needs.{needs}
 use Rattle.tsorvenk.proofs.Told.{label-told}
 use Rattle.tsorvenk.proofs.tsorvenk_label.Statement.{statement}

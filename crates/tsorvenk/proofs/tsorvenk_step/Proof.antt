@@ -1,4 +1,4 @@
--- `tsorvenk_step` meets its contract: a code that is none is refused, and any other call is answered by `overlap_step`. Assumes nothing.
+-- `tsorvenk_step` meets its contract: a code that is none is refused, and any other call is answered by `overlap_step`.
 use borrow.Author.Needs.{needs}
 use native.Mathlib.Omega.{arith}
 use Rattle.tsorvenk.proofs.Told.{unknown-code, known-code, same-call}

@@ -1,5 +1,5 @@
--- `frame::fill::read_group` meets its contract: what was passed is filled, and the rest stays nought. Assumes nothing.
-use Prim.Native.Nat.{ℕ, _+_, _-_, _*_, _≤_, _<_}
+-- `frame::fill::read_group` meets its contract: what was passed is filled, and the rest stays nought.
+use Prim.Native.Nat.{ℕ, _+_, _-_, _*_, _≤_}
 use mathlib.Core.Path.{_≡_, sym, _∙_}
 use mathlib.Core.List.{List}
 use native.Mathlib.Omega.{arith}

@@ -1,13 +1,12 @@
--- `frame::fill::spin_of` meets its contract: -1 - (255 - b) is what a byte of 128 or more stands for. Assumes nothing.
+-- `frame::fill::spin_of` meets its contract: -1 - (255 - b) is what a byte of 128 or more stands for.
 use Prim.Native.Nat.{ℕ, zero, suc, _+_, _-_, _≤_, _<_}
-use mathlib.Core.Path.{_≡_, refl, sym, _∙_, ap, subst}
+use mathlib.Core.Path.{_≡_, refl, sym, _∙_, ap}
 use native.Mathlib.Omega.{arith}
 use borrow.Author.Tests.{lt-ltb, le-ltb}
-use lib.IntN.{ℤ, pos, negsuc, _-ℤ_}
+use lib.IntN.{pos, negsuc, _-ℤ_}
 use mir.Syntax.{w8}
 use mir.Val.{SFits, toZ}
 use mir.Facts.{toZ-ofZ}
-use Rattle.paper.specs.Answer.Frame.{signed}
 use borrow.Author.Needs.{needs}
 use Rattle.frame.proofs.fill.spin_of.Statement.{statement}
 use Rattle.frame.proofs.fill.spin_of.Tie as tie

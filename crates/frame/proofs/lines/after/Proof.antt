@@ -1,5 +1,5 @@
--- `frame::lines::after` meets its contract. Assumes nothing.
-use mathlib.Core.Path.{_≡_, sym, _∙_, subst}
+-- `frame::lines::after` meets its contract.
+use mathlib.Core.Path.{sym, _∙_, subst}
 use denote.Ref.{now}
 use Rattle.frame.specs.Scan.{LineAt, Passed, passed-of}
 use borrow.Author.Needs.{needs}

@@ -1,4 +1,4 @@
--- `frame::lines::digits_end` meets its contract: what was passed are digits. Assumes nothing.
+-- `frame::lines::digits_end` meets its contract: what was passed are digits.
 use Prim.Native.Nat.{_-_}
 use native.Mathlib.Omega.{arith}
 use lib.ListN.{length}

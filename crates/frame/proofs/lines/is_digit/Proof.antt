@@ -1,4 +1,4 @@
--- `frame::lines::is_digit` meets its contract. Assumes nothing.
+-- `frame::lines::is_digit` meets its contract.
 use mathlib.Core.Logic.{inl, inr}
 use Rattle.frame.specs.Digits.{below-digits, between-digits, above-digits}
 use borrow.Author.Needs.{needs}

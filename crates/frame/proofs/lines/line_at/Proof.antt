@@ -1,6 +1,5 @@
--- `frame::lines::line_at` meets its contract: a line that is spelt ends where the digits do. Assumes nothing.
-use Prim.Native.Nat.{_<_}
-use mathlib.Core.Path.{_≡_, sym, _∙_}
+-- `frame::lines::line_at` meets its contract: a line that is spelt ends where the digits do.
+use mathlib.Core.Path.{sym, _∙_}
 use native.Mathlib.Omega.{arith}
 use lib.ListN.{drop}
 use denote.Ref.{now}

@@ -1,4 +1,4 @@
--- `frame::lines::value` meets its contract. Assumes nothing.
+-- `frame::lines::value` meets its contract.
 use mathlib.Core.Path.{sym}
 use native.Mathlib.Omega.{arith}
 use borrow.Author.Tests.{lt-ltb, le-ltb}

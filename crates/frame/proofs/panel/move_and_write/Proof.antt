@@ -1,4 +1,4 @@
--- `frame::panel::move_and_write` meets its contract: what an accepted move leaves, two bytes hold. Assumes nothing.
+-- `frame::panel::move_and_write` meets its contract: what an accepted move leaves, two bytes hold.
 use mathlib.Core.List.{[]}
 use Rattle.moves.specs.Task.{buffersOf}
 use Rattle.frame.specs.Run.{writable}

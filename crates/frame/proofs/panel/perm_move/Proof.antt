@@ -1,4 +1,4 @@
--- `frame::panel::perm_move` meets its contract: it is the library's move, with the table that was worked out. Assumes nothing.
+-- `frame::panel::perm_move` meets its contract: it is the library's move, with the table that was worked out.
 use lib.Ieee.{ofInt, ofBits}
 use borrow.Author.Needs.{needs}
 use Rattle.frame.specs.Back.{reversed-of}

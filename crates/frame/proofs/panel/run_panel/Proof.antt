@@ -1,4 +1,4 @@
--- `frame::panel::run_panel` meets its contract: the used parts of the buffers are the text's, as long as its sizes ask. Assumes nothing.
+-- `frame::panel::run_panel` meets its contract: the used parts of the buffers are the text's, as long as its sizes ask.
 use Prim.Native.Nat.{_+_, _*_, _≤_}
 use mathlib.Core.Path.{_≡_, sym}
 use native.Mathlib.Nat.{mul-le-mul}

@@ -1,4 +1,4 @@
--- `frame::panel::write_answer` meets its contract, in each case of the answer. Assumes nothing.
+-- `frame::panel::write_answer` meets its contract, in each case of the answer.
 use mathlib.Core.Path.{subst}
 use denote.Ref.{now}
 use Rattle.frame.specs.Run.{Writable}

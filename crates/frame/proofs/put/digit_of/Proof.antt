@@ -1,4 +1,4 @@
--- `frame::put::digit_of` meets its contract. Assumes nothing.
+-- `frame::put::digit_of` meets its contract.
 use mathlib.Core.Path.{sym}
 use borrow.Author.Tests.{lt-ltb, le-ltb}
 use borrow.Author.Needs.{needs}

@@ -1,4 +1,4 @@
--- `frame::put::put_byte` meets its contract. Assumes nothing.
+-- `frame::put::put_byte` meets its contract.
 use Rattle.frame.specs.Writing.{two-digits}
 use borrow.Author.Needs.{needs}
 use Rattle.frame.proofs.put.put_byte.Statement.{statement}

@@ -1,4 +1,4 @@
--- `frame::put::put_word` meets its contract. Assumes nothing.
+-- `frame::put::put_word` meets its contract.
 use Prim.Native.Nat.{_/_, _%_}
 use denote.Ref.{now}
 use Rattle.frame.specs.Writing.{four-digits}

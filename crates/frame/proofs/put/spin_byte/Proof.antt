@@ -1,14 +1,13 @@
--- `frame::put::spin_byte` meets its contract: below zero, -1 - z is what is missing to 255. Assumes nothing.
+-- `frame::put::spin_byte` meets its contract: below zero, -1 - z is what is missing to 255.
 use Prim.Native.Nat.{ℕ, suc, _-_, _<_}
-use mathlib.Core.Path.{_≡_, refl, sym, _∙_, ap, subst}
+use mathlib.Core.Path.{_≡_, refl, _∙_, ap}
 use mathlib.Core.Bool.{true, false}
 use native.Mathlib.Omega.{arith}
 use borrow.Author.Tests.{ltb-true, le-ltb}
-use lib.Dec.{T}
 use lib.IntN.{ℤ, pos, negsuc, natAbs, _-ℤ_}
-use lib.Signed.{mag, ltZ, nonNeg}
+use lib.Signed.{mag, ltZ}
 use mir.Syntax.{w8}
-use mir.Val.{SFits, Fits, toZ, ofZ}
+use mir.Val.{SFits, toZ, ofZ}
 use mir.Facts.{toZ-ofZ}
 use Rattle.paper.specs.Answer.Frame.{spinByte}
 use Rattle.frame.proofs.put.spin_byte.Statement.{statement}

@@ -1,4 +1,4 @@
--- `frame::scan::scan` meets its contract: the first line. Assumes nothing.
+-- `frame::scan::scan` meets its contract: the first line.
 use mathlib.Core.Path.{subst}
 use denote.Ref.{now}
 use Rattle.paper.specs.Component.Marks.{told, denied}

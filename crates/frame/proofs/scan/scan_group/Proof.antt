@@ -1,4 +1,4 @@
--- `frame::scan::scan_group` meets its contract: the fourth and the fifth line, and the text's end. Assumes nothing.
+-- `frame::scan::scan_group` meets its contract: the fourth and the fifth line, and the text's end.
 use Prim.Native.Nat.{_*_}
 use mathlib.Core.Path.{subst}
 use native.Mathlib.Omega.{arith}

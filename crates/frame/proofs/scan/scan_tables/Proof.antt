@@ -1,4 +1,4 @@
--- `frame::scan::scan_tables` meets its contract: the second and the third line. Assumes nothing.
+-- `frame::scan::scan_tables` meets its contract: the second and the third line.
 use Prim.Native.Nat.{_*_}
 use mathlib.Core.Path.{subst}
 use native.Mathlib.Omega.{arith}

@@ -1,4 +1,4 @@
--- `frame::scan::sizes_in` meets its contract: the sizes stand at the places 2, 6 and 8. Assumes nothing.
+-- `frame::scan::sizes_in` meets its contract: the sizes stand at the places 2, 6 and 8.
 use Prim.Native.Nat.{ℕ, _+_, _*_, _<_}
 use mathlib.Core.Path.{_≡_, sym, _∙_}
 use native.Mathlib.Omega.{arith}

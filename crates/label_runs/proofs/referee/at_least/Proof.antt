@@ -1,4 +1,4 @@
--- `at_least` keeps its indices in range and ends. Assumes nothing.
+-- `at_least` keeps its indices in range and ends.
 use Prim.Native.Nat.{_-_, _≤_}
 use lib.ListN.{length}
 use borrow.Author.Needs.{needs}

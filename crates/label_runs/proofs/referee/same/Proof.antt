@@ -1,4 +1,4 @@
--- `same` keeps its indices in range and ends. Assumes nothing.
+-- `same` keeps its indices in range and ends.
 use Prim.Native.Nat.{_-_, _≤_}
 use lib.ListN.{length}
 use borrow.Author.Needs.{needs}

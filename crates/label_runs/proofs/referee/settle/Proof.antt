@@ -1,4 +1,4 @@
--- `settle` keeps its indices in range and ends. Assumes nothing.
+-- `settle` keeps its indices in range and ends.
 use Prim.Native.Nat.{_-_, _≤_}
 use mathlib.Core.Path.{_≡_}
 use lib.ListN.{length}

@@ -1,13 +1,10 @@
 use borrow.Author.Needs.{needs}
-use Prim.Native.Nat.{ℕ, _+_, _*_, _^_, _≤_, _<_}
-use mathlib.Core.Path.{_≡_, refl, sym, _∙_}
-use mathlib.Core.List.{List, []}
-use native.Mathlib.Omega.{arith}
+use Prim.Native.Nat.{ℕ, _^_, _<_}
+use mathlib.Core.Path.{sym, _∙_}
 use denote.Ref.{now}
 use lib.ListN.{length, getD}
 use Rattle.paper.specs.Component.Marks.{marked}
 use Rattle.paper.specs.Law.Unique.{label-lt}
-use Rattle.label.specs.Contract.{graphOf}
 use Rattle.moves.specs.Cmr.{flips-narrow}
 use Rattle.moves.proofs.cmr.choose_cmr.Statement.{statement}
 use Rattle.moves.proofs.cmr.choose_cmr.Tie as tie

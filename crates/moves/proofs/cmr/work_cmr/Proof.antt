@@ -1,14 +1,13 @@
 use borrow.Author.Needs.{needs}
-use Prim.Native.Nat.{ℕ, _+_, _*_, _^_, _≤_, _<_}
+use Prim.Native.Nat.{ℕ}
 use mathlib.Core.Path.{_≡_, refl, sym, _∙_}
-use mathlib.Core.Bool.{Bool, true, false, _&&_}
+use mathlib.Core.Bool.{true}
 use mathlib.Core.List.{List, []}
 use native.Mathlib.Omega.{arith}
 use denote.Ref.{now}
-use lib.ListN.{length, getD}
 use Rattle.paper.specs.declared.Mode.the-variants.{Cmr}
 use Rattle.paper.specs.declared.Form.{Form}
-use Rattle.paper.specs.Panel.Input.{Call, Choices, graph}
+use Rattle.paper.specs.Panel.Input.{Call, graph}
 use Rattle.paper.specs.Panel.Takes.{isSw, moves, flipsBy}
 use Rattle.paper.specs.Site.Bonds.{holds}
 use Rattle.paper.specs.Law.ByTest.{never, and-left}

@@ -1,12 +1,6 @@
 use borrow.Author.Needs.{needs}
-use Prim.Native.Nat.{ℕ, _+_, _*_, _≤_}
-use mathlib.Core.Path.{_≡_, sym, _∙_, ap}
-use mathlib.Core.List.{List}
 use native.Mathlib.Omega.{arith}
 use denote.Ref.{now}
-use lib.ListN.{length}
-use Rattle.paper.specs.declared.Form.{Form}
-use Rattle.paper.specs.Panel.Input.{Call}
 use Rattle.moves.specs.Task.{callOf}
 use Rattle.moves.specs.Looked.{acts-flags, acts-tells}
 use Rattle.moves.specs.Held.{held-labels}

@@ -1,19 +1,17 @@
 use borrow.Author.Needs.{needs}
-use Prim.Native.Nat.{ℕ, _+_, _*_, _≤_, _<_}
-use mathlib.Core.Path.{_≡_, refl, sym, _∙_, ap}
-use mathlib.Core.Bool.{Bool, true, false, not}
+use Prim.Native.Nat.{ℕ}
+use mathlib.Core.Path.{refl, sym, _∙_}
 use mathlib.Core.List.{List, []}
 use native.Mathlib.Omega.{arith}
 use denote.Ref.{now}
-use lib.ListN.{length, getD}
+use lib.ListN.{getD}
 use lib.IntN.{pos}
-use Rattle.paper.specs.Panel.Input.{Call, Choices, graph, size}
-use Rattle.paper.specs.Panel.Takes.{isPerm, moves, permsBy}
+use Rattle.paper.specs.Panel.Input.{Call, Choices, graph}
+use Rattle.paper.specs.Panel.Takes.{moves}
 use Rattle.paper.specs.Site.Bonds.{holds}
 use Rattle.paper.specs.Component.Marks.{passed, refused}
 use Rattle.paper.specs.Law.Unique.{label-lt}
 use Rattle.moves.specs.Task.{callOf, choicesOf}
-use Rattle.moves.specs.Work.{LabelDone}
 use Rattle.moves.specs.Looked.{none-acts}
 use Rattle.moves.specs.Choices.{places-of, rows-of, columns-narrow, chosen-by}
 use Rattle.moves.specs.Finish.{observed, no-move, once}

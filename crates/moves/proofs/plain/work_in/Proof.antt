@@ -1,10 +1,9 @@
 use borrow.Author.Needs.{needs}
 use Prim.Native.Nat.{_*_, _≤_}
-use mathlib.Core.Path.{_≡_, sym, _∙_}
+use mathlib.Core.Path.{sym}
 use native.Mathlib.Nat.{mul-le-mul}
 use native.Mathlib.Omega.{arith}
 use denote.Ref.{now}
-use lib.ListN.{length}
 use Rattle.moves.specs.Work.{front}
 use Rattle.moves.proofs.plain.work_in.Statement.{statement}
 use Rattle.moves.proofs.plain.work_in.Tie as tie

@@ -1,4 +1,4 @@
--- `replay::cases::run_all` ends after as many cases as the list says. Assumes nothing.
+-- `replay::cases::run_all` ends after as many cases as the list says.
 use Prim.Native.Nat.{_-_, _≤_}
 use mathlib.Core.Path.{_≡_}
 use lib.ListN.{length}

@@ -1,4 +1,4 @@
--- `replay::digits::decode` keeps its index in range and ends. Assumes nothing.
+-- `replay::digits::decode` keeps its index in range and ends.
 use Prim.Native.Nat.{_-_, _≤_}
 use mathlib.Core.Path.{_≡_}
 use lib.ListN.{length}

@@ -1,8 +1,7 @@
--- `replay::digits::whole_bytes` answers no more than the list has. Assumes nothing.
+-- `replay::digits::whole_bytes` answers no more than the list has.
 use mathlib.Core.Path.{sym}
 use native.Mathlib.Omega.{arith}
 use lib.Seq.{length-take-le}
-use borrow.Author.Needs.{needs}
 use Rattle.replay.proofs.digits.whole_bytes.Statement.{statement}
 use Rattle.replay.proofs.digits.whole_bytes.Tie as tie
 

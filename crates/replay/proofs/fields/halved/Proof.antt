@@ -1,4 +1,4 @@
--- `replay::fields::halved` ends after as many turns as it is told. Assumes nothing.
+-- `replay::fields::halved` ends after as many turns as it is told.
 use Prim.Native.Nat.{_-_, _≤_}
 use borrow.Author.Needs.{needs}
 use Rattle.replay.proofs.fields.halved.Statement.{statement}

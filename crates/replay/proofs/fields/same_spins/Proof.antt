@@ -1,4 +1,4 @@
--- `replay::fields::same_spins` keeps its indices in range and ends. Assumes nothing.
+-- `replay::fields::same_spins` keeps its indices in range and ends.
 use Prim.Native.Nat.{_-_, _≤_}
 use lib.ListN.{length}
 use borrow.Author.Needs.{needs}

@@ -1,9 +1,9 @@
--- `replay::fields::signed` is safe: -1 - (2 ^ 32 - 1 - x) fits where x is 2 ^ 31 or more. Assumes nothing.
+-- `replay::fields::signed` is safe: -1 - (2 ^ 32 - 1 - x) fits where x is 2 ^ 31 or more.
 use Prim.Native.Nat.{ℕ, zero, suc, _+_, _-_, _≤_, _<_}
 use mathlib.Core.Path.{_≡_, refl, ap}
 use native.Mathlib.Omega.{arith}
 use borrow.Author.Tests.{lt-ltb}
-use lib.IntN.{ℤ, pos, negsuc, _-ℤ_}
+use lib.IntN.{pos, negsuc, _-ℤ_}
 use mir.Syntax.{w32}
 use mir.Val.{SFits, toZ}
 use borrow.Author.Needs.{needs}

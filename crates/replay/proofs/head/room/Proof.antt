@@ -1,4 +1,4 @@
--- `replay::head::room`: the product of two numbers below 65,536 fits, and is answered only where it is no more than `most`. Assumes nothing.
+-- `replay::head::room`: the product of two numbers below 65,536 fits, and is answered only where it is no more than `most`.
 use native.Mathlib.Nat.{mul-le-mul, le-of-lt}
 use native.Mathlib.Omega.{arith}
 use borrow.Author.Needs.{needs}

@@ -1,4 +1,4 @@
--- `replay::panel::with_panel` keeps its parts within the arrays. Assumes nothing.
+-- `replay::panel::with_panel` keeps its parts within the arrays.
 use mathlib.Core.Path.{sym}
 use lib.Seq.{length-take-le}
 use borrow.Author.Needs.{needs}

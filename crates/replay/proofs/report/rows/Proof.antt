@@ -1,4 +1,4 @@
--- `replay::report::rows` ends after its 18 rows. Assumes nothing.
+-- `replay::report::rows` ends after its 18 rows.
 use Prim.Native.Nat.{_-_, _≤_}
 use borrow.Author.Needs.{needs}
 use Rattle.replay.proofs.report.rows.Statement.{statement}

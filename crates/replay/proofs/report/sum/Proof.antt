@@ -1,4 +1,4 @@
--- `replay::report::sum` keeps its index in range and ends. Assumes nothing.
+-- `replay::report::sum` keeps its index in range and ends.
 use Prim.Native.Nat.{_-_, _≤_}
 use lib.ListN.{length}
 use borrow.Author.Needs.{needs}

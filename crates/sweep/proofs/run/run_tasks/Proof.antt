@@ -1,4 +1,4 @@
--- `run_tasks` meets its contract. The invariant: the first k tasks have run. Assumes nothing.
+-- `run_tasks` meets its contract. The invariant: the first k tasks have run.
 use borrow.Author.Needs.{needs}
 use Prim.Native.Nat.{_-_, _<_}
 use mathlib.Core.Path.{_≡_}

@@ -1,4 +1,4 @@
--- `tsorvenk_frames` meets its contract. Assumes nothing.
+-- `tsorvenk_frames` meets its contract.
 use borrow.Author.Needs.{needs}
 use denote.Ref.{now}
 use Rattle.tsorvenk.proofs.Written.{no-place, wrote, no-room-for}

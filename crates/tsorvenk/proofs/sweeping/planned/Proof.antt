@@ -1,4 +1,4 @@
--- `planned` meets its contract: of the verdicts on sizes only 1 speaks of test 1. Assumes nothing.
+-- `planned` meets its contract: of the verdicts on sizes only 1 speaks of test 1.
 use borrow.Author.Needs.{needs}
 use Rattle.tsorvenk.proofs.Swept.{plan-kept, plan-broken}
 use Rattle.tsorvenk.proofs.sweeping.planned.Statement.{statement}

@@ -1,4 +1,4 @@
--- `roomless` meets its contract. Assumes nothing.
+-- `roomless` meets its contract.
 use borrow.Author.Needs.{needs}
 use mathlib.Core.Path.{refl}
 use mathlib.Core.Logic.{inl, inr}

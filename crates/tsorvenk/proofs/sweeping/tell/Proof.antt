@@ -1,4 +1,4 @@
--- `tell` meets its contract. Assumes nothing.
+-- `tell` meets its contract.
 use borrow.Author.Needs.{needs}
 use denote.Ref.{now}
 use Rattle.tsorvenk.proofs.Swept.{counts-told}

@@ -1,5 +1,5 @@
 -- `tsorvenk_sweep` meets its contract: a code that is none is refused, without room for the counts test 1 decides, and any other
--- call is answered by `overlap_update`. Assumes nothing.
+-- call is answered by `overlap_update`.
 use borrow.Author.Needs.{needs}
 use native.Mathlib.Omega.{arith}
 use denote.Ref.{now}
