@@ -4,3 +4,4 @@ pub mod Task
 pub mod Sweep
 pub mod Meter
 pub mod Frame
+pub mod Same

@@ -13,11 +13,16 @@ pub mod Sanity
 pub mod MovesExist
 pub mod Local
 pub mod AnswersLocal
+pub mod Matched
+pub mod Untaken
+pub mod UntakenRules
+pub mod UntakenAnswers
 pub mod SweepKept
 pub mod SweepVerdicts
 pub mod SweepTasks
 pub mod SweepAscending
 pub mod SweepCounts
 pub mod SweepDetermined
+pub mod SweepUntaken
 pub mod FrameKept
 pub mod FramesDetermined

@@ -33,7 +33,7 @@ pub record Alike (c : Call) (xs ys : List ℤ) : Type 0 where
   pub some : 0 < size c
   pub two : isCmr (c .mode) ≡ true → size c ≡ 2
 
-term-ext : (m : ℕ) (f g f′ g′ : Pattern) → Agree m f f′ → Agree m g g′ → (x : ℕ) → x < m / 2 → pairTerm f g x ≡ pairTerm f′ g′ x
+pub term-ext : (m : ℕ) (f g f′ g′ : Pattern) → Agree m f f′ → Agree m g g′ → (x : ℕ) → x < m / 2 → pairTerm f g x ≡ pairTerm f′ g′ x
 term-ext m f g f′ g′ p q x h =
     let l : 2 * x < m = omega (arith, pairs-fit m) in
     let r : 2 * x + 1 < m = omega (arith, pairs-fit m) in
@@ -44,7 +44,7 @@ flip-at m k true f g e h = e (partner m k) (partner-lt m k h)
 flip-at m k false f g e h = e k h
 
 -- a component's choice makes the same of two patterns that agree
-act-ext :
+pub act-ext :
     (m : Mode) (c : Call) (p : Choices) (r : ℕ) (P Q f g : Pattern)
     → (isPerm m ≡ true → Permutes (size c) (permOf c p r))
     → (isGperm m ≡ true → Agree (size c) P Q)
@@ -57,7 +57,7 @@ act-ext Perm c p r P Q f g h u e k l = e (permOf c p r k) (h refl .within k l)
 act-ext Gperm c p r P Q f g h u e k l = let b = h refl .within k l in cc (u refl k l, u refl (permOf c p r k) b, e (permOf c p r k) b)
 act-ext Cmr c p r P Q f g h u e k l = cc (e k l)
 
-kind-ext : (j : ℤ) (f g f′ g′ : Pattern) → Agree 2 f f′ → Agree 2 g g′ → kindOf j f g ≡ kindOf j f′ g′
+pub kind-ext : (j : ℤ) (f g f′ g′ : Pattern) → Agree 2 f f′ → Agree 2 g g′ → kindOf j f g ≡ kindOf j f′ g′
 kind-ext j f g f′ g′ p q = cc (p 0 (omega arith), p 1 (omega arith), q 0 (omega arith), q 1 (omega arith))
 
 module _ (c : Call) (xs ys : List ℤ) (a : Alike c xs ys) where
