@@ -8,5 +8,6 @@ pub mod Compose
 pub mod ChoicesAdd
 pub mod ChoiceRows
 pub mod ChoicesFit
+pub mod Such
 pub mod Chain
 pub mod Theorem

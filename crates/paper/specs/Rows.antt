@@ -9,3 +9,4 @@ pub mod Guards
 pub mod Swept
 pub mod Slips
 pub mod SweepRefused
+pub mod Such

@@ -25,6 +25,7 @@ use Rattle.paper.specs.Demand3.Statement.{Reversible, Move, Outcome}
 use Rattle.paper.specs.Demand3.Step.{Step, step, seen-of, valid-move}
 use Rattle.paper.specs.Demand3.Turns.{spins-kept, acts-kept, labels-kept}
 use Rattle.paper.specs.Demand3.ChoicesFit.{Sized, no-greys}
+use Rattle.paper.specs.Demand3.Such.{outcome}
 
 module _ {c : Call} {p : Choices} {xs : List ℤ} {l : List ℕ} {ys : List ℤ} (s : Step c p xs l ys) where
   -- every spin is +1 or -1 after the move
@@ -81,19 +82,13 @@ module _
     outcome-of = go (some-or-none (acts c (d .spins)) (c .lattice .n))
       where
         go : ((i : ℕ) × (i < c .lattice .n) × (acts c (d .spins) i ≡ true)) ⊎ NoneActs c (d .spins) → Outcome c r d
-        go (inl q) = record {
-          after = left (write c (d .spins) (final c r (d .spins) l (d .greyLabels)));
-          move = Move.moved (record {
-            valid = valid-kept c r d k;
-            some = record { site = q .0; below = q .1; does = q .2 };
-            moved = moves-exist c r (d .spins) l (d .greyLabels) (k .sound .grouped) (k .sound .exact .spins);
-            seen = seen _;
-          });
-        }
-        go (inr q) = record {
-          after = left (d .spins);
-          move = Move.idle (record { valid = valid-kept c r d k; none = q; still = refl; seen = seen (d .spins) });
-        }
+        go (inl q) = outcome (left (write c (d .spins) (final c r (d .spins) l (d .greyLabels)))) (Move.moved (record {
+          valid = valid-kept c r d k;
+          some = record { site = q .0; below = q .1; does = q .2 };
+          moved = moves-exist c r (d .spins) l (d .greyLabels) (k .sound .grouped) (k .sound .exact .spins);
+          seen = seen _;
+        }))
+        go (inr q) = outcome (left (d .spins)) (Move.idle (record { valid = valid-kept c r d k; none = q; still = refl; seen = seen (d .spins) }))
 
 -- ---- other choices: on the buffers that a move was lent, and on any that have the spins that it left
 module _ {c : Call} {p : Choices} {b b′ : Buffers} (v : Reversible (c .mode) (size c)) (m : Move c p b b′) where

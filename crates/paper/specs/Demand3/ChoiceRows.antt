@@ -18,9 +18,10 @@ use Rattle.paper.specs.Law.ByTest.{never}
 use Rattle.paper.specs.Law.Unique.{Placed}
 use Rattle.paper.specs.Law.Sums.{onto}
 use Rattle.paper.specs.Law.Cells.{row-of, column-of, cell-lt, table-at, length-table}
-use Rattle.paper.specs.Demand3.Statement.{Composed, Cancels, permsOf, composite, placeOf, inverse, identity}
+use Rattle.paper.specs.Demand3.Statement.{permsOf, composite, placeOf, inverse, identity}
 use Rattle.paper.specs.Demand3.Reversible.{permOf}
 use Rattle.paper.specs.Demand3.Step.{entry-lt}
+use Rattle.paper.specs.Demand3.ChoicesAdd.{ComposedAll, CancelsAll}
 
 -- ---- functions
 pub twice : (m : ℕ) (f g : ℕ → ℕ) → Permutes m f → Permutes m g → Permutes m (λ k. f (g k))
@@ -102,20 +103,16 @@ module _ (c : Call) (e : isPerm (c .mode) ≡ true) (f : moves (c .form) ≡ tru
   here : (l : ℕ) → l < c .lattice .n → entry (c .form) l < entries (c .form) (c .lattice .n)
   here l h = entry-lt (c .form) (c .lattice .n) l f h
 
-  pub perm-composes : (p q : Choices) → Composed c p q (composite c p q)
-  perm-composes p q = record {
-    is = λ l hl k hk.
-        rw (perm-is (composite c p q) l k, perm-is p l (chosen c q l k), perm-is q l k)
-        (rows-at c (λ r k. permRow c p r (permRow c q r k)) (entry (c .form) l) k (here l hl) hk);
-  }
+  pub perm-composes : (p q : Choices) → ComposedAll c p q (composite c p q)
+  perm-composes p q l hl k hk =
+      rw (perm-is (composite c p q) l k, perm-is p l (chosen c q l k), perm-is q l k)
+      (rows-at c (λ r k. permRow c p r (permRow c q r k)) (entry (c .form) l) k (here l hl) hk)
 
-  pub perm-cancels : (p : Choices) → ((r : ℕ) → r < entries (c .form) (c .lattice .n) → Permutes (size c) (permRow c p r)) → Cancels c p (inverse c p)
-  perm-cancels p h = record {
-    is = λ l hl k hk.
-        let r = entry (c .form) l in
-        let at = rows-at c (λ r. placeOf (size c) (permRow c p r)) r k (here l hl) hk in
-        rw (perm-is p l (chosen c (inverse c p) l k), perm-is (inverse c p) l k, at) (there (size c) (permRow c p r) (h r (here l hl)) k hk .is);
-  }
+  pub perm-cancels : (p : Choices) → ((r : ℕ) → r < entries (c .form) (c .lattice .n) → Permutes (size c) (permRow c p r)) → CancelsAll c p (inverse c p)
+  perm-cancels p h l hl k hk =
+      let r = entry (c .form) l in
+      let at = rows-at c (λ r. placeOf (size c) (permRow c p r)) r k (here l hl) hk in
+      rw (perm-is p l (chosen c (inverse c p) l k), perm-is (inverse c p) l k, at) (there (size c) (permRow c p r) (h r (here l hl)) k hk .is)
 
   pub perm-stays : (l k : ℕ) → l < c .lattice .n → k < size c → chosen c (identity c) l k ≡ k
   perm-stays l k hl hk = perm-is (identity c) l k ∙ rows-at c (λ r k. k) (entry (c .form) l) k (here l hl) hk

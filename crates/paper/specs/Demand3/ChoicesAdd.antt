@@ -13,8 +13,15 @@ use Rattle.paper.specs.Panel.Takes.{isPerm}
 use Rattle.paper.specs.Move.Moving.{partner, chosen, chosenBy}
 use Rattle.paper.specs.Law.ByTest.{never}
 use Rattle.paper.specs.Law.Partners.{partner-twice}
-use Rattle.paper.specs.Demand3.Statement.{Reversible, Composed, Cancels}
+use Rattle.paper.specs.Demand3.Statement.{Reversible, ComposedAt, CancelsAt}
 use Rattle.paper.specs.Demand3.Reversible.{flipOf}
+
+-- at every entry, also at one that no component has
+abbrev pub ComposedAll : Call → Choices → Choices → Choices → Type 0
+ComposedAll c p q r = (l : ℕ) → l < c .lattice .n → ComposedAt c p q r l
+
+abbrev pub CancelsAll : Call → Choices → Choices → Type 0
+CancelsAll c p q = (l : ℕ) → l < c .lattice .n → CancelsAt c p q l
 
 flip-in :
     (m : Mode) (s : ℕ)
@@ -61,17 +68,15 @@ module _ (c : Call) (v : Reversible (c .mode) (size c)) (e : isPerm (c .mode) �
       → ((l : ℕ) → l < c .lattice .n → getD (p .flips) l 0 ≤ 1)
       → ((l : ℕ) → l < c .lattice .n → getD (q .flips) l 0 ≤ 1)
       → ((l : ℕ) → l < c .lattice .n → getD (r .flips) l 0 ≡ (getD (p .flips) l 0 + getD (q .flips) l 0) % 2)
-      → Composed c p q r
-  add-composes p q r sw hp hq hr = record {
-    is = λ l hl k hk.
-        rw (flip-is r l k, flip-both p q l k, flip-is q l k, sw)
-        (flips-add (size c) (getD (p .flips) l 0) (getD (q .flips) l 0) (getD (r .flips) l 0) k (hp l hl) (hq l hl) (hr l hl));
-  }
+      → ComposedAll c p q r
+  add-composes p q r sw hp hq hr l hl k hk =
+      rw (flip-is r l k, flip-both p q l k, flip-is q l k, sw)
+      (flips-add (size c) (getD (p .flips) l 0) (getD (q .flips) l 0) (getD (r .flips) l 0) k (hp l hl) (hq l hl) (hr l hl))
 
   -- the same flips cancel
-  pub same-cancels : (p q : Choices) → ((l : ℕ) → flipOf c q l ≡ flipOf c p l) → Cancels c p q
-  same-cancels p q same = record { is = λ l hl k hk. rw (flip-both p q l k, flip-is q l k, same l) (flip-twice (size c) (flipOf c p l) k) }
+  pub same-cancels : (p q : Choices) → ((l : ℕ) → flipOf c q l ≡ flipOf c p l) → CancelsAll c p q
+  same-cancels p q same l hl k hk = rw (flip-both p q l k, flip-is q l k, same l) (flip-twice (size c) (flipOf c p l) k)
 
   -- Wolff takes no flip: two moves cancel
-  pub wolff-cancels : (p q : Choices) → c .form ≡ Wolff → Cancels c p q
+  pub wolff-cancels : (p q : Choices) → c .form ≡ Wolff → CancelsAll c p q
   wolff-cancels p q wolff = same-cancels p q (λ l. rw wolff)

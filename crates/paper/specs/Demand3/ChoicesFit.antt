@@ -13,9 +13,9 @@ use Rattle.paper.specs.Move.Moving.{chosen}
 use Rattle.paper.specs.Refusal.Rules.{When, NotIdentity, permRow, Chosen}
 use Rattle.paper.specs.Law.ByTest.{never, and-left, and-right, and-no}
 use Rattle.paper.specs.Law.Cells.{table-at, length-table}
-use Rattle.paper.specs.Demand3.Statement.{Reversible, Composed, Cancels, composite, inverse, identity, placeOf}
+use Rattle.paper.specs.Demand3.Statement.{Reversible, composite, inverse, identity, placeOf}
 use Rattle.paper.specs.Demand3.Reversible.{not-cmr}
-use Rattle.paper.specs.Demand3.ChoicesAdd.{flip-is, add-composes, same-cancels}
+use Rattle.paper.specs.Demand3.ChoicesAdd.{ComposedAll, CancelsAll, flip-is, add-composes, same-cancels}
 use Rattle.paper.specs.Demand3.ChoiceRows.{rows-long, perm-composes, perm-cancels, perm-stays}
 use Rattle.paper.specs.Demand3.ChoiceRows.{composite-row, composite-moves, inverse-row, inverse-moves, identity-row}
 
@@ -51,13 +51,13 @@ module _ (c : Call) (v : Reversible (c .mode) (size c)) where
       reference = hp .reference;
     }
 
-    pub composite-is : moves (c .form) ≡ true → (isPerm (c .mode) ≡ false → c .form ≡ Sw) → Composed c p q (composite c p q)
+    pub composite-is : moves (c .form) ≡ true → (isPerm (c .mode) ≡ false → c .form ≡ Sw) → ComposedAll c p q (composite c p q)
     composite-is f sw = go (isPerm (c .mode)) refl
       where
         taken : isPerm (c .mode) ≡ false → takesFlips c ≡ true
         taken e = rw (sw e, e) refl
 
-        go : (t : Bool) → isPerm (c .mode) ≡ t → Composed c p q (composite c p q)
+        go : (t : Bool) → isPerm (c .mode) ≡ t → ComposedAll c p q (composite c p q)
         go true e = perm-composes c e f p q
         go false e = add-composes c v e p q (composite c p q) (sw e) (hp .flips (taken e)) (hq .flips (taken e)) (table-at (c .lattice .n) _)
 
@@ -74,10 +74,10 @@ module _ (c : Call) (v : Reversible (c .mode) (size c)) where
       reference = hp .reference;
     }
 
-    pub inverse-cancels : moves (c .form) ≡ true → Cancels c p (inverse c p)
+    pub inverse-cancels : moves (c .form) ≡ true → CancelsAll c p (inverse c p)
     inverse-cancels f = go (isPerm (c .mode)) refl
       where
-        go : (t : Bool) → isPerm (c .mode) ≡ t → Cancels c p (inverse c p)
+        go : (t : Bool) → isPerm (c .mode) ≡ t → CancelsAll c p (inverse c p)
         go true e = perm-cancels c e f p (hp .perms (rw (f, e)))
         go false e = same-cancels c v e p (inverse c p) (λ l. refl)
 

@@ -11,6 +11,7 @@ use Rattle.paper.specs.Move.Moving.{chosen, reached}
 use Rattle.paper.specs.Law.Unique.{labels-unique, label-lt, spins-equal}
 use Rattle.paper.specs.Demand3.Statement.{ComposedAt, CancelsAt, Composed, Cancels}
 use Rattle.paper.specs.Demand3.Step.{Step}
+use Rattle.paper.specs.Demand3.ChoicesAdd.{ComposedAll, CancelsAll}
 use Rattle.paper.specs.Demand3.Turns.{seenAt, turn, seen-back, permutes-at, reference-kept, turned, spins-kept, acts-kept, labels-kept}
 
 -- a step by choices that move no place
@@ -26,6 +27,13 @@ module _ {c : Call} {p : Choices} {xs : List ℤ} {l : List ℕ} {ys : List ℤ}
       same i k hi hk =
           seen-back c ys xs i k (λ e. reference-kept s e k hk) (λ e. s .spins (c .reference) (s .reference e) k hk)
           (spins-kept s i hi k hk) (s .spins i hi k hk) (turned s i k hi hk ∙ ap (seenAt c xs i) (stays i k hi hk (reached c xs l i)))
+
+  -- what holds at every entry holds at those that are used
+  pub composed-all : {q r : Choices} → ComposedAll c p q r → Composed c xs l p q r
+  composed-all h = record { is = λ i hi _. h (labelOf l i) (label-lt (graph c) (holds c xs) l (s .labels) i hi) }
+
+  pub cancels-all : {q : Choices} → CancelsAll c p q → Cancels c xs l p q
+  cancels-all h = record { is = λ i hi _. h (labelOf l i) (label-lt (graph c) (holds c xs) l (s .labels) i hi) }
 
 module _
     {c : Call} {p q : Choices} {xs : List ℤ} {l : List ℕ} {ys : List ℤ} {m : List ℕ} {zs : List ℤ}
@@ -69,15 +77,20 @@ module _
         go false e = later false e ∙ (sooner false e k hk ∙ ap (seenAt c xs i) (no-way e))
 
     -- one component's sites are restored
-    pub back-at : (i k : ℕ) → i < c .lattice .n → k < size c → CancelsAt c p q (labelOf l i) → pattern c zs i k ≡ pattern c xs i k
+    pub back-at :
+        (i k : ℕ)
+        → i < c .lattice .n
+        → k < size c
+        → (reached c xs l i ≡ true → CancelsAt c p q (labelOf l i))
+        → pattern c zs i k ≡ pattern c xs i k
     back-at i k hi hk h =
         seen-back c zs xs i k (λ e. reference-kept t e k hk ∙ reference-kept s e k hk) (λ e. s .spins (c .reference) (s .reference e) k hk)
-        (spins-kept t i hi k hk) (s .spins i hi k hk) (two i k hi hk k (λ e. h k hk) (λ e. refl))
+        (spins-kept t i hi k hk) (s .spins i hi k hk) (two i k hi hk k (λ e. h e k hk) (λ e. refl))
 
-    pub two-back : Cancels c p q → zs ≡ xs
+    pub two-back : Cancels c xs l p q → zs ≡ xs
     two-back h =
         spins-equal c zs xs (s .some-site) (t .long ∙ s .long)
-        (λ i k hi hk. back-at i k hi hk (h .is (labelOf l i) (label-lt (graph c) (holds c xs) l (s .labels) i hi)))
+        (λ i k hi hk. back-at i k hi hk (h .is i hi))
         (λ i x hi o. t .others i x hi o ∙ s .others i x hi o)
 
     module _ {r : Choices} {o : List ℕ} {ws : List ℤ} (u : Step c r xs o ws) where
@@ -85,20 +98,25 @@ module _
       same = labels-unique (graph c) (holds c xs) o l (u .labels) (s .labels)
 
       -- one component's sites are as after the one move
-      pub then-at : (i k : ℕ) → i < c .lattice .n → k < size c → ComposedAt c p q r (labelOf l i) → pattern c zs i k ≡ pattern c ws i k
+      pub then-at :
+          (i k : ℕ)
+          → i < c .lattice .n
+          → k < size c
+          → (reached c xs l i ≡ true → ComposedAt c p q r (labelOf l i))
+          → pattern c zs i k ≡ pattern c ws i k
       then-at i k hi hk h =
           seen-back c zs ws i k (λ e. reference-kept t e k hk ∙ (reference-kept s e k hk ∙ sym (reference-kept u e k hk)))
           (λ e. spins-kept u (c .reference) (s .reference e) k hk) (spins-kept t i hi k hk) (spins-kept u i hi k hk)
           (two i k hi hk (turn c r xs o i k) yes-way no-way ∙ sym (turned u i k hi hk))
         where
           yes-way : reached c xs l i ≡ true → chosen c p (labelOf l i) (chosen c q (labelOf l i) k) ≡ turn c r xs o i k
-          yes-way e = rw (same, e) (sym (h k hk))
+          yes-way e = rw (same, e) (sym (h e k hk))
 
           no-way : reached c xs l i ≡ false → k ≡ turn c r xs o i k
           no-way e = rw (same, e) refl
 
-      pub two-then : Composed c p q r → zs ≡ ws
+      pub two-then : Composed c xs l p q r → zs ≡ ws
       two-then h =
           spins-equal c zs ws (s .some-site) (t .long ∙ (s .long ∙ sym (u .long)))
-          (λ i k hi hk. then-at i k hi hk (h .is (labelOf l i) (label-lt (graph c) (holds c xs) l (s .labels) i hi)))
+          (λ i k hi hk. then-at i k hi hk (h .is i hi))
           (λ i x hi f. t .others i x hi f ∙ (s .others i x hi f ∙ sym (u .others i x hi f)))

@@ -1,6 +1,6 @@
 -- Demand 3 of document 00: the pair, perm, gperm and two-replica houd moves act as a group. Each part below cites its clause. The moves are those
 -- of demand 2: `Answers` is what the public moves ensure. An accepted move has tested that spins are +1 or -1, systems distinct and neighbour
--- tables inverse. Read from the top; Demand3/Theorem.antt proves `Demand3` for every such call, and `Boundary`.
+-- tables inverse. Read from the top; Demand3/Theorem.antt proves `Demand3` for every call of these modes, and `Boundary`.
 use Prim.Native.Nat.{ℕ, zero, suc, _+_, _*_, _/_, _%_, _<_}
 use mathlib.Core.Path.{_≡_}
 use mathlib.Core.Logic.{_≢_, _↔_}
@@ -20,9 +20,10 @@ use Rattle.paper.specs.Site.Bonds.{holds}
 use Rattle.paper.specs.Site.Energy.{bondSum}
 use Rattle.paper.specs.Component.Labels.{Joined, Labels}
 use Rattle.paper.specs.Component.Sizes.{labelOf}
-use Rattle.paper.specs.Move.Moving.{chosen}
+use Rattle.paper.specs.Move.Moving.{chosen, reached}
 use Rattle.paper.specs.Refusal.Rules.{Exact, Chosen, NotIdentity, permRow}
 use Rattle.paper.specs.Answer.Move.{Answers}
+use Rattle.paper.specs.Answer.Same.{SameTaken}
 use Rattle.paper.specs.Answer.Task.{table}
 use Rattle.paper.specs.Rows.Cases.{houd4, noChoices, before12, after12}
 
@@ -35,11 +36,18 @@ Reversible Gperm m = Unit {0}
 Reversible Jorg m = ⊥
 Reversible Cmr m = ⊥
 
--- a move of the call c, choosing p, that is not refused; b are the lent buffers before it and b′ after it. The call is the mode, the form (SW or
--- Wolff), the lattice, the group, the gauge site and the seed, so two moves of one call have "the same mode, group, form, gauge site and seed"
+-- a move of the call c, choosing p, that is not refused; b are the lent buffers before it and b′ after it
 pub data Move (c : Call) (p : Choices) (b b′ : Buffers) : Type 0 where
   idle : Answers c p b Idle b′ → Move c p b b′
   moved : Answers c p b Moved b′ → Move c p b b′
+
+-- "such" a move: of any call on c's panel with "the same mode, group, form, gauge site and seed", as far as these are taken. So two such moves may
+-- differ in couplings, temperature and cuts, in group entries past N, in SW in the seed, outside gperm in the site, and in choices that are not taken
+pub record Such (c : Call) (p : Choices) (b b′ : Buffers) : Type 0 where
+  pub call : Call
+  pub choices : Choices
+  pub same : SameTaken c p call choices
+  pub move : Move call choices b b′
 
 -- ---- "A move keeps the active sites, the components and, for every bond, the sum over the group of the product of its end spins."
 pub record Keeps (c : Call) (b b′ : Buffers) : Type 0 where
@@ -64,24 +72,24 @@ pub record Keeps (c : Call) (b b′ : Buffers) : Type 0 where
 -- ---- "choosing p and then q on a component": `chosen c p l k` is the place that p makes of the place k on the component with the label l. A flip
 -- makes of each place its partner; with two replicas of opposite spins that is what houd's negation does
 
--- r is "k to p(q(k))" there, and on every component
+-- r is "k to p(q(k))" there; and on every component that moves, by the labels l of the spins xs. Entries that no such component has are free
 abbrev pub ComposedAt : Call → Choices → Choices → Choices → ℕ → Type 0
 ComposedAt c p q r l = (k : ℕ) → k < size c → chosen c r l k ≡ chosen c p l (chosen c q l k)
 
-pub record Composed (c : Call) (p q r : Choices) : Type 0 where
-  pub is : (l : ℕ) → l < c .lattice .n → ComposedAt c p q r l
+pub record Composed (c : Call) (xs : List ℤ) (l : List ℕ) (p q r : Choices) : Type 0 where
+  pub is : (i : ℕ) → i < c .lattice .n → reached c xs l i ≡ true → ComposedAt c p q r (labelOf l i)
 
 -- "p(q(k)) is k for every k"
 abbrev pub CancelsAt : Call → Choices → Choices → ℕ → Type 0
 CancelsAt c p q l = (k : ℕ) → k < size c → chosen c p l (chosen c q l k) ≡ k
 
-pub record Cancels (c : Call) (p q : Choices) : Type 0 where
-  pub is : (l : ℕ) → l < c .lattice .n → CancelsAt c p q l
+pub record Cancels (c : Call) (xs : List ℤ) (l : List ℕ) (p q : Choices) : Type 0 where
+  pub is : (i : ℕ) → i < c .lattice .n → reached c xs l i ≡ true → CancelsAt c p q (labelOf l i)
 
--- two moves, choosing p and then q: the second is lent the spins that the first left, and its other buffers hold anything
+-- two such moves, choosing p and then q: the second is lent the spins that the first left, and its other buffers hold anything
 pub record Two (c : Call) (p q : Choices) (b b′ d d′ : Buffers) : Type 0 where
-  pub first : Move c p b b′
-  pub second : Move c q d d′
+  pub first : Such c p b b′
+  pub second : Such c q d d′
   pub handed : d .spins ≡ b′ .spins
 
 -- labels, counts and sizes
@@ -115,10 +123,10 @@ inverse c p = record { flips = p .flips; perms = permsOf c (λ r k. placeOf (siz
 abbrev pub identity : Call → Choices
 identity c = record { flips = table (c .lattice .n) (λ l. 0); perms = permsOf c (λ r k. k); greys = [] }
 
--- the move choosing r is accepted on the buffers b; and it leaves the spins ys
+-- every such move choosing r is accepted on the buffers b, and all leave the same; it leaves the spins ys
 pub record Outcome (c : Call) (r : Choices) (b : Buffers) : Type 0 where
   pub after : Buffers
-  pub move : Move c r b after
+  pub move : {a : Call} {o : Choices} → SameTaken c r a o → Move a o b after
 
 pub record Leaves (c : Call) (r : Choices) (b : Buffers) (ys : List ℤ) : Type 0 where
   pub outcome : Outcome c r b
@@ -126,29 +134,29 @@ pub record Leaves (c : Call) (r : Choices) (b : Buffers) (ys : List ℤ) : Type 
 
 -- ---- the demand
 pub record Demand3 (c : Call) : Type 0 where
-  pub keeps : {p : Choices} {b b′ : Buffers} → Move c p b b′ → Keeps c b b′
+  pub keeps : {p : Choices} {b b′ : Buffers} → Such c p b b′ → Keeps c b b′
   -- after a move the next is accepted, with the same gauge site and seed: only its own choices and its buffers' lengths must be right
-  pub next : {p q : Choices} {b b′ d : Buffers} → Move c p b b′ → d .spins ≡ b′ .spins → Exact c q d → Chosen c q → Outcome c q d
+  pub next : {p q : Choices} {b b′ d : Buffers} → Such c p b b′ → d .spins ≡ b′ .spins → Exact c q d → Chosen c q → Outcome c q d
   -- and it writes the same labels, counts and sizes
   pub outputs : {p q : Choices} {b b′ d d′ : Buffers} → Two c p q b b′ d d′ → SameOutputs b′ d′
   -- "Two moves .. choosing p and then q on a component, leave the spin bytes of one such move choosing k to p(q(k))": on that component
   pub composes-at :
       {p q r : Choices} {b b′ d d′ e e′ : Buffers}
       → Two c p q b b′ d d′
-      → Move c r e e′
+      → Such c r e e′
       → e .spins ≡ b .spins
       → (i k : ℕ)
       → i < c .lattice .n
       → k < size c
       → ComposedAt c p q r (labelOf (b′ .labels) i)
       → pattern c (d′ .spins) i k ≡ pattern c (e′ .spins) i k
-  -- on all components: all bytes
+  -- on all components that move: all bytes
   pub composes :
       {p q r : Choices} {b b′ d d′ e e′ : Buffers}
       → Two c p q b b′ d d′
-      → Move c r e e′
+      → Such c r e e′
       → e .spins ≡ b .spins
-      → Composed c p q r
+      → Composed c (b .spins) (b′ .labels) p q r
       → d′ .spins ≡ e′ .spins
   -- SW: that one move is always there
   pub one-sw : {p q : Choices} {b b′ d d′ : Buffers} → c .form ≡ Sw → Two c p q b b′ d d′ → Leaves c (composite c p q) b (d′ .spins)
@@ -169,7 +177,7 @@ pub record Demand3 (c : Call) : Type 0 where
       → k < size c
       → CancelsAt c p q (labelOf (b′ .labels) i)
       → pattern c (d′ .spins) i k ≡ pattern c (b .spins) i k
-  pub restores : {p q : Choices} {b b′ d d′ : Buffers} → Two c p q b b′ d d′ → Cancels c p q → d′ .spins ≡ b .spins
+  pub restores : {p q : Choices} {b b′ d d′ : Buffers} → Two c p q b b′ d d′ → Cancels c (b .spins) (b′ .labels) p q → d′ .spins ≡ b .spins
   -- ".. or the mode takes no choice": Wolff of pair and houd
   pub restores-wolff :
       {p q : Choices} {b b′ d d′ : Buffers}
@@ -178,11 +186,11 @@ pub record Demand3 (c : Call) : Type 0 where
       → Two c p q b b′ d d′
       → d′ .spins ≡ b .spins
   -- "inverses restore all spin bytes": where p was accepted its inverses are, on what it left, and restore; and so does any move choosing them
-  pub inverse-there : {p : Choices} {b b′ : Buffers} → moves (c .form) ≡ true → Move c p b b′ → Leaves c (inverse c p) b′ (b .spins)
+  pub inverse-there : {p : Choices} {b b′ : Buffers} → moves (c .form) ≡ true → Such c p b b′ → Leaves c (inverse c p) b′ (b .spins)
   pub inverse-restores : {p : Choices} {b b′ d d′ : Buffers} → moves (c .form) ≡ true → Two c p (inverse c p) b b′ d d′ → d′ .spins ≡ b .spins
   -- SW has the identity: it is accepted where any choice is, and changes no byte
-  pub identity-there : {p : Choices} {b b′ : Buffers} → c .form ≡ Sw → Move c p b b′ → Leaves c (identity c) b (b .spins)
-  pub identity-still : {b b′ : Buffers} → c .form ≡ Sw → Move c (identity c) b b′ → b′ .spins ≡ b .spins
+  pub identity-there : {p : Choices} {b b′ : Buffers} → c .form ≡ Sw → Such c p b b′ → Leaves c (identity c) b (b .spins)
+  pub identity-still : {b b′ : Buffers} → c .form ≡ Sw → Such c (identity c) b b′ → b′ .spins ≡ b .spins
 
 -- ---- the boundary: houd of four replicas is not among them. In row 12 of document 01's table it is accepted and changes a bond sum
 pub record Boundary : Type 0 where

@@ -17,15 +17,16 @@ use Rattle.paper.specs.Law.Unique.{same-label, counts-unique, sizes-uniq
 use Rattle.paper.specs.Law.Patterns.{same-is}
 use Rattle.paper.specs.Rows.Cases.{houd4, before12, after12}
 use Rattle.paper.specs.Rows.Proved.{table}
-use Rattle.paper.specs.Demand3.Statement.{Reversible, Move, Keeps, Composed, Two, SameOutputs, composite, inverse, identity, Leaves}
+use Rattle.paper.specs.Demand3.Statement.{Reversible, Move, Such, Keeps, Two, SameOutputs, composite, inverse, identity, Leaves}
 use Rattle.paper.specs.Demand3.Statement.{Demand3, Boundary}
 use Rattle.paper.specs.Demand3.Step.{Step, step, seen-of, valid-move}
 use Rattle.paper.specs.Demand3.Turns.{acts-kept, labels-kept}
 use Rattle.paper.specs.Demand3.BondSums.{sum-kept}
-use Rattle.paper.specs.Demand3.Compose.{none-moved, same-labels, back-at, two-back, then-at, two-then}
+use Rattle.paper.specs.Demand3.Compose.{none-moved, composed-all, cancels-all, same-labels, back-at, two-back, then-at, two-then}
 use Rattle.paper.specs.Demand3.ChoicesAdd.{wolff-cancels}
 use Rattle.paper.specs.Demand3.ChoicesFit.{composite-chosen, composite-is, composite-sized, inverse-chosen, inverse-cancels, inverse-sized}
 use Rattle.paper.specs.Demand3.ChoicesFit.{identity-chosen, identity-stays, identity-sized}
+use Rattle.paper.specs.Demand3.Such.{move-of, own}
 use Rattle.paper.specs.Demand3.Chain.{instead, next, exact-instead, exact-next}
 
 module _ (c : Call) (v : Reversible (c .mode) (size c)) where
@@ -40,7 +41,7 @@ module _ (c : Call) (v : Reversible (c .mode) (size c)) where
       → Joined (graph c) h₂ i j
   joined l h₁ h₂ l₁ l₂ i j hi hj q = same-label (graph c) h₂ l l₂ i j hi hj .0 (same-label (graph c) h₁ l l₁ i j hi hj .1 q)
 
-  keeps : {p : Choices} {b b′ : Buffers} → Move c p b b′ → Keeps c b b′
+  keeps : {p : Choices} {b b′ : Buffers} → Such c p b b′ → Keeps c b b′
   keeps {p} {b} {b′} m = record {
     acting = acts-kept s;
     components = λ i j hi hj. (
@@ -54,37 +55,34 @@ module _ (c : Call) (v : Reversible (c .mode) (size c)) where
   }
     where
       s : Step c p (b .spins) (b′ .labels) (b′ .spins)
-      s = step v m
+      s = step v (move-of m)
 
   module _ {p q : Choices} {b b′ d d′ : Buffers} (w : Two c p q b b′ d d′) where
     first : Step c p (b .spins) (b′ .labels) (b′ .spins)
-    first = step v (w .first)
+    first = step v (move-of (w .first))
 
     second : Step c q (b′ .spins) (d′ .labels) (d′ .spins)
-    second = rw (w .handed) at (step v (w .second))
+    second = rw (w .handed) at (step v (move-of (w .second)))
 
-    module _ {r : Choices} {e e′ : Buffers} (m : Move c r e e′) (same : e .spins ≡ b .spins) where
+    module _ {r : Choices} {e e′ : Buffers} (m : Such c r e e′) (same : e .spins ≡ b .spins) where
       third : Step c r (b .spins) (e′ .labels) (e′ .spins)
-      third = rw same at (step v m)
+      third = rw same at (step v (move-of m))
 
     outputs : SameOutputs b′ d′
     outputs = record {
       labels = labels;
-      counts = counts-unique (d′ .labels) (d′ .counts) (b′ .counts) (seen-of (w .second) .counts) (rw labels (seen-of (w .first) .counts));
-      sizes = sizes-unique (d′ .labels) (d′ .sizes) (b′ .sizes) (seen-of (w .second) .sizes) (rw labels (seen-of (w .first) .sizes));
+      counts = counts-unique (d′ .labels) (d′ .counts) (b′ .counts) (seen-of (move-of (w .second)) .counts) (rw labels (seen-of (move-of (w .first)) .counts));
+      sizes = sizes-unique (d′ .labels) (d′ .sizes) (b′ .sizes) (seen-of (move-of (w .second)) .sizes) (rw labels (seen-of (move-of (w .first)) .sizes));
     }
       where
         labels : d′ .labels ≡ b′ .labels
         labels = same-labels first second
 
-    composes : {r : Choices} {e e′ : Buffers} → Move c r e e′ → e .spins ≡ b .spins → Composed c p q r → d′ .spins ≡ e′ .spins
-    composes m same h = two-then first second (third m same) h
-
     chosen-first : Chosen c p
-    chosen-first = valid-move (w .first) .fit .chosen
+    chosen-first = valid-move (move-of (w .first)) .fit .chosen
 
     chosen-second : Chosen c q
-    chosen-second = valid-move (w .second) .fit .chosen
+    chosen-second = valid-move (move-of (w .second)) .fit .chosen
 
     -- one move choosing the composite, where that is a choice and composes
     one :
@@ -93,25 +91,27 @@ module _ (c : Call) (v : Reversible (c .mode) (size c)) where
         → (isPerm (c .mode) ≡ false → c .form ≡ Sw)
         → Leaves c (composite c p q) b (d′ .spins)
     one moving f sw =
-        let o = instead v (w .first) (exact-instead v (w .first) (composite-sized c p q)) (composite-chosen c v chosen-first chosen-second moving) in
-        record { outcome = o; bytes = sym (composes (o .move) refl (composite-is c v chosen-first chosen-second f sw)) }
+        let m = move-of (w .first) in
+        let o = instead v m (exact-instead v m (composite-sized c p q)) (composite-chosen c v chosen-first chosen-second moving) in
+        let is = composed-all first (composite-is c v chosen-first chosen-second f sw) in
+        record { outcome = o; bytes = sym (two-then first second (step v (own o)) is) }
 
 pub demand3 : (c : Call) → Reversible (c .mode) (size c) → Demand3 c
 demand3 c v = record {
   keeps = keeps c v;
-  next = λ m. next v m;
+  next = λ m. next v (move-of m);
   outputs = outputs c v;
-  composes-at = λ w m same. then-at (first c v w) (second c v w) (third c v w m same);
-  composes = λ w m same. composes c v w m same;
+  composes-at = λ w m same i k hi hk h. then-at (first c v w) (second c v w) (third c v w m same) i k hi hk (λ _. h);
+  composes = λ w m same. two-then (first c v w) (second c v w) (third c v w m same);
   one-sw = λ sw w. one c v w (λ t. never (rw sw at (and-right (takesPerms c) (isWolff (c .form)) t))) (rw sw refl) (λ _. sw);
   one-wolff = λ wolff perm w moving. one c v w (λ _. moving) (rw wolff refl) (λ e. never (sym e ∙ perm));
-  restores-at = λ w. back-at (first c v w) (second c v w);
+  restores-at = λ w i k hi hk h. back-at (first c v w) (second c v w) i k hi hk (λ _. h);
   restores = λ w. two-back (first c v w) (second c v w);
-  restores-wolff = λ wolff flips w. two-back (first c v w) (second c v w) (wolff-cancels c v flips _ _ wolff);
-  inverse-there = λ f m. undone f m;
-  inverse-restores = λ f w. two-back (first c v w) (second c v w) (inverse-cancels c v (chosen-first c v w) f);
-  identity-there = λ sw m. rest sw m;
-  identity-still = λ sw m. none-moved (step v m) (identity-stays c v sw);
+  restores-wolff = λ wolff flips w. two-back (first c v w) (second c v w) (cancels-all (first c v w) (wolff-cancels c v flips _ _ wolff));
+  inverse-there = λ f m. undone f (move-of m);
+  inverse-restores = λ f w. two-back (first c v w) (second c v w) (cancels-all (first c v w) (inverse-cancels c v (chosen-first c v w) f));
+  identity-there = λ sw m. rest sw (move-of m);
+  identity-still = λ sw m. none-moved (step v (move-of m)) (identity-stays c v sw);
 }
   where
     undone : {p : Choices} {b b′ : Buffers} → moves (c .form) ≡ true → Move c p b b′ → Leaves c (inverse c p) b′ (b .spins)
@@ -120,13 +120,13 @@ demand3 c v = record {
         let o = next v m refl (exact-next v m (inverse-sized c p (valid-move m .sound .exact .flips))) (inverse-chosen c v h) in
         record {
           outcome = o;
-          bytes = two-back (step v m) (step v (o .move)) (inverse-cancels c v h f);
+          bytes = two-back (step v m) (step v (own o)) (cancels-all (step v m) (inverse-cancels c v h f));
         }
 
     rest : {p : Choices} {b b′ : Buffers} → c .form ≡ Sw → Move c p b b′ → Leaves c (identity c) b (b .spins)
     rest {p} {b} {b′} sw m =
         let o = instead v m (exact-instead v m (identity-sized c)) (identity-chosen c v (valid-move m .fit .chosen) sw) in
-        record { outcome = o; bytes = none-moved (step v (o .move)) (identity-stays c v sw) }
+        record { outcome = o; bytes = none-moved (step v (own o)) (identity-stays c v sw) }
 
 pub boundary : Boundary
 boundary = record {

@@ -10,6 +10,7 @@ use native.Mathlib.Decide.{decLt}
 use borrow.Author.Tests.{not-true}
 use lib.ListN.{getD, List·getD-eq-default}
 use lib.IntN.{ℤ, pos}
+use lib.Ieee.{nan}
 use Rattle.paper.specs.declared.Mode.the-variants.{Perm}
 use Rattle.paper.specs.declared.Form.the-variants.{Sw}
 use Rattle.paper.specs.declared.Answer.the-variants.{Idle, Moved}
@@ -22,12 +23,14 @@ use Rattle.paper.specs.Component.Sizes.{countWhere, sizeOf}
 use Rattle.paper.specs.Move.Moving.{reached, final}
 use Rattle.paper.specs.Answer.Task.{Sweep, masked, table, taskCall, taskChoices, areas}
 use Rattle.paper.specs.Answer.Sweep.{Done, Unmoved, SweepAnswers}
+use Rattle.paper.specs.Answer.Same.{SameSwept}
 use Rattle.paper.specs.Law.ByTest.{never, every}
 use Rattle.paper.specs.Law.Cells.{only-column}
 use Rattle.paper.specs.Law.Decided.{Decided, eq, same, is, either, all, some, any}
 use Rattle.paper.specs.Law.ByAnswer.{goes-by, rests-by}
 use Rattle.paper.specs.Law.SweepDetermined.{SameSweep, sweep-determined}
 use Rattle.paper.specs.Law.SweepVerdicts.{sweep-accepted-by}
+use Rattle.paper.specs.Law.SweepUntaken.{sweep-untaken}
 use Rattle.paper.specs.Rows.Cases.{+, -, line}
 
 -- eight systems of one site, joined to itself
@@ -169,3 +172,66 @@ swept = record {
 
 pub swept-only : (a : SweepAnswer) (z : Buffers) → SweepAnswers sweep before a z → SameSweep (Swept 1 2) after a z
 swept-only a z h = sweep-determined sweep before after z (Swept 1 2) a swept h
+
+-- other choices of the masked task, and other inputs that perm does not take: the same answer
+abbrev apart : Sweep
+apart = record {
+  mode = Perm;
+  form = Sw;
+  lattice = line 1 8 (0 ∷ []) (0 ∷ []) (pos 7 ∷ []);
+  t = 4;
+  r = 2;
+  members = 2;
+  order = 0 ∷ 1 ∷ 2 ∷ 3 ∷ 4 ∷ 5 ∷ 6 ∷ 7 ∷ [];
+  masks = 0 ∷ 0 ∷ 0 ∷ 1 ∷ [];
+  temperatures = nan ∷ [];
+  cuts = nan ∷ [];
+  references = 5 ∷ [];
+  seeds = 5 ∷ [];
+  flips = 5 ∷ [];
+  perms = 1 ∷ 0 ∷ 1 ∷ 0 ∷ 0 ∷ 1 ∷ 0 ∷ 0 ∷ [];
+  greys = 5 ∷ [];
+}
+
+perms-same : (k : ℕ) → k < 4 → masked sweep k ≡ false → taskChoices apart k .perms ≡ taskChoices sweep k .perms
+perms-same zero h e = refl
+perms-same (suc zero) h e = refl
+perms-same (suc (suc zero)) h e = refl
+perms-same (suc (suc (suc zero))) h e = never (sym e)
+perms-same (suc (suc (suc (suc k)))) h e = absurd (omega arith)
+
+apart-same : SameSwept sweep apart
+apart-same = record {
+  mode = refl;
+  form = refl;
+  panel = record { n = refl; d = refl; s = refl; fwd = refl; bwd = refl; couplings = λ t. never t };
+  t = refl;
+  r = refl;
+  members = refl;
+  order = refl;
+  masks = refl;
+  temperatures = λ t. never t;
+  cuts = λ t. never t;
+  references = λ t. never t;
+  seeds = λ t. never t;
+  flips = λ t. never t;
+  perms = λ _. refl;
+  greys = λ t. never t;
+  each = λ k h e. record {
+    call = record {
+      mode = refl;
+      form = refl;
+      panel = record { n = refl; d = refl; s = refl; fwd = refl; bwd = refl; couplings = λ t. never t };
+      members = refl;
+      systems = λ x l. refl;
+      temperature = λ t. never t;
+      cuts = λ t. never t;
+      reference = λ t. never t;
+      seed = λ t. never t;
+    };
+    choices = record { flips = λ t. never t; perms = λ _. perms-same k h e; greys = λ t. never t };
+  };
+}
+
+pub swept-apart : SweepAnswers apart before (Swept 1 2) after
+swept-apart = sweep-untaken apart-same before (Swept 1 2) after .0 swept

@@ -1,0 +1,111 @@
+-- Demand 3 on the smallest moves that differ in what is not taken, and whose choices differ at an entry that no component has.
+use Prim.Native.Nat.{ℕ, zero, suc, _<_}
+use mathlib.Core.Path.{_≡_, refl}
+use mathlib.Core.List.{List, [], _∷_}
+use native.Mathlib.Omega.{arith}
+use lib.IntN.{ℤ, pos}
+use lib.Ieee.{nan}
+use Rattle.paper.specs.declared.Mode.the-variants.{Pair}
+use Rattle.paper.specs.declared.Form.the-variants.{Sw}
+use Rattle.paper.specs.declared.Answer.the-variants.{Moved}
+use Rattle.paper.specs.Panel.Input.{Lattice, Call, Choices, Buffers, system}
+use Rattle.paper.specs.Site.Acting.{pairDiffers, acts}
+use Rattle.paper.specs.Site.Bonds.{whole, holds}
+use Rattle.paper.specs.Component.Sizes.{countWhere, sizeOf, labelOf}
+use Rattle.paper.specs.Move.Moving.{other, reached, final}
+use Rattle.paper.specs.Answer.Move.{Answers}
+use Rattle.paper.specs.Answer.Same.{SameTaken}
+use Rattle.paper.specs.Law.ByTest.{never, every}
+use Rattle.paper.specs.Law.Decided.{any}
+use Rattle.paper.specs.Law.ByAnswer.{goes-by}
+use Rattle.paper.specs.Rows.Cases.{+, -, line, plain, first, buffers}
+use Rattle.paper.specs.Demand3.Statement.{Move, Such, Two, ComposedAt, Composed}
+use Rattle.paper.specs.Demand3.Such.{itself}
+
+-- two sites with two bonds between them
+abbrev twins : List ℤ → Lattice
+twins couplings = line 2 2 (1 ∷ 0 ∷ []) (1 ∷ 0 ∷ []) couplings
+
+-- pair, SW. The second call has a coupling, a temperature, a cut, a site and a seed of its own, and entries of its own behind the group's two
+abbrev warm : Call
+warm = plain Pair Sw (twins []) (first 2)
+
+abbrev hot : Call
+hot = record {
+  mode = Pair;
+  form = Sw;
+  lattice = twins (pos 3 ∷ []);
+  group = record { len = 2; systems = 0 ∷ 1 ∷ 5 ∷ 0 ∷ 0 ∷ 0 ∷ 0 ∷ 0 ∷ [] };
+  temperature = whole 2;
+  cuts = nan ∷ [];
+  reference = 9;
+  seed = 9;
+}
+
+abbrev flips : List ℕ → Choices
+flips xs = record { flips = xs; perms = []; greys = [] }
+
+-- all sites act and are one component, so entry 1 is unused
+abbrev at : List ℤ → Buffers
+at spins = buffers spins (0 ∷ 0 ∷ []) (0 ∷ 0 ∷ 1 ∷ []) (2 ∷ 0 ∷ 0 ∷ 0 ∷ [])
+
+abbrev start : List ℤ
+start = + ∷ + ∷ - ∷ - ∷ []
+
+abbrev turned : List ℤ
+turned = - ∷ - ∷ + ∷ + ∷ []
+
+turns : Answers warm (flips (1 ∷ 0 ∷ [])) (at start) Moved (at turned)
+unfolding every any holds acts pairDiffers sizeOf countWhere other reached final
+turns = goes-by warm (flips (1 ∷ 0 ∷ [])) (at start) (at turned) (0 ∷ 0 ∷ []) [] refl (λ _. refl) refl
+
+turns-both : Answers warm (flips (1 ∷ 1 ∷ [])) (at start) Moved (at turned)
+unfolding every any holds acts pairDiffers sizeOf countWhere other reached final
+turns-both = goes-by warm (flips (1 ∷ 1 ∷ [])) (at start) (at turned) (0 ∷ 0 ∷ []) [] refl (λ _. refl) refl
+
+stays : Answers hot (flips (0 ∷ 0 ∷ [])) (at turned) Moved (at turned)
+unfolding every any holds acts pairDiffers sizeOf countWhere other reached final
+stays = goes-by hot (flips (0 ∷ 0 ∷ [])) (at turned) (at turned) (0 ∷ 0 ∷ []) [] refl (λ _. refl) refl
+
+systems : (k : ℕ) → k < 2 → system hot k ≡ system warm k
+systems zero h = refl
+systems (suc zero) h = refl
+systems (suc (suc k)) h = absurd (omega arith)
+
+taken : (p : Choices) → SameTaken warm p hot p
+taken p = record {
+  call = record {
+    mode = refl;
+    form = refl;
+    panel = record { n = refl; d = refl; s = refl; fwd = refl; bwd = refl; couplings = λ t. never t };
+    members = refl;
+    systems = systems;
+    temperature = λ t. never t;
+    cuts = λ t. never t;
+    reference = λ t. never t;
+    seed = λ t. never t;
+  };
+  choices = record { flips = λ _. refl; perms = λ _. refl; greys = λ _. refl };
+}
+
+-- the two moves are two such moves, and compose to the third although their sum at entry 1 is not its flip there
+pub record Smallest : Type 0 where
+  pub two : Two warm (flips (1 ∷ 0 ∷ [])) (flips (0 ∷ 0 ∷ [])) (at start) (at turned) (at turned) (at turned)
+  pub one : Such warm (flips (1 ∷ 1 ∷ [])) (at start) (at turned)
+  pub composed : Composed warm start (0 ∷ 0 ∷ []) (flips (1 ∷ 0 ∷ [])) (flips (0 ∷ 0 ∷ [])) (flips (1 ∷ 1 ∷ []))
+
+pub smallest : Smallest
+smallest = record {
+  two = record {
+    first = record { call = warm; choices = flips (1 ∷ 0 ∷ []); same = itself warm _; move = Move.moved turns };
+    second = record { call = hot; choices = flips (0 ∷ 0 ∷ []); same = taken _; move = Move.moved stays };
+    handed = refl;
+  };
+  one = record { call = warm; choices = flips (1 ∷ 1 ∷ []); same = itself warm _; move = Move.moved turns-both };
+  composed = record { is = λ i h _. used i h };
+}
+  where
+    used : (i : ℕ) → i < 2 → ComposedAt warm (flips (1 ∷ 0 ∷ [])) (flips (0 ∷ 0 ∷ [])) (flips (1 ∷ 1 ∷ [])) (labelOf (0 ∷ 0 ∷ []) i)
+    used zero h k l = refl
+    used (suc zero) h k l = refl
+    used (suc (suc i)) h k l = absurd (omega arith)
