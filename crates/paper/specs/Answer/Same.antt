@@ -37,7 +37,7 @@ pub record SameChoices (c : Call) (p o : Choices) : Type 0 where
   pub perms : When (takesPerms c) (o .perms ≡ p .perms)
   pub greys : When (takesGreys c) (o .greys ≡ p .greys)
 
--- the calls c and a, choosing p and o: Law/Untaken.antt answers them alike
+-- the call c choosing p and the call a choosing o: they have the same answers (Law/UntakenAnswers.antt)
 pub record SameTaken (c : Call) (p : Choices) (a : Call) (o : Choices) : Type 0 where
   pub call : SameCall c a
   pub choices : SameChoices c p o

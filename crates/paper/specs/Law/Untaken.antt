@@ -201,5 +201,5 @@ module _ {c a : Call} (same : SameCall c a) (xs : List ℤ) where
     final-same l g g′ i k same-grey hk perms = go (takesGreys c) refl
       where
         go : (t : Bool) → takesGreys c ≡ t → final (over c a) o xs l g′ i k ≡ final c p xs l g i k
-        go true e = cc (same-grey e, reached-same g i, chosen .greys e, after-same l i k hk perms)
+        go true e = cc (same-grey e, reached-same g i, chosen .greys e, after-same l i k hk perms, pattern-same i k hk)
         go false e = rw e (after-same l i k hk perms)
