@@ -2,7 +2,7 @@
 use crate::case::{Lent, Single, Swept};
 use crate::model::{self, Model};
 use calls::{Answer, Form, Label, Mode, Port, SweepAnswer};
-use oracle::Branch;
+use published_patched::Branch;
 use std::fmt::{Debug, Write};
 use std::panic::{catch_unwind, AssertUnwindSafe};
 
@@ -73,7 +73,7 @@ fn single_weight(case: &Single) -> usize {
     case.panel.n * (case.panel.d + case.panel.s)
 }
 
-fn single_oracle(case: &Single, answer: Answer, lent: &Lent, line: &mut Line) -> String {
+fn single_rust(case: &Single, answer: Answer, lent: &Lent, line: &mut Line) -> String {
     let mut text = String::new();
     let (mode, form) = (case.panel.mode, case.panel.form);
     let mut branches = vec![Branch::UnionFind];
@@ -82,7 +82,7 @@ fn single_oracle(case: &Single, answer: Answer, lent: &Lent, line: &mut Line) ->
     }
     for branch in branches {
         let mut rust_lent = case.lent.clone();
-        let run = || oracle::step(case.step(&mut rust_lent), branch);
+        let run = || published_patched::step(case.step(&mut rust_lent), branch);
         let Some(none_acts) = rust(&mut text, run) else {
             continue;
         };
@@ -111,7 +111,7 @@ fn single_oracle(case: &Single, answer: Answer, lent: &Lent, line: &mut Line) ->
             answer == Answer::Idle,
             !ours.contains(&true),
         );
-        if let Some(theirs) = rust(&mut text, || oracle::active(&call)) {
+        if let Some(theirs) = rust(&mut text, || published_patched::active(&call)) {
             differ(&mut text, "acting", ours, theirs);
         }
     }
@@ -143,8 +143,8 @@ pub fn single(case: &Single, port: Option<&mut Box<dyn Port>>, line: &mut Line) 
     line.singles += 1;
     line.odd += usize::from(odd(case.panel.mode, case.group.len()));
     line.idle += usize::from(answer == Answer::Idle);
-    if oracle::PRESENT {
-        let found = single_oracle(case, answer, &lent, line);
+    if published_patched::PRESENT {
+        let found = single_rust(case, answer, &lent, line);
         if !found.is_empty() {
             text += &report("single move, model against Rust", case, &found);
         }
@@ -173,7 +173,7 @@ fn found(text: String, weight: usize, line: &mut Line) -> Option<Found> {
     (!text.is_empty()).then_some(Found { weight, text })
 }
 
-fn sweep_oracle(case: &Swept, answer: SweepAnswer, lent: &Lent, line: &mut Line) -> String {
+fn sweep_rust(case: &Swept, answer: SweepAnswer, lent: &Lent, line: &mut Line) -> String {
     let mut text = String::new();
     let wolff = case.panel.form == Form::Wolff;
     let mut runs = vec![(Branch::UnionFind, true), (Branch::UnionFind, false)];
@@ -182,7 +182,7 @@ fn sweep_oracle(case: &Swept, answer: SweepAnswer, lent: &Lent, line: &mut Line)
     }
     for (branch, sequential) in runs {
         let mut rust_lent = case.lent.clone();
-        let run = || oracle::sweep(case.sweep(&mut rust_lent), branch, sequential);
+        let run = || published_patched::sweep(case.sweep(&mut rust_lent), branch, sequential);
         let Some(none_acts) = rust(&mut text, run) else {
             continue;
         };
@@ -216,8 +216,8 @@ pub fn swept(case: &Swept, port: Option<&mut Box<dyn Port>>, line: &mut Line) ->
         }
         SweepAnswer::Swept { idle, .. } => line.idle += idle as usize,
     }
-    if oracle::PRESENT {
-        let found = sweep_oracle(case, answer, &lent, line);
+    if published_patched::PRESENT {
+        let found = sweep_rust(case, answer, &lent, line);
         if !found.is_empty() {
             text += &report("sweep, model against Rust", case, &found);
         }

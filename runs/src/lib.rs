@@ -1,4 +1,4 @@
-//! The comparison runs: the model of document 01, the published Rust as oracle, and the port.
+//! The comparison runs: the model of document 01, the published Rust, and the port.
 pub mod case;
 pub mod compare;
 pub mod damage;

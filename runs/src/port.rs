@@ -9,11 +9,31 @@ pub fn linked() -> Option<Box<dyn Port>> {
     None
 }
 
+/// The calls of the runs as those of the crate `tsorvenk`, and its answers as those of the runs.
 #[cfg(port)]
 mod linked {
-    use calls::{Answer, Label, Meter, MeterAnswer, Port, Step, Sweep, SweepAnswer};
+    use calls::{Answer, Form, Label, Meter, MeterAnswer, Mode, Port, Step, Sweep, SweepAnswer};
 
     pub struct Linked;
+
+    fn mode(mode: Mode) -> tsorvenk::Mode {
+        match mode {
+            Mode::Houd => tsorvenk::Mode::Houd,
+            Mode::Pair => tsorvenk::Mode::Pair,
+            Mode::Perm => tsorvenk::Mode::Perm,
+            Mode::Gperm => tsorvenk::Mode::Gperm,
+            Mode::Jorg => tsorvenk::Mode::Jorg,
+            Mode::Cmr => tsorvenk::Mode::Cmr,
+        }
+    }
+
+    fn form(form: Form) -> tsorvenk::Form {
+        match form {
+            Form::Sw => tsorvenk::Form::Sw,
+            Form::Wolff => tsorvenk::Form::Wolff,
+            Form::Observe => tsorvenk::Form::Observe,
+        }
+    }
 
     impl Port for Linked {
         fn name(&self) -> &'static str {
@@ -21,19 +41,97 @@ mod linked {
         }
 
         fn step(&mut self, call: Step) -> Answer {
-            tsorvenk::step(call)
+            match tsorvenk::step(tsorvenk::Step {
+                mode: mode(call.mode),
+                form: form(call.form),
+                n: call.n,
+                d: call.d,
+                s: call.s,
+                spins: call.spins,
+                fwd: call.fwd,
+                bwd: call.bwd,
+                couplings: call.couplings,
+                group: call.group,
+                temperature: call.temperature,
+                cuts: call.cuts,
+                reference: call.reference,
+                seed: call.seed,
+                flips: call.flips,
+                perms: call.perms,
+                greys: call.greys,
+                labels: call.labels,
+                grey_labels: call.grey_labels,
+                counts: call.counts,
+                sizes: call.sizes,
+            }) {
+                tsorvenk::Answer::Moved => Answer::Moved,
+                tsorvenk::Answer::Idle => Answer::Idle,
+                tsorvenk::Answer::Refused(number) => Answer::Refused(number),
+            }
         }
 
         fn sweep(&mut self, call: Sweep) -> SweepAnswer {
-            tsorvenk::sweep(call)
+            match tsorvenk::sweep(tsorvenk::Sweep {
+                mode: mode(call.mode),
+                form: form(call.form),
+                n: call.n,
+                d: call.d,
+                s: call.s,
+                t: call.t,
+                r: call.r,
+                members: call.members,
+                spins: call.spins,
+                fwd: call.fwd,
+                bwd: call.bwd,
+                couplings: call.couplings,
+                order: call.order,
+                masks: call.masks,
+                temperatures: call.temperatures,
+                cuts: call.cuts,
+                references: call.references,
+                seeds: call.seeds,
+                flips: call.flips,
+                perms: call.perms,
+                greys: call.greys,
+                labels: call.labels,
+                grey_labels: call.grey_labels,
+                counts: call.counts,
+                sizes: call.sizes,
+            }) {
+                tsorvenk::SweepAnswer::Swept { idle, moved } => SweepAnswer::Swept { idle, moved },
+                tsorvenk::SweepAnswer::Refused(number) => SweepAnswer::Refused(number),
+            }
         }
 
         fn energy(&mut self, call: Meter) -> MeterAnswer {
-            tsorvenk::energy(call)
+            match tsorvenk::energy(tsorvenk::Meter {
+                n: call.n,
+                d: call.d,
+                s: call.s,
+                spins: call.spins,
+                fwd: call.fwd,
+                bwd: call.bwd,
+                couplings: call.couplings,
+                system: call.system,
+            }) {
+                tsorvenk::MeterAnswer::Energy(energy) => MeterAnswer::Energy(energy),
+                tsorvenk::MeterAnswer::Refused(number) => MeterAnswer::Refused(number),
+            }
         }
 
         fn label(&mut self, call: Label) -> u8 {
-            tsorvenk::label(call)
+            match tsorvenk::label(tsorvenk::Label {
+                n: call.n,
+                d: call.d,
+                fwd: call.fwd,
+                holds: call.holds,
+                labels: call.labels,
+                counts: call.counts,
+                sizes: call.sizes,
+            }) {
+                tsorvenk::LabelAnswer::Labelled => 0,
+                tsorvenk::LabelAnswer::Refused(number) => number,
+            }
         }
     }
 }

@@ -104,9 +104,9 @@ fn main() -> ExitCode {
         return ExitCode::from(2);
     };
     let port = port::linked();
-    match oracle::PRESENT {
-        true => println!("oracle: the published Rust, with lent choices"),
-        false => println!("oracle: left out, the published Rust was not found when this was built"),
+    match published_patched::PRESENT {
+        true => println!("published Rust: with lent choices"),
+        false => println!("published Rust: left out, it was not found when this was built"),
     }
     match port {
         Some(_) => println!("port: linked"),

@@ -3,7 +3,7 @@
 //! A fixed sweep of each mode and form, n = 4096, D = 2, N = 2, t = 8, r = 8, runs twice and twelve times; a tenth of the
 //! difference is one call. Counts do not depend on what else the machine does.
 use calls::{Form, Mode};
-use published::Sweeper;
+use published_as_is::Sweeper;
 use std::env;
 use std::process::Command;
 use tsorvenk_runs::port;
@@ -62,7 +62,7 @@ fn main() {
         let (mode, form) = (Mode::ALL[number(mode)], Form::ALL[number(form)]);
         return run(side, mode, form, number(times));
     }
-    if port::linked().is_none() || !published::PRESENT {
+    if port::linked().is_none() || !published_as_is::PRESENT {
         println!("left out: the port or the published Rust was not found when this was built");
         return;
     }

@@ -104,7 +104,7 @@ fn acting(case: &Swept) -> Vec<(usize, Vec<bool>)> {
                 lent: case.lent.clone(),
             };
             let mut lent = single.lent.clone();
-            (task, oracle::active(&single.step(&mut lent)))
+            (task, published_patched::active(&single.step(&mut lent)))
         })
         .collect()
 }
@@ -127,7 +127,11 @@ fn answered(single: bool, case: Swept) -> Entry {
     let n = case.panel.n;
     let acting = acting(&case);
     let mut after = case.lent.clone();
-    oracle::sweep(case.sweep(&mut after), oracle::Branch::UnionFind, true);
+    published_patched::sweep(
+        case.sweep(&mut after),
+        published_patched::Branch::UnionFind,
+        true,
+    );
     let idle = acting.iter().filter(|(_, a)| !a.contains(&true)).count();
     let alone = acting.iter().any(|(task, acts)| {
         let labels = &after.labels[task * n..(task + 1) * n];
@@ -196,10 +200,8 @@ fn sample(rand: &mut Rand, mode: Mode, form: Form, single: bool, count: usize) -
 }
 
 fn make() -> ExitCode {
-    if !oracle::PRESENT {
-        eprintln!(
-            "oracle: left out, the published Rust was not found when this was built; no list"
-        );
+    if !published_patched::PRESENT {
+        eprintln!("published Rust: left out, it was not found when this was built; no list");
         return ExitCode::SUCCESS;
     }
     let mut entries = Vec::new();

@@ -96,9 +96,9 @@ pub fn run(case: &Single) -> (Answer, Lent) {
     }
     if let Answer::Refused(_) = answer.0 {
         assert_eq!(answer.1, case.lent, "{case:?}");
-    } else if oracle::PRESENT {
+    } else if published_patched::PRESENT {
         let mut lent = case.lent.clone();
-        oracle::step(case.step(&mut lent), oracle::Branch::UnionFind);
+        published_patched::step(case.step(&mut lent), published_patched::Branch::UnionFind);
         assert_eq!(answer.1, lent, "{case:?}");
     }
     answer

@@ -1,7 +1,7 @@
 //! The labelling of random bonds and of shapes that are hard on a forest of parents.
 use crate::Bench;
 use calls::Label;
-use published::Labelling;
+use published_as_is::Labelling;
 use std::hint::black_box;
 use tsorvenk_runs::timing::{median, torus, N};
 
@@ -110,7 +110,7 @@ impl Bench {
             assert_eq!(code, 0);
         };
         let all = median(self.repetitions, &mut outputs, |_| {}, call);
-        let rust = published::PRESENT.then(|| {
+        let rust = published_as_is::PRESENT.then(|| {
             let mut rust = Labelling::new(&label(bonds, &mut outputs));
             let call = |rust: &mut Labelling| {
                 black_box(rust.run(&bonds.holds));

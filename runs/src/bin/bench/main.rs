@@ -52,7 +52,7 @@ fn main() {
     let repetitions = word.and_then(|word| word.parse().ok()).unwrap_or(41);
     let port = port::linked().unwrap_or_else(|| Box::new(Model));
     println!("port: {}, on {}", port.name(), std::env::consts::ARCH);
-    if !published::PRESENT {
+    if !published_as_is::PRESENT {
         println!("the published Rust was not found when this was built: its times are left out");
     }
     println!("n = {N}; medians in microseconds; in brackets port / Rust and move / Rust");

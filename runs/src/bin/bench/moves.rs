@@ -1,8 +1,8 @@
 //! Single moves and sweeps.
 use crate::Bench;
 use calls::{Answer, Form, Mode, Sweep, SweepAnswer};
-use oracle::{Branch, Prepared};
-use published::Sweeper;
+use published_as_is::Sweeper;
+use published_patched::{Branch, Prepared};
 use tsorvenk_runs::case::{Lent, Single, Swept};
 use tsorvenk_runs::model::Model;
 use tsorvenk_runs::timing::{self, median, refused_single, refused_sweep};
@@ -71,7 +71,7 @@ impl Bench {
         assert!(case.run(self.port.as_mut()) == case.run(&mut Model));
         let (tests, refusal) = self.step(&refused_single(&case));
         assert!(matches!(refusal, Answer::Refused(_)));
-        let times = published::PRESENT.then(|| {
+        let times = published_as_is::PRESENT.then(|| {
             let mut lent = case.lent.clone();
             let seeds = [case.seed as u32];
             let call = one_group(&case, &seeds, &mut lent);
@@ -89,7 +89,7 @@ impl Bench {
         assert!(case.run(self.port.as_mut()) == case.run(&mut Model));
         let (tests, refusal) = self.sweep(&refused_sweep(&case), repetitions);
         assert!(matches!(refusal, SweepAnswer::Refused(_)));
-        let times = published::PRESENT.then(|| {
+        let times = published_as_is::PRESENT.then(|| {
             let mut lent = case.lent.clone();
             rust(repetitions, &case.sweep(&mut lent), &case.lent.spins)
         });

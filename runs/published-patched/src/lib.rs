@@ -1,4 +1,4 @@
-//! The published overlap.rs as the oracle of the runs: its draws read the lent choices by place.
+//! The published overlap.rs, with one line of utils.rs patched, for the comparisons: its draws read the lent choices by place.
 //!
 //! The crates and files that the published sources name and that are not here are stood in for:
 //! `rand`, `rand_xoshiro`, `rayon` and `validator` are this crate under those names, `geometry` and `mcmc` its modules.
@@ -48,11 +48,11 @@ mod run;
 mod differences;
 
 #[cfg(published)]
-pub(crate) use derive::Validate;
-#[cfg(published)]
 pub(crate) use lent::{mcmc, prelude, seq, Rng, ValidationError, Xoshiro256StarStar};
 #[cfg(published)]
 pub use run::{active, step, sweep, Prepared};
+#[cfg(published)]
+pub(crate) use validator_stand_in::Validate;
 
 #[cfg(not(published))]
 mod absent;

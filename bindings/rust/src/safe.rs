@@ -1,8 +1,8 @@
 //! Safe calls. Each pointer goes with the length of the slice that it was taken from, slices that are written overlap no
 //! other, and the library is proved to stay inside.
+use crate::answers::{Answer, Frames, LabelAnswer, MeterAnswer, SweepAnswer};
+use crate::calls::{Label, Meter, Step, Sweep};
 use crate::foreign::*;
-use crate::Frames;
-use calls::{Answer, Label, Meter, MeterAnswer, Step, Sweep, SweepAnswer};
 
 /// 0 moved, 64 idle, else the refusal's number.
 fn answer(code: u8) -> Answer {
@@ -70,15 +70,19 @@ pub fn energy(c: Meter) -> MeterAnswer {
     }
 }
 
-/// The components of the bonds whose byte is 1: 0, or the refusal's number.
+/// The components of the bonds whose byte is 1.
 #[rustfmt::skip]
-pub fn label(c: Label) -> u8 {
-    unsafe {
+pub fn label(c: Label) -> LabelAnswer {
+    let code = unsafe {
         tsorvenk_label(
             c.n, c.d, c.fwd.as_ptr(), c.fwd.len(), c.holds.as_ptr(), c.holds.len(),
             c.labels.as_mut_ptr(), c.labels.len(), c.counts.as_mut_ptr(), c.counts.len(),
             c.sizes.as_mut_ptr(), c.sizes.len(),
         )
+    };
+    match code {
+        0 => LabelAnswer::Labelled,
+        number => LabelAnswer::Refused(number),
     }
 }
 

@@ -1,4 +1,4 @@
-//! Links the static library where it is: TSORVENK_LIB, from the repository's top, or where `runs/library` leaves it.
+//! Links the static library where it is: TSORVENK_LIB, from the repository's top, or where `build-library` leaves it.
 //! Crates that depend on this one read DEP_TSORVENK_LINKED in their build scripts.
 use std::env;
 use std::path::Path;
@@ -16,12 +16,16 @@ fn main() {
         "target/native/libtsorvenk.a"
     });
     println!("cargo::rerun-if-changed={}", library.display());
-    if !library.is_file() {
-        return;
+    if library.is_file() {
+        let folder = library.parent().unwrap();
+        println!("cargo::rustc-link-search=native={}", folder.display());
+        println!("cargo::rustc-link-lib=static=tsorvenk");
+        println!("cargo::rustc-cfg=linked");
+        println!("cargo::metadata=linked=1");
+    } else if env::var("CARGO_FEATURE_OPTIONAL_LIBRARY").is_err() {
+        println!(
+            "cargo::error=there is no {}: run ./build-library at the top of the repository, or set TSORVENK_LIB to libtsorvenk.a",
+            library.display()
+        );
     }
-    let folder = library.parent().unwrap();
-    println!("cargo::rustc-link-search=native={}", folder.display());
-    println!("cargo::rustc-link-lib=static=tsorvenk");
-    println!("cargo::rustc-cfg=linked");
-    println!("cargo::metadata=linked=1");
 }

@@ -56,11 +56,11 @@ mod geometry;
 mod run;
 
 #[cfg(published)]
-pub(crate) use derive::Validate;
-#[cfg(published)]
 pub(crate) use generator::{mcmc, prelude, seq, Rng, ValidationError, Xoshiro256StarStar};
 #[cfg(published)]
 pub use run::{Labelling, Sweeper};
+#[cfg(published)]
+pub(crate) use validator_stand_in::Validate;
 
 #[cfg(all(test, published))]
 mod differences;

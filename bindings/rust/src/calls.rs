@@ -1,0 +1,127 @@
+//! What a call is lent.
+
+#[derive(Clone, Copy, Debug, PartialEq, Eq)]
+pub enum Mode {
+    Houd = 0,
+    Pair = 1,
+    Perm = 2,
+    Gperm = 3,
+    Jorg = 4,
+    Cmr = 5,
+}
+
+impl Mode {
+    pub const ALL: [Mode; 6] = [
+        Mode::Houd,
+        Mode::Pair,
+        Mode::Perm,
+        Mode::Gperm,
+        Mode::Jorg,
+        Mode::Cmr,
+    ];
+
+    pub fn name(self) -> &'static str {
+        ["houd", "pair", "perm", "gperm", "jorg", "cmr"][self as usize]
+    }
+
+    /// Bonds are drawn: the mode takes couplings, a temperature and cuts.
+    pub fn draws(self) -> bool {
+        matches!(self, Mode::Jorg | Mode::Cmr)
+    }
+
+    pub fn permutes(self) -> bool {
+        matches!(self, Mode::Perm | Mode::Gperm)
+    }
+}
+
+#[derive(Clone, Copy, Debug, PartialEq, Eq)]
+pub enum Form {
+    Sw = 0,
+    Wolff = 1,
+    Observe = 2,
+}
+
+impl Form {
+    pub const ALL: [Form; 3] = [Form::Sw, Form::Wolff, Form::Observe];
+
+    pub fn name(self) -> &'static str {
+        ["SW", "Wolff", "observe"][self as usize]
+    }
+}
+
+/// One move of one group. A buffer that the mode and form do not take may have any length and content.
+pub struct Step<'a> {
+    pub mode: Mode,
+    pub form: Form,
+    pub n: usize,
+    pub d: usize,
+    pub s: usize,
+    pub spins: &'a mut [i8],
+    pub fwd: &'a [u32],
+    pub bwd: &'a [u32],
+    pub couplings: &'a [i32],
+    pub group: &'a [u32],
+    pub temperature: f32,
+    pub cuts: &'a [f32],
+    pub reference: usize,
+    pub seed: usize,
+    pub flips: &'a [u8],
+    pub perms: &'a [u8],
+    pub greys: &'a [u8],
+    pub labels: &'a mut [u32],
+    pub grey_labels: &'a mut [u32],
+    pub counts: &'a mut [u32],
+    pub sizes: &'a mut [u32],
+}
+
+/// One sweep. Task `j * (r / members) + g` has its areas at that number; a mask byte of 1 masks its temperature.
+pub struct Sweep<'a> {
+    pub mode: Mode,
+    pub form: Form,
+    pub n: usize,
+    pub d: usize,
+    pub s: usize,
+    pub t: usize,
+    pub r: usize,
+    pub members: usize,
+    pub spins: &'a mut [i8],
+    pub fwd: &'a [u32],
+    pub bwd: &'a [u32],
+    pub couplings: &'a [i32],
+    pub order: &'a [u32],
+    pub masks: &'a [u8],
+    pub temperatures: &'a [f32],
+    pub cuts: &'a [f32],
+    pub references: &'a [u32],
+    pub seeds: &'a [u32],
+    pub flips: &'a [u8],
+    pub perms: &'a [u8],
+    pub greys: &'a [u8],
+    pub labels: &'a mut [u32],
+    pub grey_labels: &'a mut [u32],
+    pub counts: &'a mut [u32],
+    pub sizes: &'a mut [u32],
+}
+
+/// The energy of one system.
+pub struct Meter<'a> {
+    pub n: usize,
+    pub d: usize,
+    pub s: usize,
+    pub spins: &'a [i8],
+    pub fwd: &'a [u32],
+    pub bwd: &'a [u32],
+    pub couplings: &'a [i32],
+    pub system: usize,
+}
+
+/// Labels, counts and the four sizes of a table of holding bonds (1 holds, 0 does not).
+pub struct Label<'a> {
+    pub n: usize,
+    pub d: usize,
+    pub fwd: &'a [u32],
+    pub holds: &'a [u8],
+    pub labels: &'a mut [u32],
+    pub counts: &'a mut [u32],
+    pub sizes: &'a mut [u32],
+}
