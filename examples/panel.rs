@@ -1,6 +1,6 @@
 //! A small panel through the safe crate: a torus of 4 by 4 sites, four systems at two temperatures, one sweep of each mode
 //! in the all-clusters form, and a sweep that is refused. panel.c is the same program in C; both print panel.out.
-use tsorvenk::{Form, Meter, MeterAnswer, Mode, Sweep, SweepAnswer};
+use tsorvenk::{Energy, Form, Mode, Refusal, Sweep, Swept};
 
 const SIDE: usize = 4;
 const N: usize = SIDE * SIDE;
@@ -101,8 +101,8 @@ fn make_choices(state: &mut u32) -> Choices {
     c
 }
 
-/// The seeds are for the one-cluster form: here none is lent.
-fn sweep(mode: Mode, panel: &Panel, c: &Choices, o: &mut Outputs) -> SweepAnswer {
+/// What only some modes take may be lent in all, and the seeds, for the one-cluster form, are left out.
+fn sweep(mode: Mode, panel: &Panel, c: &Choices, o: &mut Outputs) -> Result<Swept, Refusal> {
     tsorvenk::sweep(Sweep {
         mode,
         form: Form::Sw,
@@ -121,7 +121,6 @@ fn sweep(mode: Mode, panel: &Panel, c: &Choices, o: &mut Outputs) -> SweepAnswer
         temperatures: &TEMPERATURES,
         cuts: &c.cuts,
         references: &c.references,
-        seeds: &[],
         flips: &c.flips,
         perms: &c.perms,
         greys: &c.greys,
@@ -129,13 +128,14 @@ fn sweep(mode: Mode, panel: &Panel, c: &Choices, o: &mut Outputs) -> SweepAnswer
         grey_labels: &mut o.grey_labels,
         counts: &mut o.counts,
         sizes: &mut o.sizes,
+        ..Default::default()
     })
 }
 
 fn print_energies(panel: &Panel, spins: &[i8]) {
     print!("  energies");
     for system in 0..S {
-        match tsorvenk::energy(Meter {
+        match tsorvenk::energy(Energy {
             n: N,
             d: D,
             s: S,
@@ -145,17 +145,17 @@ fn print_energies(panel: &Panel, spins: &[i8]) {
             couplings: &panel.couplings,
             system,
         }) {
-            MeterAnswer::Energy(energy) => print!(" {energy:4}"),
-            MeterAnswer::Refused(number) => print!(" refused with {number}"),
+            Ok(energy) => print!(" {energy:4}"),
+            Err(refusal) => print!(" refused with {}", refusal.number),
         }
     }
     println!();
 }
 
-fn print_sweep(mode: Mode, answer: SweepAnswer, sizes: &[u32]) {
+fn print_sweep(mode: Mode, answer: Result<Swept, Refusal>, sizes: &[u32]) {
     match answer {
-        SweepAnswer::Refused(number) => println!("{}: refused with {number}", mode.name()),
-        SweepAnswer::Swept { idle, moved } => {
+        Err(refusal) => println!("{}: refused with {}", mode.name(), refusal.number),
+        Ok(Swept { idle, moved, .. }) => {
             let largest: Vec<String> = sizes
                 .chunks(4)
                 .map(|z| format!(" {} {} {} {}", z[0], z[1], z[2], z[3]))

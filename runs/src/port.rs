@@ -64,9 +64,9 @@ mod linked {
                 counts: call.counts,
                 sizes: call.sizes,
             }) {
-                tsorvenk::Answer::Moved => Answer::Moved,
-                tsorvenk::Answer::Idle => Answer::Idle,
-                tsorvenk::Answer::Refused(number) => Answer::Refused(number),
+                Ok(tsorvenk::Stepped::Moved) => Answer::Moved,
+                Ok(tsorvenk::Stepped::Idle) => Answer::Idle,
+                Err(refusal) => Answer::Refused(refusal.number),
             }
         }
 
@@ -98,13 +98,13 @@ mod linked {
                 counts: call.counts,
                 sizes: call.sizes,
             }) {
-                tsorvenk::SweepAnswer::Swept { idle, moved } => SweepAnswer::Swept { idle, moved },
-                tsorvenk::SweepAnswer::Refused(number) => SweepAnswer::Refused(number),
+                Ok(tsorvenk::Swept { idle, moved, .. }) => SweepAnswer::Swept { idle, moved },
+                Err(refusal) => SweepAnswer::Refused(refusal.number),
             }
         }
 
         fn energy(&mut self, call: Meter) -> MeterAnswer {
-            match tsorvenk::energy(tsorvenk::Meter {
+            match tsorvenk::energy(tsorvenk::Energy {
                 n: call.n,
                 d: call.d,
                 s: call.s,
@@ -114,8 +114,8 @@ mod linked {
                 couplings: call.couplings,
                 system: call.system,
             }) {
-                tsorvenk::MeterAnswer::Energy(energy) => MeterAnswer::Energy(energy),
-                tsorvenk::MeterAnswer::Refused(number) => MeterAnswer::Refused(number),
+                Ok(energy) => MeterAnswer::Energy(energy),
+                Err(refusal) => MeterAnswer::Refused(refusal.number),
             }
         }
 
@@ -129,8 +129,8 @@ mod linked {
                 counts: call.counts,
                 sizes: call.sizes,
             }) {
-                tsorvenk::LabelAnswer::Labelled => 0,
-                tsorvenk::LabelAnswer::Refused(number) => number,
+                Ok(()) => 0,
+                Err(refusal) => refusal.number,
             }
         }
     }

@@ -1,33 +1,82 @@
 //! What comes back.
+use std::error::Error;
+use std::fmt;
 
-#[derive(Clone, Copy, Debug, PartialEq, Eq)]
-pub enum Answer {
+/// What became of a step that is not refused. Labels, counts and sizes are written in either case.
+#[derive(Clone, Copy, Debug, PartialEq, Eq, Hash)]
+pub enum Stepped {
+    /// Some site acts (in CMR every site does), even if every choice was to leave the spins as they are. An observation
+    /// answers so too, and moves nothing.
     Moved,
+    /// No site acts: the spins are as they were.
     Idle,
-    Refused(u8),
 }
 
-#[derive(Clone, Copy, Debug, PartialEq, Eq)]
-pub enum SweepAnswer {
-    Swept { idle: u32, moved: u32 },
-    Refused(u8),
+/// The counts of a sweep that is not refused, over the tasks of unmasked temperatures.
+#[derive(Clone, Copy, Debug, PartialEq, Eq, Hash)]
+#[non_exhaustive]
+pub struct Swept {
+    /// How many tasks were idle: no site acts.
+    pub idle: u32,
+    /// How many were not, even if every choice was to leave the spins as they are.
+    pub moved: u32,
 }
 
-#[derive(Clone, Copy, Debug, PartialEq, Eq)]
-pub enum MeterAnswer {
-    Energy(i64),
-    Refused(u8),
+/// Why a call is refused. Every buffer that it was lent is as it was.
+///
+/// The numbers are tested in their order, each only on what the mode and form take: the call is refused with the first
+/// that fits. [`refusal_words`] has words for each, which `Display` writes behind the number.
+#[derive(Clone, Copy, Debug, PartialEq, Eq, Hash)]
+pub struct Refusal {
+    /// 1 to 10.
+    pub number: u8,
 }
 
-#[derive(Clone, Copy, Debug, PartialEq, Eq)]
-pub enum LabelAnswer {
-    Labelled,
-    Refused(u8),
+impl Refusal {
+    /// What the number says is wrong.
+    pub fn words(self) -> &'static str {
+        refusal_words(self.number)
+    }
 }
 
-/// What became of a text of frames: its answer has so many bytes, or there is no room for it and nothing is written.
-#[derive(Clone, Copy, Debug, PartialEq, Eq)]
-pub enum Frames {
-    Written(usize),
-    NoRoom,
+impl fmt::Display for Refusal {
+    fn fmt(&self, f: &mut fmt::Formatter<'_>) -> fmt::Result {
+        write!(f, "refused with {}: {}", self.number, self.words())
+    }
+}
+
+impl Error for Refusal {}
+
+/// `out` of [`Frames`](crate::Frames) is too short for the answer, and nothing is written.
+#[derive(Clone, Copy, Debug, PartialEq, Eq, Hash)]
+pub struct NoRoom;
+
+impl fmt::Display for NoRoom {
+    fn fmt(&self, f: &mut fmt::Formatter<'_>) -> fmt::Result {
+        f.write_str(refusal_words(65))
+    }
+}
+
+impl Error for NoRoom {}
+
+/// Words for each number of the C interface, whose `tsorvenk_refusal_words` has the same: the refusals 1 to 10, 11 of a
+/// text of frames, and 0, 64 and 65, which are none.
+pub fn refusal_words(number: u8) -> &'static str {
+    match number {
+        0 => "not refused",
+        1 => "a size, a group's size, the mode or the form is out of its range",
+        2 => "a buffer's length is not the exact one",
+        3 => "a spin is not +1 or -1",
+        4 => "a neighbour is n or more, or the forward and backward tables are not inverse",
+        5 => "a system is s or more or stands twice, or the order is no permutation of the systems",
+        6 => "a coupling's size is above 1,000,000",
+        7 => "a temperature is not from 1/1024 to 1,048,576",
+        8 => "a cut is below 0, infinite or not a number",
+        9 => "a permutation, flip, grey number, reference site, mask byte or byte of holds is out of its set",
+        10 => "a seed is n or more, or does not act although some site does",
+        11 => "a frame is missing, misplaced, misspelt or of the wrong length, or there is one too many",
+        64 => "not refused: no site acts",
+        65 => "there is no room for the answer",
+        _ => "a number that no call gives",
+    }
 }

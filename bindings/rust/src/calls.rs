@@ -1,16 +1,25 @@
 //! What a call is lent.
 
-#[derive(Clone, Copy, Debug, PartialEq, Eq)]
+/// Which sites act, which bonds hold and what a choice does.
+#[derive(Clone, Copy, Debug, Default, PartialEq, Eq, Hash)]
 pub enum Mode {
+    /// Sites where the group's spins sum to 0 act; a flip negates every replica.
+    #[default]
     Houd = 0,
+    /// Sites where some pair (first and second, third and fourth, ..) differs act; a flip exchanges each pair's spins.
     Pair = 1,
+    /// Sites where the group does not all agree act; a choice permutes the replicas.
     Perm = 2,
+    /// As `Perm`, on the spins gauged by those of a reference site.
     Gperm = 3,
+    /// As `Pair`, with bonds that are drawn.
     Jorg = 4,
+    /// Two replicas, blue and red bonds that are drawn; every site acts.
     Cmr = 5,
 }
 
 impl Mode {
+    /// All six.
     pub const ALL: [Mode; 6] = [
         Mode::Houd,
         Mode::Pair,
@@ -20,108 +29,194 @@ impl Mode {
         Mode::Cmr,
     ];
 
+    /// houd, pair, perm, gperm, jorg or cmr.
     pub fn name(self) -> &'static str {
         ["houd", "pair", "perm", "gperm", "jorg", "cmr"][self as usize]
     }
-
-    /// Bonds are drawn: the mode takes couplings, a temperature and cuts.
-    pub fn draws(self) -> bool {
-        matches!(self, Mode::Jorg | Mode::Cmr)
-    }
-
-    pub fn permutes(self) -> bool {
-        matches!(self, Mode::Perm | Mode::Gperm)
-    }
 }
 
-#[derive(Clone, Copy, Debug, PartialEq, Eq)]
+/// What is done with the components.
+#[derive(Clone, Copy, Debug, Default, PartialEq, Eq, Hash)]
 pub enum Form {
+    /// Every component has its own choice ("SW").
+    #[default]
     Sw = 0,
+    /// The component of the seed moves ("Wolff").
     Wolff = 1,
+    /// Components are labelled and counted, and nothing moves.
     Observe = 2,
 }
 
 impl Form {
+    /// All three.
     pub const ALL: [Form; 3] = [Form::Sw, Form::Wolff, Form::Observe];
 
+    /// SW, Wolff or observe.
     pub fn name(self) -> &'static str {
         ["SW", "Wolff", "observe"][self as usize]
     }
 }
 
-/// One move of one group. A buffer that the mode and form do not take may have any length and content.
+/// One move or observation of one group, of N = `group.len()` systems.
+///
+/// Behind each field stands its exact length, and which modes and forms take it if not all do. In SW the entry at a
+/// component's label is the component's choice, and entries that no component uses are tested too.
+#[derive(Debug, Default)]
 pub struct Step<'a> {
+    /// Houd if left out.
     pub mode: Mode,
+    /// SW if left out.
     pub form: Form,
+    /// Sites, 1 to 4096.
     pub n: usize,
+    /// Directions, 1 to 4.
     pub d: usize,
+    /// Systems, 1 to 64.
     pub s: usize,
+    /// s * n, system by system: the spin of site i in system k is at k * n + i, +1 or -1. The group's are moved.
     pub spins: &'a mut [i8],
+    /// n * d: entry i * d + e is the forward neighbour of site i in direction e.
     pub fwd: &'a [u32],
+    /// n * d: the backward neighbours, inverse to `fwd`.
     pub bwd: &'a [u32],
+    /// n * d, at the bond's entry, each from -1,000,000 to 1,000,000. Jörg, CMR, in every form.
     pub couplings: &'a [i32],
+    /// N systems, 2 to 8 (CMR: 2); they differ, and their order matters.
     pub group: &'a [u32],
+    /// 1/1024 to 1,048,576. Jörg, CMR, in every form.
     pub temperature: f32,
+    /// n * d, at the bond's entry, finite and at least 0: a bond is drawn where scale * strength is above its cut.
+    /// Jörg, CMR, in every form.
     pub cuts: &'a [f32],
+    /// A site. Gperm, in every form.
     pub reference: usize,
+    /// A site that acts, if any does. Wolff.
     pub seed: usize,
+    /// n, each 0 or 1. SW of houd, pair, Jörg, CMR.
     pub flips: &'a [u8],
+    /// SW: n rows of N; Wolff: one row of N that is not the identity. Each row is a permutation of 0 to N - 1: replica k
+    /// gets the old spin of replica p(k). SW and Wolff of perm, gperm.
     pub perms: &'a [u8],
+    /// SW: n, each 0 to 3; Wolff: one, 1 to 3. Bit 0 flips the first replica, bit 1 the second. SW and Wolff of CMR.
     pub greys: &'a [u8],
+    /// n. Written: the smallest site of each site's component (CMR: blue components).
     pub labels: &'a mut [u32],
+    /// n. Written: the same of grey components. SW and Wolff of CMR.
     pub grey_labels: &'a mut [u32],
+    /// n + 1. Written: count k is the number of components of size k, count 0 is 0 (CMR: blue).
     pub counts: &'a mut [u32],
+    /// 4. Written: the largest sizes in falling order, filled with 0 (CMR: blue).
     pub sizes: &'a mut [u32],
 }
 
-/// One sweep. Task `j * (r / members) + g` has its areas at that number; a mask byte of 1 masks its temperature.
+/// A sweep over t temperatures of r replicas, t * r = s, in groups of N = `members` systems.
+///
+/// Temperature j owns the order's entries from j * r on; its groups are runs of N, and what is left over does not move.
+/// Task number j * (r / N) + g is the group g of temperature j, and there are K = t * (r / N) tasks, those of masked
+/// temperatures too. Each task is the [`Step`] that it would be alone; its areas in the buffers are at its number, and
+/// those of masked tasks are neither read nor written. All tests are made before anything is written.
+#[derive(Debug, Default)]
 pub struct Sweep<'a> {
+    /// Houd if left out.
     pub mode: Mode,
+    /// SW if left out.
     pub form: Form,
+    /// Sites, 1 to 4096.
     pub n: usize,
+    /// Directions, 1 to 4.
     pub d: usize,
+    /// Systems, 1 to 64.
     pub s: usize,
+    /// Temperatures.
     pub t: usize,
+    /// Replicas at each temperature.
     pub r: usize,
+    /// The size N of every group, 2 to 8 and at most r (CMR: 2).
     pub members: usize,
+    /// s * n, as in a step.
     pub spins: &'a mut [i8],
+    /// n * d, as in a step.
     pub fwd: &'a [u32],
+    /// n * d, as in a step.
     pub bwd: &'a [u32],
+    /// n * d, as in a step. Jörg, CMR, in every form.
     pub couplings: &'a [i32],
+    /// s: a permutation of the systems.
     pub order: &'a [u32],
+    /// t, each 0 or 1: 1 masks its temperature.
     pub masks: &'a [u8],
+    /// t. Jörg, CMR, in every form.
     pub temperatures: &'a [f32],
+    /// K * n * d. Jörg, CMR, in every form.
     pub cuts: &'a [f32],
+    /// K. Gperm, in every form.
     pub references: &'a [u32],
+    /// K. Wolff.
     pub seeds: &'a [u32],
+    /// K * n. SW of houd, pair, Jörg, CMR.
     pub flips: &'a [u8],
+    /// SW: K * n * N; Wolff: K * N. SW and Wolff of perm, gperm.
     pub perms: &'a [u8],
+    /// SW: K * n; Wolff: K. SW and Wolff of CMR.
     pub greys: &'a [u8],
+    /// K * n. Written.
     pub labels: &'a mut [u32],
+    /// K * n. Written. SW and Wolff of CMR.
     pub grey_labels: &'a mut [u32],
+    /// K * (n + 1). Written.
     pub counts: &'a mut [u32],
+    /// K * 4. Written.
     pub sizes: &'a mut [u32],
 }
 
-/// The energy of one system.
-pub struct Meter<'a> {
+/// The energy of one system: every field is taken.
+#[derive(Clone, Copy, Debug, Default)]
+pub struct Energy<'a> {
+    /// Sites, 1 to 4096.
     pub n: usize,
+    /// Directions, 1 to 4.
     pub d: usize,
+    /// Systems, 1 to 64.
     pub s: usize,
+    /// s * n, as in a step.
     pub spins: &'a [i8],
+    /// n * d, as in a step.
     pub fwd: &'a [u32],
+    /// n * d, as in a step.
     pub bwd: &'a [u32],
+    /// n * d, as in a step.
     pub couplings: &'a [i32],
+    /// Below s.
     pub system: usize,
 }
 
-/// Labels, counts and the four sizes of a table of holding bonds (1 holds, 0 does not).
+/// The components of the bonds whose byte in `holds` is 1: every field is taken.
+#[derive(Debug, Default)]
 pub struct Label<'a> {
+    /// Sites, 1 to 4096.
     pub n: usize,
+    /// Directions, 1 to 4.
     pub d: usize,
+    /// n * d, each below n. A backward table is not needed.
     pub fwd: &'a [u32],
+    /// n * d, at the bond's entry, each 0 or 1.
     pub holds: &'a [u8],
+    /// n. Written: the smallest site of each site's component.
     pub labels: &'a mut [u32],
+    /// n + 1. Written: count k is the number of components of size k, count 0 is 0.
     pub counts: &'a mut [u32],
+    /// 4. Written: the largest sizes in falling order, filled with 0.
     pub sizes: &'a mut [u32],
 }
+
+/// A text of frames, as docs/FRAMES.md has them, and where its answer goes.
+#[derive(Debug, Default)]
+pub struct Frames<'a> {
+    /// Of any length.
+    pub text: &'a [u8],
+    /// The answer is written to its front, and the rest of it is kept. [`FRAMES_ROOM`] bytes are room for every answer.
+    pub out: &'a mut [u8],
+}
+
+/// The longest answer to a text of frames, in bytes.
+pub const FRAMES_ROOM: usize = 6157;

@@ -1,7 +1,49 @@
 //! Replica-overlap cluster moves: the proved library, for Rust.
 //!
-//! Lengths by mode and form, answers and refusals are in include/tsorvenk.h. Every call is answered, whatever it is lent,
-//! and a refusal leaves every buffer as it was.
+//! A panel is a lattice of `n` sites with `d` directions and `s` systems of +1 and -1 spins on it. A call is a struct of
+//! named fields that borrows its buffers. What its mode and form do not take is ignored and may be left out, by
+//! `..Default::default()`; a buffer left out is empty and a number left out is 0.
+//!
+//! No caller is trusted: every call is answered, whatever it is lent. A refusal is an `Err` with its number, and leaves
+//! every buffer as it was. For every input the library is proved to give one answer and one content of every buffer.
+//! It draws nothing itself (cuts, flips, permutations and seeds are lent), allocates nothing and keeps nothing between
+//! calls, so calls on different buffers may run at the same time.
+//!
+//! ```
+//! use tsorvenk::{step, Form, Mode, Refusal, Step, Stepped};
+//!
+//! // two sites, each the other's neighbour, and two systems that differ at both
+//! let mut spins = [1, 1, -1, -1];
+//! let (mut labels, mut counts, mut sizes) = ([0; 2], [0; 3], [0; 4]);
+//! let mut grow_from = |seed| {
+//!     step(Step {
+//!         mode: Mode::Pair,
+//!         form: Form::Wolff,
+//!         n: 2,
+//!         d: 1,
+//!         s: 2,
+//!         spins: &mut spins,
+//!         fwd: &[1, 0],
+//!         bwd: &[1, 0],
+//!         group: &[0, 1],
+//!         seed,
+//!         labels: &mut labels,
+//!         counts: &mut counts,
+//!         sizes: &mut sizes,
+//!         ..Default::default()
+//!     })
+//! };
+//! assert_eq!(grow_from(0), Ok(Stepped::Moved));
+//! assert_eq!(grow_from(2), Err(Refusal { number: 10 }));
+//! assert_eq!(spins, [-1, -1, 1, 1]);
+//! assert_eq!((labels, counts, sizes), ([0, 0], [0, 0, 1], [2, 0, 0, 0]));
+//! ```
+//!
+//! The build links `libtsorvenk.a` where `build-library` at the top of the repository leaves it, or where the environment
+//! variable TSORVENK_LIB says. With the feature `optional-library` a missing archive is no error, and the functions are
+//! then missing from the crate.
+#![deny(missing_docs)]
+
 mod answers;
 mod calls;
 #[cfg(linked)]
@@ -9,7 +51,7 @@ mod foreign;
 #[cfg(linked)]
 mod safe;
 
-pub use answers::{Answer, Frames, LabelAnswer, MeterAnswer, SweepAnswer};
-pub use calls::{Form, Label, Meter, Mode, Step, Sweep};
+pub use answers::{refusal_words, NoRoom, Refusal, Stepped, Swept};
+pub use calls::{Energy, Form, Frames, Label, Mode, Step, Sweep, FRAMES_ROOM};
 #[cfg(linked)]
 pub use safe::{energy, frames, label, step, sweep};

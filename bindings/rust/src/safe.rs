@@ -1,102 +1,185 @@
 //! Safe calls. Each pointer goes with the length of the slice that it was taken from, slices that are written overlap no
 //! other, and the library is proved to stay inside.
-use crate::answers::{Answer, Frames, LabelAnswer, MeterAnswer, SweepAnswer};
-use crate::calls::{Label, Meter, Step, Sweep};
+use crate::answers::{NoRoom, Refusal, Stepped, Swept};
+use crate::calls::{Energy, Frames, Label, Step, Sweep};
 use crate::foreign::*;
 
-/// 0 moved, 64 idle, else the refusal's number.
-fn answer(code: u8) -> Answer {
-    match code {
-        0 => Answer::Moved,
-        64 => Answer::Idle,
-        number => Answer::Refused(number),
+/// One move or observation of one group. The example of the [crate] is one.
+#[rustfmt::skip]
+pub fn step(call: Step) -> Result<Stepped, Refusal> {
+    let number = unsafe {
+        tsorvenk_step(
+            call.mode as u8, call.form as u8, call.n, call.d, call.s,
+            call.spins.as_mut_ptr(), call.spins.len(),
+            call.fwd.as_ptr(), call.fwd.len(), call.bwd.as_ptr(), call.bwd.len(),
+            call.couplings.as_ptr(), call.couplings.len(), call.group.as_ptr(), call.group.len(),
+            call.temperature, call.cuts.as_ptr(), call.cuts.len(), call.reference, call.seed,
+            call.flips.as_ptr(), call.flips.len(), call.perms.as_ptr(), call.perms.len(),
+            call.greys.as_ptr(), call.greys.len(),
+            call.labels.as_mut_ptr(), call.labels.len(), call.grey_labels.as_mut_ptr(), call.grey_labels.len(),
+            call.counts.as_mut_ptr(), call.counts.len(), call.sizes.as_mut_ptr(), call.sizes.len(),
+        )
+    };
+    match number {
+        0 => Ok(Stepped::Moved),
+        64 => Ok(Stepped::Idle),
+        number => Err(Refusal { number }),
     }
 }
 
-/// One move or observation of one group.
+/// A sweep: every task of every unmasked temperature, or a refusal before anything is written.
+///
+/// ```
+/// use tsorvenk::{sweep, Form, Mode, Sweep};
+///
+/// // one site that is its own neighbour, four systems at one temperature, in pairs: (+, -) acts and (+, +) does not
+/// let mut spins = [1, -1, 1, 1];
+/// let (mut labels, mut counts, mut sizes) = ([0; 2], [0; 4], [0; 8]);
+/// let swept = sweep(Sweep {
+///     mode: Mode::Pair,
+///     form: Form::Wolff,
+///     n: 1,
+///     d: 1,
+///     s: 4,
+///     t: 1,
+///     r: 4,
+///     members: 2,
+///     spins: &mut spins,
+///     fwd: &[0],
+///     bwd: &[0],
+///     order: &[0, 1, 2, 3],
+///     masks: &[0],
+///     seeds: &[0, 0],
+///     labels: &mut labels,
+///     counts: &mut counts,
+///     sizes: &mut sizes,
+///     ..Default::default()
+/// })?;
+/// assert_eq!((swept.idle, swept.moved), (1, 1));
+/// assert_eq!(spins, [-1, 1, 1, 1]);
+/// # Ok::<(), tsorvenk::Refusal>(())
+/// ```
 #[rustfmt::skip]
-pub fn step(c: Step) -> Answer {
-    answer(unsafe {
-        tsorvenk_step(
-            c.mode as u8, c.form as u8, c.n, c.d, c.s,
-            c.spins.as_mut_ptr(), c.spins.len(), c.fwd.as_ptr(), c.fwd.len(), c.bwd.as_ptr(), c.bwd.len(),
-            c.couplings.as_ptr(), c.couplings.len(), c.group.as_ptr(), c.group.len(),
-            c.temperature, c.cuts.as_ptr(), c.cuts.len(), c.reference, c.seed,
-            c.flips.as_ptr(), c.flips.len(), c.perms.as_ptr(), c.perms.len(), c.greys.as_ptr(), c.greys.len(),
-            c.labels.as_mut_ptr(), c.labels.len(), c.grey_labels.as_mut_ptr(), c.grey_labels.len(),
-            c.counts.as_mut_ptr(), c.counts.len(), c.sizes.as_mut_ptr(), c.sizes.len(),
-        )
-    })
-}
-
-/// A sweep, with its two counts.
-#[rustfmt::skip]
-pub fn sweep(c: Sweep) -> SweepAnswer {
+pub fn sweep(call: Sweep) -> Result<Swept, Refusal> {
     let mut tally = [0u32; 2];
-    let code = unsafe {
+    let number = unsafe {
         tsorvenk_sweep(
-            c.mode as u8, c.form as u8, c.n, c.d, c.s, c.t, c.r, c.members,
-            c.spins.as_mut_ptr(), c.spins.len(), c.fwd.as_ptr(), c.fwd.len(), c.bwd.as_ptr(), c.bwd.len(),
-            c.couplings.as_ptr(), c.couplings.len(), c.order.as_ptr(), c.order.len(),
-            c.masks.as_ptr(), c.masks.len(), c.temperatures.as_ptr(), c.temperatures.len(),
-            c.cuts.as_ptr(), c.cuts.len(), c.references.as_ptr(), c.references.len(),
-            c.seeds.as_ptr(), c.seeds.len(),
-            c.flips.as_ptr(), c.flips.len(), c.perms.as_ptr(), c.perms.len(), c.greys.as_ptr(), c.greys.len(),
-            c.labels.as_mut_ptr(), c.labels.len(), c.grey_labels.as_mut_ptr(), c.grey_labels.len(),
-            c.counts.as_mut_ptr(), c.counts.len(), c.sizes.as_mut_ptr(), c.sizes.len(),
+            call.mode as u8, call.form as u8, call.n, call.d, call.s, call.t, call.r, call.members,
+            call.spins.as_mut_ptr(), call.spins.len(),
+            call.fwd.as_ptr(), call.fwd.len(), call.bwd.as_ptr(), call.bwd.len(),
+            call.couplings.as_ptr(), call.couplings.len(), call.order.as_ptr(), call.order.len(),
+            call.masks.as_ptr(), call.masks.len(), call.temperatures.as_ptr(), call.temperatures.len(),
+            call.cuts.as_ptr(), call.cuts.len(), call.references.as_ptr(), call.references.len(),
+            call.seeds.as_ptr(), call.seeds.len(),
+            call.flips.as_ptr(), call.flips.len(), call.perms.as_ptr(), call.perms.len(),
+            call.greys.as_ptr(), call.greys.len(),
+            call.labels.as_mut_ptr(), call.labels.len(), call.grey_labels.as_mut_ptr(), call.grey_labels.len(),
+            call.counts.as_mut_ptr(), call.counts.len(), call.sizes.as_mut_ptr(), call.sizes.len(),
             tally.as_mut_ptr(), tally.len(),
         )
     };
-    match code {
-        0 => SweepAnswer::Swept { idle: tally[0], moved: tally[1] },
-        number => SweepAnswer::Refused(number),
+    match number {
+        0 => Ok(Swept { idle: tally[0], moved: tally[1] }),
+        number => Err(Refusal { number }),
     }
 }
 
-/// The energy of one system.
+/// The energy of one system: minus the sum over all n * d bonds of the coupling times both spins.
+///
+/// ```
+/// use tsorvenk::{energy, Energy, Refusal};
+///
+/// // a ring of three
+/// let ring = Energy {
+///     n: 3,
+///     d: 1,
+///     s: 1,
+///     spins: &[1, 1, -1],
+///     fwd: &[1, 2, 0],
+///     bwd: &[2, 0, 1],
+///     couplings: &[1, 2, -3],
+///     system: 0,
+/// };
+/// assert_eq!(energy(ring), Ok(-2));
+/// assert_eq!(energy(Energy { system: 1, ..ring }), Err(Refusal { number: 5 }));
+/// ```
 #[rustfmt::skip]
-pub fn energy(c: Meter) -> MeterAnswer {
+pub fn energy(call: Energy) -> Result<i64, Refusal> {
     let mut energy = [0i64];
-    let code = unsafe {
+    let number = unsafe {
         tsorvenk_energy(
-            c.n, c.d, c.s,
-            c.spins.as_ptr(), c.spins.len(), c.fwd.as_ptr(), c.fwd.len(), c.bwd.as_ptr(), c.bwd.len(),
-            c.couplings.as_ptr(), c.couplings.len(), c.system, energy.as_mut_ptr(), energy.len(),
+            call.n, call.d, call.s, call.spins.as_ptr(), call.spins.len(),
+            call.fwd.as_ptr(), call.fwd.len(), call.bwd.as_ptr(), call.bwd.len(),
+            call.couplings.as_ptr(), call.couplings.len(), call.system, energy.as_mut_ptr(), energy.len(),
         )
     };
-    match code {
-        0 => MeterAnswer::Energy(energy[0]),
-        number => MeterAnswer::Refused(number),
+    match number {
+        0 => Ok(energy[0]),
+        number => Err(Refusal { number }),
     }
 }
 
 /// The components of the bonds whose byte is 1.
+///
+/// ```
+/// use tsorvenk::{label, Label};
+///
+/// // a ring of four, broken in two places
+/// let (mut labels, mut counts, mut sizes) = ([0; 4], [0; 5], [0; 4]);
+/// label(Label {
+///     n: 4,
+///     d: 1,
+///     fwd: &[1, 2, 3, 0],
+///     holds: &[0, 1, 1, 0],
+///     labels: &mut labels,
+///     counts: &mut counts,
+///     sizes: &mut sizes,
+/// })?;
+/// assert_eq!(labels, [0, 1, 1, 1]);
+/// assert_eq!(counts, [0, 1, 0, 1, 0]);
+/// assert_eq!(sizes, [3, 1, 0, 0]);
+/// # Ok::<(), tsorvenk::Refusal>(())
+/// ```
 #[rustfmt::skip]
-pub fn label(c: Label) -> LabelAnswer {
-    let code = unsafe {
+pub fn label(call: Label) -> Result<(), Refusal> {
+    let number = unsafe {
         tsorvenk_label(
-            c.n, c.d, c.fwd.as_ptr(), c.fwd.len(), c.holds.as_ptr(), c.holds.len(),
-            c.labels.as_mut_ptr(), c.labels.len(), c.counts.as_mut_ptr(), c.counts.len(),
-            c.sizes.as_mut_ptr(), c.sizes.len(),
+            call.n, call.d, call.fwd.as_ptr(), call.fwd.len(), call.holds.as_ptr(), call.holds.len(),
+            call.labels.as_mut_ptr(), call.labels.len(), call.counts.as_mut_ptr(), call.counts.len(),
+            call.sizes.as_mut_ptr(), call.sizes.len(),
         )
     };
-    match code {
-        0 => LabelAnswer::Labelled,
-        number => LabelAnswer::Refused(number),
+    match number {
+        0 => Ok(()),
+        number => Err(Refusal { number }),
     }
 }
 
-/// The frame program on a text. A text that it refuses has an answer too: the line that says so.
+/// The answer to a text of frames: the front of `out`, where it is written. A text that the program refuses has an answer
+/// too, the line that says so.
+///
+/// ```
+/// use tsorvenk::{frames, Frames, NoRoom, FRAMES_ROOM};
+///
+/// let text = b"1000030102\n110101ff01ffff\n12000100020000\n130001\n14010001000100\n";
+/// let mut out = [0; FRAMES_ROOM];
+/// let answer = frames(Frames { text, out: &mut out })?;
+/// assert_eq!(answer, b"20000000010002\n210000000300000000\n2201ffff0101ff\n");
+/// assert_eq!(frames(Frames { text: b"10\n", out: &mut out })?, b"2f11\n");
+/// assert_eq!(frames(Frames { text, out: &mut out[..4] }), Err(NoRoom));
+/// # Ok::<(), NoRoom>(())
+/// ```
 #[rustfmt::skip]
-pub fn frames(text: &[u8], out: &mut [u8]) -> Frames {
+pub fn frames(call: Frames<'_>) -> Result<&[u8], NoRoom> {
+    let Frames { text, out } = call;
     let mut written = [0usize];
-    let code = unsafe {
+    let number = unsafe {
         tsorvenk_frames(
             text.as_ptr(), text.len(), out.as_mut_ptr(), out.len(), written.as_mut_ptr(), written.len(),
         )
     };
-    match code {
-        0 => Frames::Written(written[0]),
-        _ => Frames::NoRoom,
+    match number {
+        0 => Ok(&out[..written[0]]),
+        _ => Err(NoRoom),
     }
 }
