@@ -64,20 +64,41 @@ static void make_choices(uint32_t *state, struct choices *c) {
     }
 }
 
-/* the seeds are for the one-cluster form: here none is lent, and any pointer that is not null will do */
+/* what only some modes take may be lent in all, and the seeds, for the one-cluster form, are left out */
 static uint8_t sweep(uint8_t mode, const struct choices *c, struct outputs *o) {
-    return tsorvenk_sweep(mode, TSORVENK_SW, N, D, S, T, R, MEMBERS,
-        o->spins, S * N, fwd, N * D, bwd, N * D, couplings, N * D, order, S, masks, T, TEMPERATURES, T,
-        c->cuts, TASKS * N * D, c->references, TASKS, c->references, 0,
-        c->flips, TASKS * N, c->perms, TASKS * N * MEMBERS, c->greys, TASKS * N,
-        o->labels, TASKS * N, o->grey_labels, TASKS * N, o->counts, TASKS * (N + 1), o->sizes, TASKS * 4, o->tally, 2);
+    struct tsorvenk_sweep_args args = {
+        .mode = mode, .form = TSORVENK_SW, .n = N, .d = D, .s = S, .t = T, .r = R, .members = MEMBERS,
+        .spins = o->spins, .spins_len = S * N,
+        .fwd = fwd, .fwd_len = N * D,
+        .bwd = bwd, .bwd_len = N * D,
+        .couplings = couplings, .couplings_len = N * D,
+        .order = order, .order_len = S,
+        .masks = masks, .masks_len = T,
+        .temperatures = TEMPERATURES, .temperatures_len = T,
+        .cuts = c->cuts, .cuts_len = TASKS * N * D,
+        .references = c->references, .references_len = TASKS,
+        .flips = c->flips, .flips_len = TASKS * N,
+        .perms = c->perms, .perms_len = TASKS * N * MEMBERS,
+        .greys = c->greys, .greys_len = TASKS * N,
+        .labels = o->labels, .labels_len = TASKS * N,
+        .grey_labels = o->grey_labels, .grey_labels_len = TASKS * N,
+        .counts = o->counts, .counts_len = TASKS * (N + 1),
+        .sizes = o->sizes, .sizes_len = TASKS * 4,
+        .tally = o->tally, .tally_len = 2,
+    };
+    return tsorvenk_sweep_with(&args);
 }
 
 static void print_energies(const struct outputs *o) {
     printf("  energies");
     for (size_t k = 0; k < S; k++) {
         int64_t energy = 0;
-        uint8_t code = tsorvenk_energy(N, D, S, o->spins, S * N, fwd, N * D, bwd, N * D, couplings, N * D, k, &energy, 1);
+        struct tsorvenk_energy_args args = {
+            .n = N, .d = D, .s = S, .spins = o->spins, .spins_len = S * N,
+            .fwd = fwd, .fwd_len = N * D, .bwd = bwd, .bwd_len = N * D, .couplings = couplings, .couplings_len = N * D,
+            .system = k, .energy = &energy, .energy_len = 1,
+        };
+        uint8_t code = tsorvenk_energy_with(&args);
         if (code)
             printf(" refused with %d", code);
         else

@@ -9,6 +9,8 @@
  * else is assumed: lengths, numbers and contents may be anything, and what is wrong is refused. No function keeps a
  * pointer, allocates, or has state between calls; calls on different buffers may run at the same time.
  *
+ * At the end are the same calls with named fields, where null is a buffer that is left out, and words for each number.
+ *
  * A buffer that a mode and form do not take is ignored, at any length and with any content.
  *
  * Refusals, tested in this order. A refusal returns its number, and every buffer keeps its bytes:
@@ -143,11 +145,14 @@ uint8_t tsorvenk_energy(size_t n, size_t d, size_t s,
 uint8_t tsorvenk_label(size_t n, size_t d, const uint32_t *fwd, size_t fwd_len, const uint8_t *holds, size_t holds_len,
     uint32_t *labels, size_t labels_len, uint32_t *counts, size_t counts_len, uint32_t *sizes, size_t sizes_len);
 
+/* Bytes that are room for the answer to every text of frames. */
+enum { TSORVENK_FRAMES_ROOM = 6157 };
+
 /* The frame program of docs/FRAMES.md on a text in memory.
  *
  *   text         of any length
- *   out          the answer's frames are written to its front, and the rest of it is kept. 6157 bytes are room for every
- *                answer
+ *   out          the answer's frames are written to its front, and the rest of it is kept. TSORVENK_FRAMES_ROOM bytes are
+ *                enough
  *   written      1: the number of bytes of the answer
  *
  * A text that the program refuses, 11 among its numbers, is answered by the line that says so: that is an answer too.
@@ -155,6 +160,197 @@ uint8_t tsorvenk_label(size_t n, size_t d, const uint32_t *fwd, size_t fwd_len, 
  * Returns 0 if the answer is written, 2 if written_len is not 1, TSORVENK_NO_ROOM if out is too short for the answer; in
  * the last two cases nothing is written. */
 uint8_t tsorvenk_frames(const uint8_t *text, size_t text_len, uint8_t *out, size_t out_len, size_t *written, size_t written_len);
+
+/* Calls with named fields.
+ *
+ * Each function NAME_with below is the function NAME above, with the inputs of the same names and lengths as fields of a
+ * struct. Name what the mode and form take and leave out the rest, which is then 0:
+ *
+ *     struct tsorvenk_step_args args = {
+ *         .mode = TSORVENK_PAIR, .form = TSORVENK_WOLFF, .n = n, .d = d, .s = s,
+ *         .spins = spins, .spins_len = s * n, .fwd = fwd, .fwd_len = n * d, .bwd = bwd, .bwd_len = n * d,
+ *         .group = group, .group_len = 2, .seed = seed,
+ *         .labels = labels, .labels_len = n, .counts = counts, .counts_len = n + 1, .sizes = sizes, .sizes_len = 4,
+ *     };
+ *     uint8_t number = tsorvenk_step_with(&args);
+ *
+ * A buffer whose pointer is null has length 0, whatever its _len is: where the mode and form do not take it it is ignored,
+ * and where they do it is refused with 2. A struct that is initialised by name, or to 0 and then field by field, needs no
+ * change where a field is added. The functions are inline: the struct is no part of what is linked. */
+struct tsorvenk_step_args {
+    uint8_t mode, form;
+    size_t n, d, s;
+    int8_t *spins;
+    size_t spins_len;
+    const uint32_t *fwd;
+    size_t fwd_len;
+    const uint32_t *bwd;
+    size_t bwd_len;
+    const int32_t *couplings;
+    size_t couplings_len;
+    const uint32_t *group;
+    size_t group_len;
+    float temperature;
+    const float *cuts;
+    size_t cuts_len;
+    size_t reference, seed;
+    const uint8_t *flips;
+    size_t flips_len;
+    const uint8_t *perms;
+    size_t perms_len;
+    const uint8_t *greys;
+    size_t greys_len;
+    uint32_t *labels;
+    size_t labels_len;
+    uint32_t *grey_labels;
+    size_t grey_labels_len;
+    uint32_t *counts;
+    size_t counts_len;
+    uint32_t *sizes;
+    size_t sizes_len;
+};
+
+struct tsorvenk_sweep_args {
+    uint8_t mode, form;
+    size_t n, d, s, t, r, members;
+    int8_t *spins;
+    size_t spins_len;
+    const uint32_t *fwd;
+    size_t fwd_len;
+    const uint32_t *bwd;
+    size_t bwd_len;
+    const int32_t *couplings;
+    size_t couplings_len;
+    const uint32_t *order;
+    size_t order_len;
+    const uint8_t *masks;
+    size_t masks_len;
+    const float *temperatures;
+    size_t temperatures_len;
+    const float *cuts;
+    size_t cuts_len;
+    const uint32_t *references;
+    size_t references_len;
+    const uint32_t *seeds;
+    size_t seeds_len;
+    const uint8_t *flips;
+    size_t flips_len;
+    const uint8_t *perms;
+    size_t perms_len;
+    const uint8_t *greys;
+    size_t greys_len;
+    uint32_t *labels;
+    size_t labels_len;
+    uint32_t *grey_labels;
+    size_t grey_labels_len;
+    uint32_t *counts;
+    size_t counts_len;
+    uint32_t *sizes;
+    size_t sizes_len;
+    uint32_t *tally;
+    size_t tally_len;
+};
+
+struct tsorvenk_energy_args {
+    size_t n, d, s;
+    const int8_t *spins;
+    size_t spins_len;
+    const uint32_t *fwd;
+    size_t fwd_len;
+    const uint32_t *bwd;
+    size_t bwd_len;
+    const int32_t *couplings;
+    size_t couplings_len;
+    size_t system;
+    int64_t *energy;
+    size_t energy_len;
+};
+
+struct tsorvenk_label_args {
+    size_t n, d;
+    const uint32_t *fwd;
+    size_t fwd_len;
+    const uint8_t *holds;
+    size_t holds_len;
+    uint32_t *labels;
+    size_t labels_len;
+    uint32_t *counts;
+    size_t counts_len;
+    uint32_t *sizes;
+    size_t sizes_len;
+};
+
+/* A buffer of args as the two arguments that the functions above take. Where it is left out they get a pointer to the
+ * local NONE, of the buffer's type, since they ask for one that is not null. */
+#define TSORVENK_LENT(buffer, none) args->buffer ? args->buffer : &none, args->buffer ? args->buffer##_len : 0
+
+static inline uint8_t tsorvenk_step_with(const struct tsorvenk_step_args *args) {
+    int8_t no_i8 = 0;
+    uint8_t no_u8 = 0;
+    int32_t no_i32 = 0;
+    uint32_t no_u32 = 0;
+    float no_f32 = 0;
+    return tsorvenk_step(args->mode, args->form, args->n, args->d, args->s, TSORVENK_LENT(spins, no_i8),
+        TSORVENK_LENT(fwd, no_u32), TSORVENK_LENT(bwd, no_u32), TSORVENK_LENT(couplings, no_i32),
+        TSORVENK_LENT(group, no_u32), args->temperature, TSORVENK_LENT(cuts, no_f32), args->reference, args->seed,
+        TSORVENK_LENT(flips, no_u8), TSORVENK_LENT(perms, no_u8), TSORVENK_LENT(greys, no_u8),
+        TSORVENK_LENT(labels, no_u32), TSORVENK_LENT(grey_labels, no_u32), TSORVENK_LENT(counts, no_u32),
+        TSORVENK_LENT(sizes, no_u32));
+}
+
+static inline uint8_t tsorvenk_sweep_with(const struct tsorvenk_sweep_args *args) {
+    int8_t no_i8 = 0;
+    uint8_t no_u8 = 0;
+    int32_t no_i32 = 0;
+    uint32_t no_u32 = 0;
+    float no_f32 = 0;
+    return tsorvenk_sweep(args->mode, args->form, args->n, args->d, args->s, args->t, args->r, args->members,
+        TSORVENK_LENT(spins, no_i8), TSORVENK_LENT(fwd, no_u32), TSORVENK_LENT(bwd, no_u32),
+        TSORVENK_LENT(couplings, no_i32), TSORVENK_LENT(order, no_u32), TSORVENK_LENT(masks, no_u8),
+        TSORVENK_LENT(temperatures, no_f32), TSORVENK_LENT(cuts, no_f32), TSORVENK_LENT(references, no_u32),
+        TSORVENK_LENT(seeds, no_u32), TSORVENK_LENT(flips, no_u8), TSORVENK_LENT(perms, no_u8),
+        TSORVENK_LENT(greys, no_u8), TSORVENK_LENT(labels, no_u32), TSORVENK_LENT(grey_labels, no_u32),
+        TSORVENK_LENT(counts, no_u32), TSORVENK_LENT(sizes, no_u32), TSORVENK_LENT(tally, no_u32));
+}
+
+static inline uint8_t tsorvenk_energy_with(const struct tsorvenk_energy_args *args) {
+    int8_t no_i8 = 0;
+    int32_t no_i32 = 0;
+    uint32_t no_u32 = 0;
+    int64_t no_i64 = 0;
+    return tsorvenk_energy(args->n, args->d, args->s, TSORVENK_LENT(spins, no_i8), TSORVENK_LENT(fwd, no_u32),
+        TSORVENK_LENT(bwd, no_u32), TSORVENK_LENT(couplings, no_i32), args->system, TSORVENK_LENT(energy, no_i64));
+}
+
+static inline uint8_t tsorvenk_label_with(const struct tsorvenk_label_args *args) {
+    uint8_t no_u8 = 0;
+    uint32_t no_u32 = 0;
+    return tsorvenk_label(args->n, args->d, TSORVENK_LENT(fwd, no_u32), TSORVENK_LENT(holds, no_u8),
+        TSORVENK_LENT(labels, no_u32), TSORVENK_LENT(counts, no_u32), TSORVENK_LENT(sizes, no_u32));
+}
+
+#undef TSORVENK_LENT
+
+/* Words for each number that comes back, and for 11, which a text of frames may be answered with. */
+static inline const char *tsorvenk_refusal_words(int number) {
+    switch (number) {
+    case 0: return "not refused";
+    case 1: return "a size, a group's size, the mode or the form is out of its range";
+    case 2: return "a buffer's length is not the exact one";
+    case 3: return "a spin is not +1 or -1";
+    case 4: return "a neighbour is n or more, or the forward and backward tables are not inverse";
+    case 5: return "a system is s or more or stands twice, or the order is no permutation of the systems";
+    case 6: return "a coupling's size is above 1,000,000";
+    case 7: return "a temperature is not from 1/1024 to 1,048,576";
+    case 8: return "a cut is below 0, infinite or not a number";
+    case 9: return "a permutation, flip, grey number, reference site, mask byte or byte of holds is out of its set";
+    case 10: return "a seed is n or more, or does not act although some site does";
+    case 11: return "a frame is missing, misplaced, misspelt or of the wrong length, or there is one too many";
+    case TSORVENK_IDLE: return "not refused: no site acts";
+    case TSORVENK_NO_ROOM: return "there is no room for the answer";
+    default: return "a number that no call gives";
+    }
+}
 
 #ifdef __cplusplus
 }

@@ -1,0 +1,126 @@
+/* The calls with named fields of include/tsorvenk.h over stand-ins of the exported functions: each field must reach
+ * the argument of its name, and a buffer that is left out must get a pointer that is not null, with length 0. Then the
+ * words of every number, and the room for frames, are printed for the Rust crate to be held to. */
+#include "tsorvenk.h"
+#include <stdio.h>
+#include <stdlib.h>
+
+/* what the stand-ins must be given; every number and pointer in it is another */
+static struct tsorvenk_step_args step;
+static struct tsorvenk_sweep_args sweep;
+static struct tsorvenk_energy_args energy_of;
+static struct tsorvenk_label_args label;
+
+static int8_t i8[2];
+static uint8_t u8[8];
+static int32_t i32[2];
+static uint32_t u32[16];
+static float f32[4];
+static int64_t i64[2];
+
+static void held(int so, const char *call, const char *field) {
+    if (!so) {
+        printf("%s: %s did not arrive\n", call, field);
+        exit(1);
+    }
+}
+
+#define NUMBER(call, field) held(field == call.field, #call, #field)
+#define BUFFER(call, field) \
+    held(call.field ? field == call.field && field##_len == call.field##_len \
+                    : field != NULL && (uintptr_t)field % sizeof *field == 0 && field##_len == 0, #call, #field)
+
+uint8_t tsorvenk_step(uint8_t mode, uint8_t form, size_t n, size_t d, size_t s,
+    int8_t *spins, size_t spins_len, const uint32_t *fwd, size_t fwd_len, const uint32_t *bwd, size_t bwd_len,
+    const int32_t *couplings, size_t couplings_len, const uint32_t *group, size_t group_len,
+    float temperature, const float *cuts, size_t cuts_len, size_t reference, size_t seed,
+    const uint8_t *flips, size_t flips_len, const uint8_t *perms, size_t perms_len, const uint8_t *greys, size_t greys_len,
+    uint32_t *labels, size_t labels_len, uint32_t *grey_labels, size_t grey_labels_len,
+    uint32_t *counts, size_t counts_len, uint32_t *sizes, size_t sizes_len) {
+    NUMBER(step, mode), NUMBER(step, form), NUMBER(step, n), NUMBER(step, d), NUMBER(step, s);
+    NUMBER(step, temperature), NUMBER(step, reference), NUMBER(step, seed);
+    BUFFER(step, spins), BUFFER(step, fwd), BUFFER(step, bwd), BUFFER(step, couplings), BUFFER(step, group);
+    BUFFER(step, cuts), BUFFER(step, flips), BUFFER(step, perms), BUFFER(step, greys);
+    BUFFER(step, labels), BUFFER(step, grey_labels), BUFFER(step, counts), BUFFER(step, sizes);
+    return 101;
+}
+
+uint8_t tsorvenk_sweep(uint8_t mode, uint8_t form, size_t n, size_t d, size_t s, size_t t, size_t r, size_t members,
+    int8_t *spins, size_t spins_len, const uint32_t *fwd, size_t fwd_len, const uint32_t *bwd, size_t bwd_len,
+    const int32_t *couplings, size_t couplings_len, const uint32_t *order, size_t order_len,
+    const uint8_t *masks, size_t masks_len, const float *temperatures, size_t temperatures_len,
+    const float *cuts, size_t cuts_len, const uint32_t *references, size_t references_len,
+    const uint32_t *seeds, size_t seeds_len,
+    const uint8_t *flips, size_t flips_len, const uint8_t *perms, size_t perms_len, const uint8_t *greys, size_t greys_len,
+    uint32_t *labels, size_t labels_len, uint32_t *grey_labels, size_t grey_labels_len,
+    uint32_t *counts, size_t counts_len, uint32_t *sizes, size_t sizes_len, uint32_t *tally, size_t tally_len) {
+    NUMBER(sweep, mode), NUMBER(sweep, form), NUMBER(sweep, n), NUMBER(sweep, d), NUMBER(sweep, s);
+    NUMBER(sweep, t), NUMBER(sweep, r), NUMBER(sweep, members);
+    BUFFER(sweep, spins), BUFFER(sweep, fwd), BUFFER(sweep, bwd), BUFFER(sweep, couplings), BUFFER(sweep, order);
+    BUFFER(sweep, masks), BUFFER(sweep, temperatures), BUFFER(sweep, cuts), BUFFER(sweep, references);
+    BUFFER(sweep, seeds), BUFFER(sweep, flips), BUFFER(sweep, perms), BUFFER(sweep, greys);
+    BUFFER(sweep, labels), BUFFER(sweep, grey_labels), BUFFER(sweep, counts), BUFFER(sweep, sizes);
+    BUFFER(sweep, tally);
+    return 102;
+}
+
+uint8_t tsorvenk_energy(size_t n, size_t d, size_t s,
+    const int8_t *spins, size_t spins_len, const uint32_t *fwd, size_t fwd_len, const uint32_t *bwd, size_t bwd_len,
+    const int32_t *couplings, size_t couplings_len, size_t system, int64_t *energy, size_t energy_len) {
+    NUMBER(energy_of, n), NUMBER(energy_of, d), NUMBER(energy_of, s), NUMBER(energy_of, system);
+    BUFFER(energy_of, spins), BUFFER(energy_of, fwd), BUFFER(energy_of, bwd), BUFFER(energy_of, couplings);
+    BUFFER(energy_of, energy);
+    return 103;
+}
+
+uint8_t tsorvenk_label(size_t n, size_t d, const uint32_t *fwd, size_t fwd_len, const uint8_t *holds, size_t holds_len,
+    uint32_t *labels, size_t labels_len, uint32_t *counts, size_t counts_len, uint32_t *sizes, size_t sizes_len) {
+    NUMBER(label, n), NUMBER(label, d);
+    BUFFER(label, fwd), BUFFER(label, holds), BUFFER(label, labels), BUFFER(label, counts), BUFFER(label, sizes);
+    return 104;
+}
+
+static void call_all(void) {
+    held(tsorvenk_step_with(&step) == 101, "step", "the answer");
+    held(tsorvenk_sweep_with(&sweep) == 102, "sweep", "the answer");
+    held(tsorvenk_energy_with(&energy_of) == 103, "energy", "the answer");
+    held(tsorvenk_label_with(&label) == 104, "label", "the answer");
+}
+
+int main(void) {
+    call_all(); /* everything is left out */
+    step = (struct tsorvenk_step_args){
+        .mode = 1, .form = 2, .n = 3, .d = 4, .s = 5, .temperature = 6, .reference = 7, .seed = 8,
+        .spins = i8, .spins_len = 10, .fwd = u32, .fwd_len = 11, .bwd = u32 + 1, .bwd_len = 12,
+        .couplings = i32, .couplings_len = 13, .group = u32 + 2, .group_len = 14, .cuts = f32, .cuts_len = 15,
+        .flips = u8, .flips_len = 16, .perms = u8 + 1, .perms_len = 17, .greys = u8 + 2, .greys_len = 18,
+        .labels = u32 + 3, .labels_len = 19, .grey_labels = u32 + 4, .grey_labels_len = 20,
+        .counts = u32 + 5, .counts_len = 21, .sizes = u32 + 6, .sizes_len = 22,
+    };
+    sweep = (struct tsorvenk_sweep_args){
+        .mode = 1, .form = 2, .n = 3, .d = 4, .s = 5, .t = 6, .r = 7, .members = 8,
+        .spins = i8, .spins_len = 10, .fwd = u32, .fwd_len = 11, .bwd = u32 + 1, .bwd_len = 12,
+        .couplings = i32, .couplings_len = 13, .order = u32 + 2, .order_len = 14, .masks = u8, .masks_len = 15,
+        .temperatures = f32, .temperatures_len = 16, .cuts = f32 + 1, .cuts_len = 17,
+        .references = u32 + 3, .references_len = 18, .seeds = u32 + 4, .seeds_len = 19,
+        .flips = u8 + 1, .flips_len = 20, .perms = u8 + 2, .perms_len = 21, .greys = u8 + 3, .greys_len = 22,
+        .labels = u32 + 5, .labels_len = 23, .grey_labels = u32 + 6, .grey_labels_len = 24,
+        .counts = u32 + 7, .counts_len = 25, .sizes = u32 + 8, .sizes_len = 26, .tally = u32 + 9, .tally_len = 27,
+    };
+    energy_of = (struct tsorvenk_energy_args){
+        .n = 1, .d = 2, .s = 3, .system = 4,
+        .spins = i8, .spins_len = 10, .fwd = u32, .fwd_len = 11, .bwd = u32 + 1, .bwd_len = 12,
+        .couplings = i32, .couplings_len = 13, .energy = i64, .energy_len = 14,
+    };
+    label = (struct tsorvenk_label_args){
+        .n = 1, .d = 2, .fwd = u32, .fwd_len = 11, .holds = u8, .holds_len = 12,
+        .labels = u32 + 1, .labels_len = 13, .counts = u32 + 2, .counts_len = 14, .sizes = u32 + 3, .sizes_len = 15,
+    };
+    call_all(); /* everything is lent */
+    step.flips = NULL, sweep.seeds = NULL, energy_of.energy = NULL, label.holds = NULL;
+    call_all(); /* null, and a length beside it */
+    printf("room %d\n", TSORVENK_FRAMES_ROOM);
+    for (int number = -1; number <= 256; number++)
+        printf("%d %s\n", number, tsorvenk_refusal_words(number));
+    return 0;
+}
