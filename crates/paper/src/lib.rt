@@ -146,6 +146,19 @@ impl Form {
     }
 }
 
+// The numbers of one move: all that it is handed by value.
+pub struct Task {
+    pub mode: Mode,
+    pub form: Form,
+    pub n: usize,
+    pub d: usize,
+    pub s: usize,
+    pub group: Group,
+    pub temperature: f32,
+    pub reference: usize,
+    pub seed: usize,
+}
+
 // How many elements each buffer has that a move may be lent.
 pub struct Lengths {
     pub spins: usize,

@@ -1,0 +1,25 @@
+-- The paper's call, choices and buffers, made of what a function is handed: the task by value, and the lent slices.
+use Prim.Native.Nat.{ℕ}
+use mathlib.Core.List.{List}
+use lib.IntN.{ℤ}
+use lib.Ieee.{Float}
+use Rattle.paper.specs.declared.Task.{Task}
+use Rattle.paper.specs.Panel.Input.{Call, Choices, Buffers}
+
+abbrev pub callOf : Task → List ℕ → List ℕ → List ℤ → List Float → Call
+callOf t fwd bwd couplings cuts = record {
+  mode = t .mode;
+  form = t .form;
+  lattice = record { n = t .n; d = t .d; s = t .s; fwd = fwd; bwd = bwd; couplings = couplings };
+  group = t .group;
+  temperature = t .temperature;
+  cuts = cuts;
+  reference = t .reference;
+  seed = t .seed;
+}
+
+abbrev pub choicesOf : List ℕ → List ℕ → List ℕ → Choices
+choicesOf flips perms greys = record { flips = flips; perms = perms; greys = greys }
+
+abbrev pub buffersOf : List ℤ → List ℕ → List ℕ → List ℕ → List ℕ → Buffers
+buffersOf spins labels greyLabels counts sizes = record { spins = spins; labels = labels; greyLabels = greyLabels; counts = counts; sizes = sizes }
