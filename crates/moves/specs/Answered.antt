@@ -1,124 +1,214 @@
--- From an accepted call to what the work asks, and from what the work leaves to the call's answer.
-use Prim.Native.Nat.{ℕ}
-use mathlib.Core.Path.{_≡_, refl, sym, _∙_, subst⁻¹}
-use mathlib.Core.Bool.{Bool, true, false, _&&_}
+-- From an accepted call to what the steps ask, and from what they leave to the call's answer.
+use Prim.Native.Nat.{ℕ, _*_, _≤_}
+use mathlib.Core.Path.{_≡_, refl, sym, _∙_}
+use mathlib.Core.Bool.{Bool, true, false, not}
 use mathlib.Core.List.{List}
+use native.Mathlib.Omega.{arith}
+use native.Mathlib.Nat.{mul-le-mul}
+use lib.ListN.{length, take, replicate}
+use lib.Seq.{length-take-le}
 use lib.IntN.{ℤ}
 use lib.Ieee.{Float}
-use Rattle.paper.specs.declared.Group.{Group}
+use Rattle.paper.specs.declared.Task.{Task}
 use Rattle.paper.specs.declared.Mode.{Mode}
 use Rattle.paper.specs.declared.Mode.the-variants.{Houd, Pair, Perm, Gperm, Jorg, Cmr}
-use Rattle.paper.specs.declared.Form.{Form}
-use Rattle.paper.specs.declared.Answer.{Answer}
-use Rattle.paper.specs.declared.Answer.the-variants.{Refused, Idle, Moved}
-use Rattle.paper.specs.Panel.Input.{Call, Choices, Buffers, size}
-use Rattle.paper.specs.Panel.Takes.{isCmr, isSw, moves, flipsBy, greysBy}
+use Rattle.paper.specs.declared.Answer.the-variants.{Idle, Moved}
+use Rattle.paper.specs.Panel.Input.{Call, Choices, Buffers, size, graph}
+use Rattle.paper.specs.Panel.Made.{callOf, buffersOf}
+use Rattle.paper.specs.Panel.Takes.{isCmr, isPerm, moves, permsBy, greysBy}
+use Rattle.paper.specs.Site.Acting.{acts, SomeActs}
+use Rattle.paper.specs.Site.Bonds.{holds}
+use Rattle.paper.specs.Component.Marks.{passed, refused}
+use Rattle.paper.specs.Move.Moving.{final, Moves}
 use Rattle.paper.specs.Refusal.Kept.{Valid, valid-kept}
 use Rattle.paper.specs.Answer.Move.{Answers}
-use Rattle.paper.specs.Law.ByTest.{never}
-use Rattle.moves.specs.Ready.{ready}
-use Rattle.moves.specs.Task.{callOf, buffersOf}
-use Rattle.moves.specs.Work.{LabelGiven, ChoiceGiven, Outputs, WorkDone}
-use Rattle.moves.specs.Cmr.{CmrGiven, GreyChoices, CmrDone}
+use Rattle.paper.specs.Law.ByTest.{never, and-left, and-right}
+use Rattle.paper.specs.Law.Unique.{label-lt}
+use Rattle.moves.specs.Ready.{TestedFor, ready}
+use Rattle.moves.specs.Looked.{none-acts}
+use Rattle.moves.specs.Moved.{Rows, spins-back}
+use Rattle.moves.specs.Steps.{LabelAsks, LabelLeaves, ChooseAsks, ChooseLeaves, WriteAsks, WriteLeaves}
+use Rattle.moves.specs.Held.{grey-labels}
+use Rattle.moves.specs.Choices.{places-of, rows-of, columns-narrow}
+use Rattle.moves.specs.Finish.{no-move, observed, final-spin, final-columns}
 
-pub mode-cmr : (m : Mode) → isCmr m ≡ true → m ≡ Cmr
-mode-cmr Houd e = never e
-mode-cmr Pair e = never e
-mode-cmr Perm e = never e
-mode-cmr Gperm e = never e
-mode-cmr Jorg e = never e
-mode-cmr Cmr e = refl
+-- in CMR every site acts
+acts-cmr : (m : Mode) (c : Call) (xs : List ℤ) → c .mode ≡ m → isCmr m ≡ true → acts c xs 0 ≡ true
+unfolding acts
+acts-cmr Houd c xs q e = never e
+acts-cmr Pair c xs q e = never e
+acts-cmr Perm c xs q e = never e
+acts-cmr Gperm c xs q e = never e
+acts-cmr Jorg c xs q e = never e
+acts-cmr Cmr c xs q e = rw q refl
 
-and-no : (t : Bool) → (t && false) ≡ false
-and-no true = refl
-and-no false = refl
+-- the front of a work array of m zeros
+abbrev pub area : ℕ → ℕ → List ℕ
+area m k = take k (replicate m 0)
 
-module _ (c : Call) (p : Choices) (b : Buffers) (v : Valid c p b) where
-  pub label-given : isCmr (c .mode) ≡ false → LabelGiven (c .mode) (c .lattice .n) (c .lattice .d) (c .lattice .fwd) (c .lattice .couplings) (c .cuts) (c .group) (c .reference) (b .spins)
-  label-given e = record {
-    ready = ready c p b (v .sound);
-    plain = e;
-    reference = v .fit .chosen .reference;
-    coupled = λ q. record { couplings-long = v .sound .exact .couplings q; cuts-long = v .sound .exact .cuts q; small = v .sound .couplings q };
-  }
+module _
+    (t : Task) (fwd bwd : List ℕ) (couplings : List ℤ) (cuts : List Float) (p : Choices) (b : Buffers)
+    (v : Valid (callOf t fwd bwd couplings cuts) p b)
+  where
+    abbrev c : Call
+    c = callOf t fwd bwd couplings cuts
 
-  pub choice-given : ChoiceGiven (c .mode) (c .form) (c .lattice .n) (size c) (c .seed) (p .flips) (p .perms)
-  choice-given = record {
-    seeded = v .fit .seeded .below;
-    flips-long = v .sound .exact .flips;
-    perms-long = v .sound .exact .perms;
-    rows = v .fit .chosen .perms;
-  }
+    tested : TestedFor c (b .spins)
+    tested = ready c p b (v .sound)
 
-  pub outputs-given : Outputs (c .lattice .n) (b .labels) (b .counts) (b .sizes)
-  outputs-given = record { labels-long = v .sound .exact .labels; counts-long = v .sound .exact .counts; sizes-long = v .sound .exact .sizes }
+    pub n-high : t .n ≤ 4096
+    n-high = tested .n-high
 
-  -- every mode but CMR: the grey labels are not lent
-  pub plain-answers : (r : Answer) (l counts sizes : List ℕ) (ys : List ℤ) → isCmr (c .mode) ≡ false → WorkDone c p (b .spins) l counts sizes ys r → Answers c p b r (buffersOf ys l (b .greyLabels) counts sizes)
-  plain-answers (Refused r) l counts sizes ys e w = absurd w
-  plain-answers Idle l counts sizes ys e w = record {
-    valid = valid-kept c p b v;
-    none = w .none;
-    still = w .still;
-    seen = record {
-      labels = w .reports .labelled;
-      grey-labels = λ q. never (sym (rw e (and-no (moves (c .form)))) ∙ q);
-      grey-kept = λ _. refl;
-      counts = w .reports .counted;
-      sizes = w .reports .largest;
-    };
-  }
-  plain-answers Moved l counts sizes ys e w = record {
-    valid = valid-kept c p b v;
-    some = w .some;
-    moved = w .moved (b .greyLabels);
-    seen = record {
-      labels = w .reports .labelled;
-      grey-labels = λ q. never (sym (rw e (and-no (moves (c .form)))) ∙ q);
-      grey-kept = λ _. refl;
-      counts = w .reports .counted;
-      sizes = w .reports .largest;
-    };
-  }
+    pub bonds-high : t .n * t .d ≤ 16384
+    bonds-high = mul-le-mul (tested .n-high) (tested .d-high)
 
-  pub cmr-answers : (l g counts sizes : List ℕ) (ys : List ℤ) → CmrDone c p (b .spins) (b .greyLabels) l g counts sizes ys → Answers c p b Moved (buffersOf ys l g counts sizes)
-  cmr-answers l g counts sizes ys w = record {
-    valid = valid-kept c p b v;
-    some = w .some;
-    moved = w .moved;
-    seen = record { labels = w .reports .labelled; grey-labels = w .grey; grey-kept = w .kept; counts = w .reports .counted; sizes = w .reports .largest };
-  }
+    -- ---- label
+    pub label-asks :
+        LabelAsks t fwd couplings cuts (b .spins) (area 4096 (t .n)) (area 4096 (t .n)) (area 16384 (t .n * t .d)) (area 16384 (t .n * t .d))
+        (area 4096 (t .n)) (b .labels) (b .counts) (b .sizes)
+    label-asks = record {
+      tested = tested;
+      reference = v .fit .chosen .reference;
+      coupled = λ q. record { couplings-long = v .sound .exact .couplings q; cuts-long = v .sound .exact .cuts q; small = v .sound .couplings q };
+      lent = record {
+        cols-long = length-take-le (t .n) _ n-high;
+        flags-long = length-take-le (t .n) _ n-high;
+        holding-long = length-take-le (t .n * t .d) _ bonds-high;
+        grey-long = length-take-le (t .n * t .d) _ bonds-high;
+        tally-long = length-take-le (t .n) _ n-high;
+        labels-long = v .sound .exact .labels;
+        counts-long = v .sound .exact .counts;
+        sizes-long = v .sound .exact .sizes;
+      };
+    }
 
--- a CMR call
-module _ (form : Form) (n d s : ℕ) (fwd bwd : List ℕ) (couplings : List ℤ) (g : Group) (temperature : Float) (cuts : List Float) (reference seed : ℕ) (p : Choices) (b : Buffers) (v : Valid (callOf Cmr form n d s fwd bwd couplings g temperature cuts reference seed) p b) where
-  abbrev call : Call
-  call = callOf Cmr form n d s fwd bwd couplings g temperature cuts reference seed
+    module _ {cols flags grey tally l counts sizes : List ℕ} {r : Bool} (d : LabelLeaves c (b .spins) cols flags grey tally l counts sizes r) where
+      long : length cols ≡ t .n
+      long = d .columns .long
 
-  pub cmr-given : CmrGiven n d fwd couplings cuts g (b .spins)
-  cmr-given = record {
-    ready = ready call p b (v .sound);
-    coupled = record { couplings-long = v .sound .exact .couplings refl; cuts-long = v .sound .exact .cuts refl; small = v .sound .couplings refl };
-  }
+      pub labels-kept : length l ≡ length (b .labels)
+      labels-kept = d .labelled .long ∙ sym (v .sound .exact .labels)
 
-  taken : moves form ≡ true → greysBy Cmr form ≡ true
-  taken e = rw e refl
+      -- ---- choose and write
+      pub choose-asks :
+          moves (t .form) ≡ true
+          → ChooseAsks t fwd (p .flips) (p .perms) (p .greys) flags grey l tally (area 4096 (t .n)) cols (b .greyLabels)
+      choose-asks moving = record {
+        choosable = record {
+          few = omega (arith, long, n-high);
+          flags-long = d .acting .long ∙ sym long;
+          labels-long = d .labelled .long ∙ sym long;
+          reached-long = length-take-le (t .n) _ n-high ∙ sym long;
+          below = λ i h. rw long (label-lt (graph c) (holds c (b .spins)) l (d .labelled) i (rw long at h));
+          tallied = d .tallied;
+          seeded = λ e. rw long (v .fit .seeded .below e);
+          moving = moving;
+          size-low = omega (arith, tested .size-low);
+          size-high = tested .size-high;
+          flips-long = λ e. v .sound .exact .flips e ∙ sym long;
+          perms-long = λ e. rw long (v .sound .exact .perms (permuting e));
+          places = λ e.
+              let q = permuting e in
+              places-of _ (size c) (p .perms) (omega (arith, tested .size-low)) (v .sound .exact .perms q) (v .fit .chosen .perms q);
+          narrow = λ i h. columns-narrow (d .columns) i (rw long at h);
+        };
+        cols-long = long;
+        greyable = λ e. record {
+          d-high = tested .d-high;
+          fwd-long = tested .fwd-long;
+          ahead-lt = tested .ahead-lt;
+          grey-long = d .grey-long;
+          greys-long = v .sound .exact .greys (greying e);
+          small = λ x h. v .fit .chosen .greys (greying e) x (rw (v .sound .exact .greys (greying e)) at h);
+          labels-long = v .sound .exact .grey-labels (greying e);
+          two = tested .two e;
+        };
+      }
+        where
+          permuting : isPerm (t .mode) ≡ true → permsBy (t .mode) (t .form) ≡ true
+          permuting e = rw (moving, e) refl
 
-  flipping : isSw form ≡ true → flipsBy Cmr form ≡ true
-  flipping e = rw e refl
+          greying : isCmr (t .mode) ≡ true → greysBy (t .mode) (t .form) ≡ true
+          greying e = rw (moving, e) refl
 
-  pub grey-choices : GreyChoices form n seed (p .flips) (p .greys) (b .greyLabels)
-  grey-choices = record {
-    seeded = v .fit .seeded .below;
-    flips-long = λ e. v .sound .exact .flips (flipping e);
-    greys-long = λ e. v .sound .exact .greys (taken e);
-    small = λ e x h. v .fit .chosen .greys (taken e) x (rw (v .sound .exact .greys (taken e)) at h);
-    labels-long = λ e. v .sound .exact .grey-labels (taken e);
-  }
+      module _
+          {new greyLabels : List ℕ} (w : ChooseLeaves t fwd (p .flips) (p .perms) (p .greys) flags grey l cols (b .greyLabels) new greyLabels)
+        where
+          pub new-long : length new ≡ t .n
+          new-long = w .columns .long ∙ long
 
-  pub answers-as :
-      (mode : Mode) → mode ≡ Cmr → {l gs counts sizes : List ℕ} {ys : List ℤ}
-      → CmrDone call p (b .spins) (b .greyLabels) l gs counts sizes ys
-      → Answers (callOf mode form n d s fwd bwd couplings g temperature cuts reference seed) p b Moved (buffersOf ys l gs counts sizes)
-  answers-as mode e {l} {gs} {counts} {sizes} {ys} w =
-      subst⁻¹ (λ (m : Mode). Answers (callOf m form n d s fwd bwd couplings g temperature cuts reference seed) p b Moved (buffersOf ys l gs counts sizes)) e
-      (cmr-answers call p b v l gs counts sizes ys w)
+          pub write-asks : WriteAsks t (b .spins) new
+          write-asks = record {
+            n-high = n-high;
+            size-high = tested .size-high;
+            inside = tested .inside;
+            spins = tested .spins;
+            distinct = tested .distinct;
+            reference = v .fit .chosen .reference;
+            cols-long = new-long;
+          }
+
+          -- ---- the answers
+          moved-by : {ys : List ℤ} → moves (t .form) ≡ true → WriteLeaves t new (b .spins) ys → Moves c p (b .spins) l greyLabels ys
+          moved-by {ys} moving o = record {
+            long = o .long;
+            group =
+                spins-back c p (b .spins) l tested (v .fit .chosen .reference) (λ _. rows) (final c p (b .spins) l greyLabels) new ys
+                (λ i k hi hk. final-spin c p (b .spins) l greyLabels tested (v .fit .chosen .reference) (λ _. rows) i k hi hk)
+                (final-columns c p (b .spins) l greyLabels tested (v .fit .chosen .reference) (λ _. rows) moving (d .acting) (d .columns) (w .columns))
+                (o .group);
+            others = o .others;
+          }
+            where
+              rows : Rows c p l
+              rows = rows-of c p (b .spins) l moving (d .labelled) (v .fit .chosen .perms)
+
+          pub moved-answers :
+              {ys : List ℤ} → not r ≡ false → moves (t .form) ≡ true → WriteLeaves t new (b .spins) ys
+              → Answers c p b Moved (buffersOf ys l greyLabels counts sizes)
+          moved-answers e moving o = record {
+            valid = valid-kept c p b v;
+            some = passed r e (d .some);
+            moved = moved-by moving o;
+            seen = record {
+              labels = d .labelled;
+              grey-labels = λ q.
+                  let cmr = and-right (moves (t .form)) (isCmr (t .mode)) q in
+                  grey-labels c (b .spins) grey greyLabels (d .grey-held cmr) (w .grey-labels cmr);
+              grey-kept = λ q. w .grey-kept (rw moving at q);
+              counts = d .counted;
+              sizes = d .largest;
+            };
+          }
+
+      pub observe-answers :
+          not r ≡ false → moves (t .form) ≡ false → Answers c p b Moved (buffersOf (b .spins) l (b .greyLabels) counts sizes)
+      observe-answers e resting = record {
+        valid = valid-kept c p b v;
+        some = passed r e (d .some);
+        moved = observed c p (b .spins) l (b .greyLabels) (no-move (t .form) resting);
+        seen = record {
+          labels = d .labelled;
+          grey-labels = λ q. never (sym resting ∙ and-left (moves (t .form)) (isCmr (t .mode)) q);
+          grey-kept = λ _. refl;
+          counts = d .counted;
+          sizes = d .largest;
+        };
+      }
+
+      pub idle-answers : not r ≡ true → Answers c p b Idle (buffersOf (b .spins) l (b .greyLabels) counts sizes)
+      idle-answers e = record {
+        valid = valid-kept c p b v;
+        none = none-acts c (b .spins) (refused r e (d .some));
+        still = refl;
+        seen = record {
+          labels = d .labelled;
+          grey-labels = λ q. absurd (refused r e (d .some) (one-acts (and-right (moves (t .form)) (isCmr (t .mode)) q)));
+          grey-kept = λ _. refl;
+          counts = d .counted;
+          sizes = d .largest;
+        };
+      }
+        where
+          one-acts : isCmr (t .mode) ≡ true → SomeActs c (b .spins)
+          one-acts q = record { site = 0; below = tested .n-low; does = acts-cmr (t .mode) c (b .spins) refl q }

@@ -1,31 +1,32 @@
 -- What accepted choices tell the choosing functions.
 use Prim.Native.Nat.{ℕ, _+_, _*_, _/_, _%_, _^_, _<_}
-use mathlib.Core.Path.{_≡_, refl, _∙_, ap}
-use mathlib.Core.Bool.{Bool, true, cond, _&&_}
+use mathlib.Core.Path.{_≡_, refl, ap}
+use mathlib.Core.Bool.{Bool, true, _&&_}
 use mathlib.Core.List.{List}
 use native.Mathlib.Nat.{div-add-mod', mod-lt, div-lt-iff-lt-mul}
 use lib.ListN.{length, getD}
 use lib.IntN.{ℤ}
-use Rattle.paper.specs.Panel.Input.{Call, Choices, Pattern, pattern, size, graph}
-use Rattle.paper.specs.Panel.Takes.{isGperm, moves, entries, entry, permsBy}
-use Rattle.paper.specs.Site.Acting.{gauge, acts}
+use Rattle.paper.specs.Panel.Input.{Call, Choices, Pattern, size, graph}
+use Rattle.paper.specs.Panel.Takes.{moves, entries, entry, permsBy}
+use Rattle.paper.specs.Site.Acting.{acts}
 use Rattle.paper.specs.Site.Bonds.{holds}
 use Rattle.paper.specs.Component.Labels.{Labels}
 use Rattle.paper.specs.Component.Sizes.{labelOf}
 use Rattle.paper.specs.Component.Marks.{Flags}
-use Rattle.paper.specs.Move.Moving.{reached, reachedBy, after}
+use Rattle.paper.specs.Move.Moving.{reached, reachedBy}
 use Rattle.paper.specs.Refusal.Rules.{Permutes}
 use Rattle.paper.specs.Law.Unique.{label-lt}
 use Rattle.paper.specs.Demand3.Step.{entry-lt}
 use Rattle.columns.specs.Column.{Columns, column-lt}
-use Rattle.choose.specs.Chosen.{Becomes, reachedAt}
-use Rattle.moves.specs.Ready.{ReadyFor}
-use Rattle.moves.specs.Looked.{seenAt, flag-at}
-use Rattle.moves.specs.Moved.{Rows, choiceColumn, chosen-columns}
-use Rattle.moves.specs.Task.{chosenAt}
+use Rattle.choose.specs.Chosen.{reachedAt}
+use Rattle.moves.specs.Looked.{flag-at}
+use Rattle.moves.specs.Moved.{Rows}
 
 -- rows of m places, each a permutation: every entry names a place
-pub places-of : (rows m : ℕ) (perms : List ℕ) → 0 < m → length perms ≡ rows * m → ((r : ℕ) → r < rows → Permutes m (λ k. getD perms (r * m + k) 0)) → (x : ℕ) → x < length perms → getD perms x 0 < m
+pub places-of :
+    (rows m : ℕ) (perms : List ℕ) → 0 < m → length perms ≡ rows * m
+    → ((r : ℕ) → r < rows → Permutes m (λ k. getD perms (r * m + k) 0))
+    → (x : ℕ) → x < length perms → getD perms x 0 < m
 places-of rows m perms some long each x h =
     rw (← div-add-mod' x m) (each (x / m) (div-lt-iff-lt-mul some .1 (rw long at h)) .within (x % m) (mod-lt x some))
 
@@ -42,30 +43,8 @@ pub reached-is :
     (c : Call) (xs : List ℤ) (l flags : List ℕ) → Flags (c .lattice .n) (acts c xs) flags
     → (i : ℕ) → i < c .lattice .n → reachedAt (c .form) (c .mode) (c .seed) flags l i ≡ reached c xs l i
 unfolding reached
-reached-is c xs l flags h i hi = ap (λ (t : Bool). t && reachedBy (c .form) (c .mode) (c .seed) l i) (flag-at (c .lattice .n) (acts c xs) flags h i hi)
-
--- and so are the new columns
-pub becomes-at :
-    (c : Call) (p : Choices) (xs : List ℤ) (l flags cols new : List ℕ) → Flags (c .lattice .n) (acts c xs) flags → length cols ≡ c .lattice .n
-    → Becomes (chosenAt (c .mode) (c .form) (size c) (c .seed) flags l (p .flips) (p .perms) cols) cols new
-    → (i : ℕ) → i < c .lattice .n
-    → getD new i 0 ≡ cond (reached c xs l i) (choiceColumn (c .mode) (c .form) (size c) (p .flips) (p .perms) (labelOf l i) (getD cols i 0)) (getD cols i 0)
-becomes-at c p xs l flags cols new h long b i hi =
-    b .at i (rw long hi)
-    ∙ ap (λ (t : Bool). cond t (choiceColumn (c .mode) (c .form) (size c) (p .flips) (p .perms) (labelOf l i) (getD cols i 0)) (getD cols i 0)) (reached-is c xs l flags h i hi)
+reached-is c xs l flags h i hi =
+    ap (λ (t : Bool). t && reachedBy (c .form) (c .mode) (c .seed) l i) (flag-at (c .lattice .n) (acts c xs) flags h i hi)
 
 pub columns-narrow : {n m : ℕ} {f : ℕ → Pattern} {cols : List ℕ} → Columns n m f cols → (i : ℕ) → i < n → getD cols i 0 < 2 ^ m
 columns-narrow {n} {m} {f} {cols} h i l = rw (h .at i l) (column-lt m (f i))
-
--- from the columns that were seen to those of the patterns after the move
-pub chosen-by :
-    (c : Call) (p : Choices) (xs : List ℤ) (l : List ℕ) {flags cols new : List ℕ}
-    → ReadyFor c xs
-    → (isGperm (c .mode) ≡ true → c .reference < c .lattice .n)
-    → Rows c p l
-    → Flags (c .lattice .n) (acts c xs) flags
-    → Columns (c .lattice .n) (size c) (seenAt c xs) cols
-    → Becomes (chosenAt (c .mode) (c .form) (size c) (c .seed) flags l (p .flips) (p .perms) cols) cols new
-    → Columns (c .lattice .n) (size c) (λ i. gauge (c .mode) (pattern c xs (c .reference)) (after c p xs l i)) new
-chosen-by c p xs l {flags} {cols} {new} r reference rows acting columns b =
-    chosen-columns c p xs l r reference (λ _. rows) cols new columns (b .long ∙ columns .long) (becomes-at c p xs l flags cols new acting (columns .long) b)

@@ -1,13 +1,11 @@
 pub mod Ready
 pub mod Looked
 pub mod Moved
-pub mod Finish
+pub mod Steps
 pub mod Task
-pub mod Choosing
 pub mod Held
-pub mod Work
+pub mod Choosing
 pub mod Choices
-pub mod Cmr
-pub mod CmrLaws
+pub mod Finish
 pub mod Answered
 pub mod Determined

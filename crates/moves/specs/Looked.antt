@@ -54,7 +54,9 @@ module _ (mode : Mode) (n : ℕ) (g : Group) (q : ℕ) (xs : List ℤ) (spins : 
   seen-spin i k hi hk = gauge-spin mode (patternOf n g xs q) (patternOf n g xs i) k (λ e. spins q k (reference e) hk) (spins i k hi hk)
 
 -- the same flags are those of the call's acting sites
-pub acts-flags : (c : Call) (xs : List ℤ) (flags : List ℕ) → Flags (c .lattice .n) (λ i. testBy (c .mode) (size c) (seenAt c xs i)) flags → Flags (c .lattice .n) (acts c xs) flags
+pub acts-flags :
+    (c : Call) (xs : List ℤ) (flags : List ℕ)
+    → Flags (c .lattice .n) (λ i. testBy (c .mode) (size c) (seenAt c xs i)) flags → Flags (c .lattice .n) (acts c xs) flags
 unfolding acts
 acts-flags c xs flags h = record { long = h .long; at = h .at }
 
@@ -67,7 +69,9 @@ unfolding acts
 some-acts c xs s = record { site = s .site; below = s .below; does = s .does }
 
 -- what a test tells of the sites' patterns it tells of the call's acting sites
-pub acts-tells : (c : Call) (xs : List ℤ) (r : Bool) → Tells r (SomeSite (c .lattice .n) (λ i. testBy (c .mode) (size c) (seenAt c xs i))) → Tells r (SomeActs c xs)
+pub acts-tells :
+    (c : Call) (xs : List ℤ) (r : Bool)
+    → Tells r (SomeSite (c .lattice .n) (λ i. testBy (c .mode) (size c) (seenAt c xs i))) → Tells r (SomeActs c xs)
 acts-tells c xs true h = some-acts c xs h
 acts-tells c xs false h = λ s. h (some-site c xs s)
 

@@ -16,7 +16,7 @@ use Rattle.paper.specs.Refusal.Kept.{Sound}
 use Rattle.columns.specs.Column.{Inside, Spinning}
 
 -- the parts of tests 1 to 5 that the steps lean on
-pub record Ready (mode : Mode) (n d : ℕ) (fwd : List ℕ) (g : Group) (xs : List ℤ) : Type 0 where
+pub record Tested (mode : Mode) (n d : ℕ) (fwd : List ℕ) (g : Group) (xs : List ℤ) : Type 0 where
   pub n-low : 1 ≤ n
   pub n-high : n ≤ 4096
   pub d-low : 1 ≤ d
@@ -30,8 +30,8 @@ pub record Ready (mode : Mode) (n d : ℕ) (fwd : List ℕ) (g : Group) (xs : Li
   pub spins : Spinning n g xs
   pub distinct : Distinct (g .len) (member g)
 
-abbrev pub ReadyFor : Call → List ℤ → Type 0
-ReadyFor c xs = Ready (c .mode) (c .lattice .n) (c .lattice .d) (c .lattice .fwd) (c .group) xs
+abbrev pub TestedFor : Call → List ℤ → Type 0
+TestedFor c xs = Tested (c .mode) (c .lattice .n) (c .lattice .d) (c .lattice .fwd) (c .group) xs
 
 module _ (c : Call) (p : Choices) (b : Buffers) (s : Sound c p b) where
   row-inside : Inside (c .lattice .n) (c .group) (b .spins)
@@ -40,7 +40,7 @@ module _ (c : Call) (p : Choices) (b : Buffers) (s : Sound c p b) where
       below : suc (system c k) ≤ c .lattice .s
       below = s .grouped .below k h
 
-  pub ready : ReadyFor c (b .spins)
+  pub ready : TestedFor c (b .spins)
   ready = record {
     n-low = s .ranged .lattice .n-low;
     n-high = s .ranged .lattice .n-high;

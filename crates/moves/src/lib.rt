@@ -1,53 +1,29 @@
 // The work of one task, once its input is tested: label, choose, write.
-mod cmr;
-mod plain;
-
-use cmr::run_cmr;
 use paper::Answer;
 use paper::Form;
 use paper::Group;
 use paper::Mode;
 use paper::Sampler;
-use plain::run_plain;
-ghost use Rattle.paper.specs.Site.Bonds.{samplerOf};
+use paper::Task;
+ghost use Prim.Native.Nat.{ℕ};
+ghost use mathlib.Core.List.{List};
+ghost use Rattle.paper.specs.Panel.Made.{callOf, choicesOf, buffersOf};
 ghost use Rattle.paper.specs.Refusal.Kept.{Valid};
 ghost use Rattle.paper.specs.Answer.Move.{Answers};
-ghost use Rattle.paper.specs.Component.Marks.{Marks};
 ghost use Rattle.choose.specs.Chosen.{Becomes};
-ghost use Rattle.moves.specs.Held.{heldAt};
-ghost use Rattle.moves.specs.Task.{Seeable, Sights, Choosable, chosenAt, Holdable, RowsGiven, WroteBack, callOf, choicesOf, buffersOf};
-
-// Writes each site's new column from the choices of its component.
-fn choose_columns(
-    mode: Mode,
-    form: Form,
-    group: Group,
-    seed: usize,
-    acts: &[u8],
-    labels: &[u32],
-    tally: &[u32],
-    flips: &[u8],
-    perms: &[u8],
-    reached: &mut [u8],
-    cols: &mut [u8],
-)
-    requires { ⌜ Choosable mode form (group .len) seed (now acts) (now labels) (now tally) (now flips) (now perms) (now reached) (now cols) ⌝ }
-    ensures { λ _. ⌜ Becomes (chosenAt mode form (group .len) seed (now (acts .entry)) (now (labels .entry)) (now (flips .entry)) (now (perms .entry)) (now (cols .entry))) (now (cols .entry)) (now (cols .exit)) ⌝ }
-{
-    choose::reach(mode, form, seed, acts, labels, tally, reached);
-    if mode.is_perm() {
-        choose::permute_columns(form, group, reached, labels, perms, cols);
-    } else {
-        choose::flip_columns(
-            form,
-            reached,
-            labels,
-            flips,
-            rules::flip_table(mode, group),
-            cols,
-        );
-    }
-}
+ghost use Rattle.moves.specs.Task.{Seeable, Sights};
+ghost use Rattle.moves.specs.Steps.{
+  HoldAsks,
+  HoldLeaves,
+  LabelAsks,
+  LabelLeaves,
+  Choosable,
+  chosenAt,
+  ChooseAsks,
+  ChooseLeaves,
+  WriteAsks,
+  WriteLeaves,
+};
 
 // The group's columns, and which sites act. True where some site does.
 pub fn look(
@@ -67,69 +43,174 @@ pub fn look(
     rules::mark_active(rules::acts_table(mode, group), cols, acts)
 }
 
-// The table of holding bonds, in every mode but CMR.
+// The table of holding bonds. CMR has two: these are its blue ones, and grey the table of its grey ones.
 fn hold(
-    mode: Mode,
-    n: usize,
-    d: usize,
+    t: Task,
     fwd: &[u32],
     couplings: &[i32],
-    group: Group,
-    temperature: f32,
     cuts: &[f32],
     acts: &[u8],
     cols: &[u8],
     holds: &mut [u8],
+    grey: &mut [u8],
 )
-    requires { ⌜ Holdable mode n d (now fwd) (now couplings) (now cuts) (group .len) (now acts) (now cols) (now holds) ⌝ }
-    ensures { λ _. ⌜ Marks n d
-        (heldAt mode d (now (fwd .entry)) (now (couplings .entry)) (now (cuts .entry)) (group .len) (samplerOf temperature) (now (acts .entry)) (now (cols .entry)))
-        (now (holds .exit)) ⌝ }
+    requires { ⌜ HoldAsks t (now fwd) (now couplings) (now cuts) (now acts) (now cols) (now holds) (now grey) ⌝ }
+    ensures { λ _. ⌜ HoldLeaves t (now (fwd .entry)) (now (couplings .entry)) (now (cuts .entry)) (now (acts .entry)) (now (cols .entry))
+        (now (holds .exit)) (now (grey .exit)) ⌝ }
 {
-    if mode.is_drawn() {
-        let sampler = Sampler::new(temperature);
-        bonds::jorg_bonds(
-            n,
-            d,
-            fwd,
-            couplings,
-            cuts,
-            group,
-            sampler,
-            acts,
-            cols,
-            holds,
-        );
+    let mode = t.mode;
+    let sampler = Sampler::new(t.temperature);
+    if mode.is_cmr() {
+        bonds::cmr_bonds(t.n, t.d, fwd, couplings, cuts, sampler, cols, holds, grey);
     } else {
-        bonds::active_bonds(n, d, fwd, acts, holds);
+        if mode.is_drawn() {
+            let group = t.group;
+            bonds::jorg_bonds(
+                t.n,
+                t.d,
+                fwd,
+                couplings,
+                cuts,
+                group,
+                sampler,
+                acts,
+                cols,
+                holds,
+            );
+        } else {
+            bonds::active_bonds(t.n, t.d, fwd, acts, holds);
+        }
+    }
+}
+
+// Labels the components of the group's bonds. True where some site acts.
+fn label_task(
+    t: Task,
+    spins: &[i8],
+    fwd: &[u32],
+    couplings: &[i32],
+    cuts: &[f32],
+    cols: &mut [u8],
+    acts: &mut [u8],
+    holds: &mut [u8],
+    grey: &mut [u8],
+    tally: &mut [u32],
+    labels: &mut [u32],
+    counts: &mut [u32],
+    sizes: &mut [u32],
+) -> bool
+    requires { ⌜ LabelAsks t (now fwd) (now couplings) (now cuts) (now spins)
+        (now cols) (now acts) (now holds) (now grey) (now tally) (now labels) (now counts) (now sizes) ⌝ }
+    ensures { λ r. ⌜ ((bwd : List ℕ) → LabelLeaves
+        (callOf t (now (fwd .entry)) bwd (now (couplings .entry)) (now (cuts .entry))) (now (spins .entry))
+        (now (cols .exit)) (now (acts .exit)) (now (grey .exit)) (now (tally .exit)) (now (labels .exit)) (now (counts .exit)) (now (sizes .exit)) r) ⌝ }
+{
+    let mode = t.mode;
+    let group = t.group;
+    let some = look(mode, t.n, spins, group, t.reference, cols, acts);
+    hold(t, fwd, couplings, cuts, acts, cols, holds, grey);
+    label::label(t.n, t.d, fwd, holds, labels, tally);
+    label::count(labels, tally, counts, sizes);
+    some
+}
+
+// Writes each site's new column from the choices of its component. In CMR these are the blue flips.
+fn choose_columns(
+    mode: Mode,
+    form: Form,
+    group: Group,
+    seed: usize,
+    acts: &[u8],
+    labels: &[u32],
+    tally: &[u32],
+    flips: &[u8],
+    perms: &[u8],
+    reached: &mut [u8],
+    cols: &mut [u8],
+)
+    requires { ⌜ Choosable mode form (group .len) seed (now acts) (now labels) (now tally) (now flips) (now perms) (now reached) (now cols) ⌝ }
+    ensures { λ _. ⌜ Becomes
+        (chosenAt mode form (group .len) seed (now (acts .entry)) (now (labels .entry)) (now (flips .entry)) (now (perms .entry)) (now (cols .entry)))
+        (now (cols .entry)) (now (cols .exit)) ⌝ }
+{
+    choose::reach(mode, form, seed, acts, labels, tally, reached);
+    if mode.is_perm() {
+        choose::permute_columns(form, group, reached, labels, perms, cols);
+    } else {
+        choose::flip_columns(
+            form,
+            reached,
+            labels,
+            flips,
+            rules::flip_table(mode, group),
+            cols,
+        );
+    }
+}
+
+// The new column of every site; in CMR the blue flips, then grey labels and the grey numbers of their components. No row is written.
+fn choose_task(
+    t: Task,
+    fwd: &[u32],
+    flips: &[u8],
+    perms: &[u8],
+    greys: &[u8],
+    acts: &[u8],
+    grey: &[u8],
+    labels: &[u32],
+    tally: &mut [u32],
+    reached: &mut [u8],
+    cols: &mut [u8],
+    grey_labels: &mut [u32],
+)
+    requires { ⌜ ChooseAsks t (now fwd) (now flips) (now perms) (now greys) (now acts) (now grey) (now labels) (now tally) (now reached) (now cols)
+        (now «grey_labels») ⌝ }
+    ensures { λ _. ⌜ ChooseLeaves t (now (fwd .entry)) (now (flips .entry)) (now (perms .entry)) (now (greys .entry))
+        (now (acts .entry)) (now (grey .entry)) (now (labels .entry)) (now (cols .entry)) (now («grey_labels» .entry))
+        (now (cols .exit)) (now («grey_labels» .exit)) ⌝ }
+{
+    let mode = t.mode;
+    let form = t.form;
+    let group = t.group;
+    choose_columns(
+        mode,
+        form,
+        group,
+        t.seed,
+        acts,
+        labels,
+        tally,
+        flips,
+        perms,
+        reached,
+        cols,
+    );
+    if mode.is_cmr() {
+        label::label(t.n, t.d, fwd, grey, grey_labels, tally);
+        choose::reach(mode, form, t.seed, acts, grey_labels, tally, reached);
+        choose::grey_columns(form, reached, grey_labels, greys, cols);
     }
 }
 
 // The rows of the group from its columns. The signs are still those of before the move.
-fn write_task(mode: Mode, n: usize, spins: &mut [i8], group: Group, reference: usize, cols: &[u8])
-    requires { ⌜ RowsGiven mode n group reference (now spins) (now cols) ⌝ }
-    ensures { λ _. ⌜ WroteBack mode n group reference (now (cols .entry)) (now (spins .entry)) (now (spins .exit)) ⌝ }
+fn write_task(t: Task, spins: &mut [i8], cols: &[u8])
+    requires { ⌜ WriteAsks t (now spins) (now cols) ⌝ }
+    ensures { λ _. ⌜ WriteLeaves t (now (cols .entry)) (now (spins .entry)) (now (spins .exit)) ⌝ }
 {
-    let signs = columns::signs(mode, spins, n, group, reference);
-    columns::write_rows(spins, n, group, signs, cols);
+    let mode = t.mode;
+    let group = t.group;
+    let signs = columns::signs(mode, spins, t.n, group, t.reference);
+    columns::write_rows(spins, t.n, group, signs, cols);
 }
 
-// One task whose input is tested: labels, counts, sizes and spins as the paper has them.
+// One task whose input is tested: labels, counts, sizes and spins as the paper has them. The work arrays are this call's own.
 pub fn run_task(
-    mode: Mode,
-    form: Form,
-    n: usize,
-    d: usize,
-    s: usize,
+    t: Task,
     spins: &mut [i8],
     fwd: &[u32],
     bwd: &[u32],
     couplings: &[i32],
-    group: Group,
-    temperature: f32,
     cuts: &[f32],
-    reference: usize,
-    seed: usize,
     flips: &[u8],
     perms: &[u8],
     greys: &[u8],
@@ -139,54 +220,65 @@ pub fn run_task(
     sizes: &mut [u32],
 ) -> Answer
     requires { ⌜ Valid
-        (callOf mode form n d s (now fwd) (now bwd) (now couplings) group temperature (now cuts) reference seed)
+        (callOf t (now fwd) (now bwd) (now couplings) (now cuts))
         (choicesOf (now flips) (now perms) (now greys))
         (buffersOf (now spins) (now labels) (now «grey_labels») (now counts) (now sizes)) ⌝ }
     ensures { λ r. ⌜ Answers
-        (callOf mode form n d s (now (fwd .entry)) (now (bwd .entry)) (now (couplings .entry)) group temperature (now (cuts .entry)) reference seed)
+        (callOf t (now (fwd .entry)) (now (bwd .entry)) (now (couplings .entry)) (now (cuts .entry)))
         (choicesOf (now (flips .entry)) (now (perms .entry)) (now (greys .entry)))
         (buffersOf (now (spins .entry)) (now (labels .entry)) (now («grey_labels» .entry)) (now (counts .entry)) (now (sizes .entry)))
         r
         (buffersOf (now (spins .exit)) (now (labels .exit)) (now («grey_labels» .exit)) (now (counts .exit)) (now (sizes .exit))) ⌝ }
 {
-    if mode.is_cmr() {
-        run_cmr(
-            form,
-            n,
-            d,
-            spins,
-            fwd,
-            couplings,
-            group,
-            temperature,
-            cuts,
-            seed,
-            flips,
-            greys,
-            labels,
-            grey_labels,
-            counts,
-            sizes,
-        );
-        return Answer::Moved;
-    }
-    run_plain(
-        mode,
-        form,
-        n,
-        d,
+    let n = t.n;
+    let bonds = n * t.d;
+    let mut cols_area = [0u8; 4096];
+    let mut acts_area = [0u8; 4096];
+    let mut holds_area = [0u8; 16384];
+    let mut grey_area = [0u8; 16384];
+    let mut tally_area = [0u32; 4096];
+    let cols = &mut cols_area[..n];
+    let acts = &mut acts_area[..n];
+    let holds = &mut holds_area[..bonds];
+    let grey = &mut grey_area[..bonds];
+    let tally = &mut tally_area[..n];
+    let some = label_task(
+        t,
         spins,
         fwd,
         couplings,
-        group,
-        temperature,
         cuts,
-        reference,
-        seed,
-        flips,
-        perms,
+        cols,
+        acts,
+        holds,
+        grey,
+        tally,
         labels,
         counts,
         sizes,
-    )
+    );
+    if !some {
+        return Answer::Idle;
+    }
+    let form = t.form;
+    if form.moves() {
+        let mut reached = [0u8; 4096];
+        choose_task(
+            t,
+            fwd,
+            flips,
+            perms,
+            greys,
+            acts,
+            grey,
+            labels,
+            tally,
+            &mut reached[..n],
+            cols,
+            grey_labels,
+        );
+        write_task(t, spins, cols);
+        return Answer::Moved;
+    }
+    Answer::Moved
 }

@@ -77,7 +77,10 @@ returns c =
     let p = S (r .before) .pre in
     record {
       long = b .long;
-      at = λ i l. b .at i l ∙ by-perms (a .mode) (a .form) (a .group .len) (a .seed) (length (now (a .acts))) (now (a .acts)) (now (a .labels)) (now (a .flips)) (now (a .perms)) _ (now (a .cols)) (r .reach .ensures) (perm-yes then) i (rw (p .flags-long) l);
+      at = λ i l.
+          b .at i l
+          ∙ by-perms (a .mode) (a .form) (a .group .len) (a .seed) (length (now (a .acts))) (now (a .acts)) (now (a .labels)) (now (a .flips))
+          (now (a .perms)) _ (now (a .cols)) (r .reach .ensures) (perm-yes then) i (rw (p .flags-long) l);
     }
 
 same-length-3 : tie.Need-same-length-3
@@ -96,7 +99,10 @@ returns-2 c =
     let p = S (r .before) .pre in
     record {
       long = b .long;
-      at = λ i l. b .at i l ∙ by-flips (a .mode) (a .form) (a .group .len) (a .seed) (length (now (a .acts))) (now (a .acts)) (now (a .labels)) (now (a .flips)) (now (a .perms)) _ (now (a .cols)) (r .reach .ensures) _ (perm-no other) (table .flip-table .ensures) i (rw (p .flags-long) l) (p .narrow i l);
+      at = λ i l.
+          b .at i l
+          ∙ by-flips (a .mode) (a .form) (a .group .len) (a .seed) (length (now (a .acts))) (now (a .acts)) (now (a .labels)) (now (a .flips))
+          (now (a .perms)) _ (now (a .cols)) (r .reach .ensures) _ (perm-no other) (table .flip-table .ensures) i (rw (p .flags-long) l) (p .narrow i l);
     }
 
 pub choose-columns-spec : {M : Type 1} → statement M

@@ -1,57 +1,100 @@
 use borrow.Author.Needs.{needs}
-use mathlib.Core.Path.{sym, _∙_}
-use denote.Ref.{now}
-use Rattle.paper.specs.Site.Bonds.{samplerOf}
-use Rattle.moves.specs.Held.{drawn-marks, plain-marks}
+use mathlib.Core.Path.{_≡_, sym, _∙_}
+use mathlib.Core.Bool.{true, false}
+use Rattle.paper.specs.Panel.Takes.{isCmr, isDrawn}
+use Rattle.moves.specs.Held.{cmr-drawn, cmr-leaves, drawn-leaves, plain-leaves}
 use Rattle.moves.proofs.hold.Statement.{statement}
 use Rattle.moves.proofs.hold.Tie as tie
 
-is-drawn-requires : tie.Need-is-drawn-requires
-is-drawn-requires c κs = search needs
+abbrev S : tie.After-is-cmr → tie.Start
+S k = k .before .before .before .before .before .before .before .before
+
+cmr-yes : (m : tie.Then1) → isCmr (S (m .before) .args .t .mode) ≡ true
+cmr-yes m = sym (m .before .is-cmr .ensures) ∙ m .if1 .taken
+
+cmr-no : (m : tie.Else1) → isCmr (S (m .before) .args .t .mode) ≡ false
+cmr-no m = sym (m .before .is-cmr .ensures) ∙ m .if1 .left
+
+drawn-yes : (m : tie.Then2) → isDrawn (S (m .before .before .before) .args .t .mode) ≡ true
+drawn-yes m = sym (m .before .is-drawn .ensures) ∙ m .if2 .taken
+
+drawn-no : (m : tie.Else2) → isDrawn (S (m .before .before .before) .args .t .mode) ≡ false
+drawn-no m = sym (m .before .is-drawn .ensures) ∙ m .if2 .left
 
 new-requires : tie.Need-new-requires
 new-requires c κs = search needs
 
+is-cmr-requires : tie.Need-is-cmr-requires
+is-cmr-requires c κs = search needs
+
+cmr-bonds-requires : tie.Need-cmr-bonds-requires
+cmr-bonds-requires c κs =
+    let m = c .before .before in
+    let s = S (m .before) in
+    let p = s .pre in
+    record {
+      forward = p .active .forward;
+      coupled = p .coupled (cmr-drawn (s .args .t .mode) (cmr-yes m));
+      cols-long = p .cols-long;
+      blue-long = p .active .holds-long;
+      grey-long = p .grey-long;
+    }
+
+is-drawn-requires : tie.Need-is-drawn-requires
+is-drawn-requires c κs = search needs
+
 jorg-bonds-requires : tie.Need-jorg-bonds-requires
 jorg-bonds-requires c κs =
-    let then = c .before .before in
-    let p = then .before .before .before .before .before .before .before .pre in
-    record { active = p .active; coupled = p .coupled (sym (then .before .is-drawn .ensures) ∙ then .if1 .taken); size-low = p .size-low; size-high = p .size-high; cols-long = p .cols-long }
+    let m = c .before .before in
+    let p = S (m .before .before .before) .pre in
+    record { active = p .active; coupled = p .coupled (drawn-yes m); size-low = p .size-low; size-high = p .size-high; cols-long = p .cols-long }
 
 active-bonds-requires : tie.Need-active-bonds-requires
-active-bonds-requires c κs = search needs
+active-bonds-requires c κs = S (c .before .before .before .before) .pre .active
 
 same-length : tie.Need-same-length
 same-length c = search needs
 
-returns : tie.Need-returns
-returns c =
-    let then = c .before .before .before .before .before in
-    let e = sym (then .before .is-drawn .ensures) ∙ then .if1 .taken in
-    let a = then .before .before .before .before .before .before .before .args in
-    drawn-marks (a .mode) (a .n) (a .d) (now (a .fwd)) (now (a .couplings)) (now (a .cuts)) (a .group .len) (samplerOf (a .temperature)) (now (a .acts)) (now (a .cols)) _ e
-    (rw (c .before .before .before .before .new .ensures) at (c .before .before .jorg-bonds .ensures))
-
 same-length-2 : tie.Need-same-length-2
 same-length-2 c = search needs
 
+returns : tie.Need-returns
+returns c =
+    let m = c .before .before .before .before .before .before .before in
+    cmr-leaves (m .before .before .new .ensures) (cmr-yes m) (c .before .before .before .before .cmr-bonds .ensures)
+
+same-length-3 : tie.Need-same-length-3
+same-length-3 c = search needs
+
 returns-2 : tie.Need-returns-2
 returns-2 c =
-    let other = c .before .before .before .before in
-    let e = sym (other .before .is-drawn .ensures) ∙ other .if1 .left in
-    let a = other .before .before .before .before .before .before .before .args in
-    plain-marks (a .mode) (a .n) (a .d) (now (a .fwd)) (now (a .couplings)) (now (a .cuts)) (a .group .len) (samplerOf (a .temperature)) (now (a .acts)) (now (a .cols)) _ e
-    (c .before .before .active-bonds .ensures)
+    let m = c .before .before .before .before .before in
+    let e = m .before .before in
+    drawn-leaves (e .before .before .new .ensures) (cmr-no e) (drawn-yes m) (S (e .before) .pre .grey-long) (c .before .before .jorg-bonds .ensures)
+
+same-length-4 : tie.Need-same-length-4
+same-length-4 c = search needs
+
+returns-3 : tie.Need-returns-3
+returns-3 c =
+    let m = c .before .before .before .before in
+    let e = m .before .before in
+    plain-leaves (cmr-no e) (drawn-no m) (S (e .before) .pre .grey-long) (c .before .before .active-bonds .ensures)
 
 pub hold-spec : {M : Type 1} → statement M
 hold-spec =
     tie.close
     (tie.spec
-    is-drawn-requires
     new-requires
+    is-cmr-requires
+    cmr-bonds-requires
+    is-drawn-requires
     jorg-bonds-requires
     active-bonds-requires
     same-length
-    returns
     same-length-2
-    returns-2)
+    returns
+    same-length-3
+    returns-2
+    same-length-4
+    returns-3)

@@ -1,24 +1,26 @@
 use borrow.Author.Needs.{needs}
-use mathlib.Core.Path.{_≡_, sym, _∙_, subst}
+use Prim.Native.Nat.{_*_, _≤_}
+use mathlib.Core.Path.{_≡_, sym, _∙_}
 use mathlib.Core.Bool.{true, false}
+use native.Mathlib.Omega.{arith}
 use denote.Ref.{now}
-use Rattle.paper.specs.declared.Mode.{Mode}
-use Rattle.paper.specs.declared.Mode.the-variants.{Cmr}
-use Rattle.paper.specs.Panel.Input.{Call, Choices, Buffers}
-use Rattle.paper.specs.Panel.Takes.{isCmr}
-use Rattle.paper.specs.Refusal.Kept.{Valid}
-use Rattle.moves.specs.Task.{callOf, choicesOf, buffersOf}
-use Rattle.moves.specs.Answered.{mode-cmr, label-given, choice-given, outputs-given, plain-answers, cmr-given, grey-choices, answers-as}
+use lib.Seq.{length-take-le}
+use Rattle.paper.specs.Panel.Input.{Choices, Buffers}
+use Rattle.paper.specs.Panel.Made.{choicesOf, buffersOf}
+use Rattle.paper.specs.Panel.Takes.{moves}
+use Rattle.moves.specs.Answered as answered
 use Rattle.moves.proofs.run_task.Statement.{statement}
 use Rattle.moves.proofs.run_task.Tie as tie
 
-abbrev S : tie.After-is-cmr → tie.Start
-S k = k .before .before .before .before .before .before .before .before .before .before .before
+-- the start, and the place past the labelling
+abbrev A : tie.After-struct-known → tie.Start
+A k = k .before .before .before .before .before .before .before .before .before .before .before
 
-abbrev callAs : tie.Start → Mode → Call
-callAs b m =
-    let a = b .args in
-    callOf m (a .form) (a .n) (a .d) (a .s) (now (a .fwd)) (now (a .bwd)) (now (a .couplings)) (a .group) (a .temperature) (now (a .cuts)) (a .reference) (a .seed)
+abbrev S : tie.After-label-task → tie.Start
+S o = A (o .before .before .before .before .before .before .before .before .before .before .before .before .before .before)
+
+abbrev T : tie.After-slice-known11 → tie.After-label-task
+T k = k .before .before .before .before .before .before .before .before .before .before .before .before .before .before .before
 
 abbrev choicesAt : tie.Start → Choices
 choicesAt b = choicesOf (now (b .args .flips)) (now (b .args .perms)) (now (b .args .greys))
@@ -26,29 +28,60 @@ choicesAt b = choicesOf (now (b .args .flips)) (now (b .args .perms)) (now (b .a
 abbrev lentAt : tie.Start → Buffers
 lentAt b = let a = b .args in buffersOf (now (a .spins)) (now (a .labels)) (now (a .grey-labels)) (now (a .counts)) (now (a .sizes))
 
-cmr-yes : (m : tie.Then1) → isCmr (S (m .before) .args .mode) ≡ true
-cmr-yes m = sym (m .before .is-cmr .ensures) ∙ m .if1 .taken
-
-cmr-no : (m : tie.Else1) → isCmr (S (m .before) .args .mode) ≡ false
-cmr-no m = sym (m .before .is-cmr .ensures) ∙ m .if1 .left
-
-as-cmr : (m : tie.Then1) → let b = S (m .before) in Valid (callAs b Cmr) (choicesAt b) (lentAt b)
-as-cmr m = let b = S (m .before) in subst (λ (x : Mode). Valid (callAs b x) (choicesAt b) (lentAt b)) (mode-cmr (b .args .mode) (cmr-yes m)) (b .pre)
-
-is-cmr-requires : tie.Need-is-cmr-requires
-is-cmr-requires c κs = search needs
-
-run-cmr-requires : tie.Need-run-cmr-requires
-run-cmr-requires c κs =
-    let b = S (c .before .before .before .before .before .before) in
+high : (b : tie.Start) → b .args .t .n ≤ 4096
+high b =
     let a = b .args in
-    let v = as-cmr (c .before .before .before .before .before) in (
-      cmr-given (a .form) (a .n) (a .d) (a .s) (now (a .fwd)) (now (a .bwd)) (now (a .couplings)) (a .group) (a .temperature) (now (a .cuts)) (a .reference) (a .seed) (choicesAt b) (lentAt b) v,
-      (
-        grey-choices (a .form) (a .n) (a .d) (a .s) (now (a .fwd)) (now (a .bwd)) (now (a .couplings)) (a .group) (a .temperature) (now (a .cuts)) (a .reference) (a .seed) (choicesAt b) (lentAt b) v,
-        outputs-given (callAs b Cmr) (choicesAt b) (lentAt b) v,
-      ),
-    )
+    answered.n-high (a .t) (now (a .fwd)) (now (a .bwd)) (now (a .couplings)) (now (a .cuts)) (choicesAt b) (lentAt b) (b .pre)
+
+many : (b : tie.Start) → b .args .t .n * b .args .t .d ≤ 16384
+many b =
+    let a = b .args in
+    answered.bonds-high (a .t) (now (a .fwd)) (now (a .bwd)) (now (a .couplings)) (now (a .cuts)) (choicesAt b) (lentAt b) (b .pre)
+
+moving : (m : tie.Then2) → moves (S (T (m .before .before .before)) .args .t .form) ≡ true
+moving m = sym (m .before .moves .ensures) ∙ m .if2 .taken
+
+resting : (m : tie.Else2) → moves (S (T (m .before .before .before)) .args .t .form) ≡ false
+resting m = sym (m .before .moves .ensures) ∙ m .if2 .left
+
+mul-bonds : tie.Need-mul-bonds
+mul-bonds c = omega (arith, many (A c))
+
+array-borrow-prefix-cols-area : tie.Need-array-borrow-prefix-cols-area
+array-borrow-prefix-cols-area c = high (A c)
+
+slice-aggregate-cols : tie.Need-slice-aggregate-cols
+slice-aggregate-cols c = let b = A (c .before) in sym (length-take-le (b .args .t .n) _ (high b))
+
+array-borrow-prefix-acts-area : tie.Need-array-borrow-prefix-acts-area
+array-borrow-prefix-acts-area c = high (A (c .before))
+
+slice-aggregate-acts : tie.Need-slice-aggregate-acts
+slice-aggregate-acts c = let b = A (c .before .before) in sym (length-take-le (b .args .t .n) _ (high b))
+
+array-borrow-prefix-holds-area : tie.Need-array-borrow-prefix-holds-area
+array-borrow-prefix-holds-area c = many (A (c .before .before))
+
+slice-aggregate-holds : tie.Need-slice-aggregate-holds
+slice-aggregate-holds c = let b = A (c .before .before .before) in sym (length-take-le (b .args .t .n * b .args .t .d) _ (many b))
+
+array-borrow-prefix-grey-area : tie.Need-array-borrow-prefix-grey-area
+array-borrow-prefix-grey-area c = many (A (c .before .before .before))
+
+slice-aggregate-grey : tie.Need-slice-aggregate-grey
+slice-aggregate-grey c = let b = A (c .before .before .before .before) in sym (length-take-le (b .args .t .n * b .args .t .d) _ (many b))
+
+array-borrow-prefix-tally-area : tie.Need-array-borrow-prefix-tally-area
+array-borrow-prefix-tally-area c = high (A (c .before .before .before .before))
+
+slice-aggregate-tally : tie.Need-slice-aggregate-tally
+slice-aggregate-tally c = let b = A (c .before .before .before .before .before) in sym (length-take-le (b .args .t .n) _ (high b))
+
+label-task-requires : tie.Need-label-task-requires
+label-task-requires c κs =
+    let b = A (c .before .before .before .before .before .before .before .before .before .before .before .before .before) in
+    let a = b .args in
+    answered.label-asks (a .t) (now (a .fwd)) (now (a .bwd)) (now (a .couplings)) (now (a .cuts)) (choicesAt b) (lentAt b) (b .pre)
 
 same-length : tie.Need-same-length
 same-length c = search needs
@@ -62,29 +95,55 @@ same-length-3 c = search needs
 same-length-4 : tie.Need-same-length-4
 same-length-4 c = search needs
 
+returns : tie.Need-returns
+returns c =
+    let m = c .before .before .before .before in
+    let o = T (m .before) in
+    let b = S o in
+    let a = b .args in
+    answered.idle-answers (a .t) (now (a .fwd)) (now (a .bwd)) (now (a .couplings)) (now (a .cuts)) (choicesAt b) (lentAt b) (b .pre)
+    (o .label-task .ensures (now (a .bwd))) (m .if1 .taken)
+
+moves-requires : tie.Need-moves-requires
+moves-requires c κs = search needs
+
+array-borrow-prefix-reached : tie.Need-array-borrow-prefix-reached
+array-borrow-prefix-reached c = high (S (T (c .before .before .before .before .before .before)))
+
+slice-aggregate-choose-task : tie.Need-slice-aggregate-choose-task
+slice-aggregate-choose-task c = let b = S (T (c .before .before .before .before .before .before .before)) in sym (length-take-le (b .args .t .n) _ (high b))
+
+choose-task-requires : tie.Need-choose-task-requires
+choose-task-requires c κs =
+    let m = c .before .before .before .before .before .before in
+    let o = T (m .before .before .before) in
+    let b = S o in
+    let a = b .args in
+    answered.choose-asks (a .t) (now (a .fwd)) (now (a .bwd)) (now (a .couplings)) (now (a .cuts)) (choicesAt b) (lentAt b) (b .pre)
+    (o .label-task .ensures (now (a .bwd))) (moving m)
+
+write-task-requires : tie.Need-write-task-requires
+write-task-requires c κs =
+    let k = c .before .before .before .before .before .before .before .before .before .before in
+    let m = k .before .before .before .before .before .before .before in
+    let o = T (m .before .before .before) in
+    let b = S o in
+    let a = b .args in
+    answered.write-asks (a .t) (now (a .fwd)) (now (a .bwd)) (now (a .couplings)) (now (a .cuts)) (choicesAt b) (lentAt b) (b .pre)
+    (o .label-task .ensures (now (a .bwd))) (k .choose-task .ensures)
+
 same-length-5 : tie.Need-same-length-5
 same-length-5 c = search needs
 
-returns : tie.Need-returns
-returns c =
-    let k = c .before .before .before .before .before .before .before .before .before in
-    let m = k .before .before .before .before .before .before in
-    let b = S (m .before) in
-    let a = b .args in
-    let w = k .run-cmr .ensures (a .s) (a .reference) (now (a .bwd)) (now (a .perms)) in
-    answers-as (a .form) (a .n) (a .d) (a .s) (now (a .fwd)) (now (a .bwd)) (now (a .couplings)) (a .group) (a .temperature) (now (a .cuts)) (a .reference) (a .seed) (choicesAt b) (lentAt b) (as-cmr m) (a .mode) (mode-cmr (a .mode) (cmr-yes m)) w
-
-run-plain-requires : tie.Need-run-plain-requires
-run-plain-requires c κs =
-    let m = c .before .before .before .before in
-    let b = S (m .before) in
-    let v = b .pre in (
-      label-given (callAs b (b .args .mode)) (choicesAt b) (lentAt b) v (cmr-no m),
-      (choice-given (callAs b (b .args .mode)) (choicesAt b) (lentAt b) v, outputs-given (callAs b (b .args .mode)) (choicesAt b) (lentAt b) v),
-    )
-
 same-length-6 : tie.Need-same-length-6
-same-length-6 c = search needs
+same-length-6 c =
+    let k = c .before .before .before .before .before .before .before .before .before .before .before .before .before in
+    let m = k .before .before .before .before .before .before .before in
+    let o = T (m .before .before .before) in
+    let b = S o in
+    let a = b .args in
+    answered.labels-kept (a .t) (now (a .fwd)) (now (a .bwd)) (now (a .couplings)) (now (a .cuts)) (choicesAt b) (lentAt b) (b .pre)
+    (o .label-task .ensures (now (a .bwd)))
 
 same-length-7 : tie.Need-same-length-7
 same-length-7 c = search needs
@@ -97,27 +156,72 @@ same-length-9 c = search needs
 
 returns-2 : tie.Need-returns-2
 returns-2 c =
-    let k = c .before .before .before .before .before .before .before in
-    let m = k .before .before .before .before .before in
-    let b = S (m .before) in
+    let w = c .before .before in
+    let k = w .before .before .before .before .before .before .before .before .before .before .before in
+    let m = k .before .before .before .before .before .before .before in
+    let e = m .before .before in
+    let o = T (e .before) in
+    let b = S o in
     let a = b .args in
-    plain-answers (callAs b (a .mode)) (choicesAt b) (lentAt b) (b .pre) (k .run-plain .result) _ _ _ _ (cmr-no m) (k .run-plain .ensures (a .s) (now (a .bwd)) (now (a .greys)))
+    answered.moved-answers (a .t) (now (a .fwd)) (now (a .bwd)) (now (a .couplings)) (now (a .cuts)) (choicesAt b) (lentAt b) (b .pre)
+    (o .label-task .ensures (now (a .bwd))) (k .choose-task .ensures) (e .if1 .left) (moving m) (w .write-task .ensures)
+
+same-length-10 : tie.Need-same-length-10
+same-length-10 c = search needs
+
+same-length-11 : tie.Need-same-length-11
+same-length-11 c = search needs
+
+same-length-12 : tie.Need-same-length-12
+same-length-12 c = search needs
+
+same-length-13 : tie.Need-same-length-13
+same-length-13 c = search needs
+
+returns-3 : tie.Need-returns-3
+returns-3 c =
+    let m = c .before .before .before .before in
+    let e = m .before .before in
+    let o = T (e .before) in
+    let b = S o in
+    let a = b .args in
+    answered.observe-answers (a .t) (now (a .fwd)) (now (a .bwd)) (now (a .couplings)) (now (a .cuts)) (choicesAt b) (lentAt b) (b .pre)
+    (o .label-task .ensures (now (a .bwd))) (e .if1 .left) (resting m)
 
 pub run-task-spec : {M : Type 1} → statement M
 run-task-spec =
     tie.close
     (tie.spec
-    is-cmr-requires
-    run-cmr-requires
+    mul-bonds
+    array-borrow-prefix-cols-area
+    slice-aggregate-cols
+    array-borrow-prefix-acts-area
+    slice-aggregate-acts
+    array-borrow-prefix-holds-area
+    slice-aggregate-holds
+    array-borrow-prefix-grey-area
+    slice-aggregate-grey
+    array-borrow-prefix-tally-area
+    slice-aggregate-tally
+    label-task-requires
     same-length
     same-length-2
     same-length-3
     same-length-4
-    same-length-5
     returns
-    run-plain-requires
+    moves-requires
+    array-borrow-prefix-reached
+    slice-aggregate-choose-task
+    choose-task-requires
+    write-task-requires
+    same-length-5
     same-length-6
     same-length-7
     same-length-8
     same-length-9
-    returns-2)
+    returns-2
+    same-length-10
+    same-length-11
+    same-length-12
+    same-length-13
+    returns-3)

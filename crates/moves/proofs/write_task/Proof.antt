@@ -1,5 +1,6 @@
 use borrow.Author.Needs.{needs}
 use Rattle.columns.specs.Laws.{signed-spins}
+use Rattle.moves.specs.Finish.{write-leaves}
 use Rattle.moves.proofs.write_task.Statement.{statement}
 use Rattle.moves.proofs.write_task.Tie as tie
 
@@ -8,7 +9,7 @@ signs-requires c κs = search needs
 
 write-rows-requires : tie.Need-write-rows-requires
 write-rows-requires c κs =
-    let p = c .before .before .before .before .pre in
+    let p = c .before .before .before .before .before .pre in
     record {
       sites = p .n-high;
       few = p .size-high;
@@ -22,7 +23,7 @@ same-length : tie.Need-same-length
 same-length c = search needs
 
 returns : tie.Need-returns
-returns c = record { signs = c .before .before .before .signs .result; signed = c .before .before .before .signs .ensures; written = c .before .write-rows .ensures }
+returns c = write-leaves (c .before .before .before .signs .ensures) (c .before .write-rows .ensures)
 
 pub write-task-spec : {M : Type 1} → statement M
 write-task-spec = tie.close (tie.spec signs-requires write-rows-requires same-length returns)

@@ -1,0 +1,125 @@
+use borrow.Author.Needs.{needs}
+use native.Mathlib.Omega.{arith}
+use Rattle.moves.specs.Held.{label-leaves}
+use Rattle.moves.proofs.label_task.Statement.{statement}
+use Rattle.moves.proofs.label_task.Tie as tie
+
+abbrev S : tie.After-look → tie.Start
+S o = o .before .before .before .before .before .before .before .before .before .before .before .before .before .before
+
+abbrev K : tie.After-hold → tie.After-look
+K h = h .before .before .before .before .before .before .before .before .before
+
+abbrev H : tie.After-label → tie.After-hold
+H l = l .before .before .before .before .before .before .before .before
+
+look-requires : tie.Need-look-requires
+look-requires c κs =
+    let p = c .before .before .before .before .before .before .before .before .before .before .before .before .before .pre in
+    let r = p .tested in
+    record {
+      n-high = r .n-high;
+      size-low = omega (arith, r .size-low);
+      size-high = r .size-high;
+      inside = r .inside;
+      spins = r .spins;
+      reference = p .reference;
+      cols-long = p .lent .cols-long;
+      flags-long = p .lent .flags-long;
+    }
+
+hold-requires : tie.Need-hold-requires
+hold-requires c κs =
+    let o = c .before .before .before .before .before .before .before .before in
+    let p = S o .pre in
+    let r = p .tested in
+    record {
+      active = record {
+        forward = record { sites = r .n-high; directions = r .d-high; long = r .fwd-long; inside = r .ahead-lt };
+        acts-long = o .look .ensures .flagged .long;
+        holds-long = p .lent .holding-long;
+      };
+      coupled = p .coupled;
+      size-low = r .size-low;
+      size-high = r .size-high;
+      cols-long = o .look .ensures .columns .long;
+      grey-long = p .lent .grey-long;
+    }
+
+label-requires : tie.Need-label-requires
+label-requires c κs =
+    let h = c .before .before .before .before .before .before .before in
+    let p = S (K h) .pre in
+    let r = p .tested in
+    record {
+      n-high = r .n-high;
+      d-high = r .d-high;
+      fwd-long = r .fwd-long;
+      holds-long = h .hold .ensures .held .long;
+      ahead-lt = r .ahead-lt;
+      labels-long = p .lent .labels-long;
+      tally-long = p .lent .tally-long;
+    }
+
+count-requires : tie.Need-count-requires
+count-requires c κs =
+    let l = c .before .before .before .before .before .before .before .before in
+    let p = S (K (H l)) .pre in
+    let long = l .label .ensures .labels .long in
+    record {
+      n-high = omega (arith, long, p .tested .n-high);
+      sized = l .label .ensures .sized;
+      counts-long = omega (arith, long, p .lent .counts-long);
+      sizes-long = p .lent .sizes-long;
+    }
+
+same-length : tie.Need-same-length
+same-length c = search needs
+
+same-length-2 : tie.Need-same-length-2
+same-length-2 c = search needs
+
+same-length-3 : tie.Need-same-length-3
+same-length-3 c = search needs
+
+same-length-4 : tie.Need-same-length-4
+same-length-4 c = search needs
+
+same-length-5 : tie.Need-same-length-5
+same-length-5 c = search needs
+
+same-length-6 : tie.Need-same-length-6
+same-length-6 c = search needs
+
+same-length-7 : tie.Need-same-length-7
+same-length-7 c = search needs
+
+same-length-8 : tie.Need-same-length-8
+same-length-8 c = search needs
+
+returns : tie.Need-returns
+returns c = λ bwd.
+    let o = c .before .before .before .before in
+    let l = o .before .before .before .before .before .before .before .before .before in
+    let h = H l in
+    let k = K h in
+    let p = S k .pre in
+    label-leaves bwd (h .hold .ensures) (p .tested) (p .reference) (k .look .ensures) (l .label .ensures) (o .count .ensures)
+
+pub label-task-spec : {M : Type 1} → statement M
+label-task-spec =
+    tie.close
+    (tie.spec
+    look-requires
+    hold-requires
+    label-requires
+    count-requires
+    same-length
+    same-length-2
+    same-length-3
+    same-length-4
+    same-length-5
+    same-length-6
+    same-length-7
+    same-length-8
+    returns)

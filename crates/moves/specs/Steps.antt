@@ -1,0 +1,151 @@
+-- What the steps of a task ask and what they leave: hold, label, choose, write.
+use Prim.Native.Nat.{ℕ, _+_, _*_, _^_, _≤_, _<_}
+use mathlib.Core.Path.{_≡_}
+use mathlib.Core.Logic.{_≢_}
+use mathlib.Core.Bool.{Bool, true, false, cond, _&&_}
+use mathlib.Core.List.{List}
+use lib.ListN.{length, getD}
+use lib.IntN.{ℤ, _*ℤ_}
+use lib.Ieee.{Float}
+use Rattle.paper.specs.declared.Task.{Task}
+use Rattle.paper.specs.declared.Mode.{Mode}
+use Rattle.paper.specs.declared.Form.{Form}
+use Rattle.paper.specs.declared.Sampler.{Sampler}
+use Rattle.paper.specs.Panel.Input.{Call, patternOf, spin, member, graph, size}
+use Rattle.paper.specs.Panel.Takes.{isPerm, isGperm, isCmr, isDrawn, isWolff, moves, entries, flipsBy}
+use Rattle.paper.specs.Site.Acting.{acts, SomeActs}
+use Rattle.paper.specs.Site.Bonds.{samplerOf, holds, holdsGrey}
+use Rattle.paper.specs.Component.Labels.{Labels}
+use Rattle.paper.specs.Component.Sizes.{labelOf, Sized, Counted, Largest}
+use Rattle.paper.specs.Component.Marks.{Flags, Marks, marked, Tells}
+use Rattle.paper.specs.Move.Moving.{greyAt}
+use Rattle.paper.specs.Refusal.Rules.{Distinct}
+use Rattle.columns.specs.Column.{shown, signBy, Inside, Spinning, Columns}
+use Rattle.bonds.specs.Table as table
+use Rattle.bonds.specs.Table.{Coupled, ActiveIn, bothActing, jorgAt, blueAt}
+use Rattle.label.specs.Contract.{graphOf}
+use Rattle.choose.specs.Chosen.{Becomes, reachedAt, greyed}
+use Rattle.moves.specs.Ready.{Tested}
+use Rattle.moves.specs.Looked.{seenAt}
+use Rattle.moves.specs.Moved.{choiceColumn}
+
+-- ---- hold: the tables of bonds
+-- the bonds that hold, worked out on marks of acting sites and on columns; in CMR the blue ones
+abbrev pub heldAt : Mode → ℕ → List ℕ → List ℤ → List Float → ℕ → Sampler → List ℕ → List ℕ → ℕ → ℕ → Bool
+heldAt mode d fwd couplings cuts m s flags cols i e =
+    cond (isCmr mode) (blueAt d fwd couplings cuts s cols i e)
+    (cond (isDrawn mode) (jorgAt d fwd couplings cuts m s flags cols i e) (bothActing d fwd flags i e))
+
+pub record HoldAsks (t : Task) (fwd : List ℕ) (couplings : List ℤ) (cuts : List Float) (flags cols holding grey : List ℕ) : Type 0 where
+  pub active : ActiveIn (t .n) (t .d) fwd flags holding
+  pub coupled : isDrawn (t .mode) ≡ true → Coupled (t .n) (t .d) couplings cuts
+  pub size-low : 2 ≤ t .group .len
+  pub size-high : t .group .len ≤ 8
+  pub cols-long : length cols ≡ t .n
+  pub grey-long : length grey ≡ t .n * t .d
+
+pub record HoldLeaves (t : Task) (fwd : List ℕ) (couplings : List ℤ) (cuts : List Float) (flags cols holding grey : List ℕ) : Type 0 where
+  pub held : Marks (t .n) (t .d) (heldAt (t .mode) (t .d) fwd couplings cuts (t .group .len) (samplerOf (t .temperature)) flags cols) holding
+  pub grey-held : isCmr (t .mode) ≡ true → Marks (t .n) (t .d) (table.greyAt (t .d) fwd couplings cuts (samplerOf (t .temperature)) cols) grey
+  pub grey-long : length grey ≡ t .n * t .d
+
+-- ---- label: from spins to columns, labels, counts and sizes
+-- the areas that it fills
+pub record Lent (n d : ℕ) (cols flags holding grey tally labels counts sizes : List ℕ) : Type 0 where
+  pub cols-long : length cols ≡ n
+  pub flags-long : length flags ≡ n
+  pub holding-long : length holding ≡ n * d
+  pub grey-long : length grey ≡ n * d
+  pub tally-long : length tally ≡ n
+  pub labels-long : length labels ≡ n
+  pub counts-long : length counts ≡ n + 1
+  pub sizes-long : length sizes ≡ 4
+
+pub record LabelAsks
+    (t : Task) (fwd : List ℕ) (couplings : List ℤ) (cuts : List Float) (xs : List ℤ) (cols flags holding grey tally labels counts sizes : List ℕ)
+    : Type 0 where
+  pub tested : Tested (t .mode) (t .n) (t .d) fwd (t .group) xs
+  pub reference : isGperm (t .mode) ≡ true → t .reference < t .n
+  pub coupled : isDrawn (t .mode) ≡ true → Coupled (t .n) (t .d) couplings cuts
+  pub lent : Lent (t .n) (t .d) cols flags holding grey tally labels counts sizes
+
+pub record LabelLeaves (c : Call) (xs : List ℤ) (cols flags grey tally labels counts sizes : List ℕ) (r : Bool) : Type 0 where
+  pub columns : Columns (c .lattice .n) (size c) (seenAt c xs) cols
+  pub acting : Flags (c .lattice .n) (acts c xs) flags
+  pub some : Tells r (SomeActs c xs)
+  pub labelled : Labels (graph c) (holds c xs) labels
+  pub grey-held : isCmr (c .mode) ≡ true → Marks (c .lattice .n) (c .lattice .d) (holdsGrey c xs) grey
+  pub grey-long : length grey ≡ c .lattice .n * c .lattice .d
+  pub tallied : Sized labels tally
+  pub counted : Counted labels counts
+  pub largest : Largest labels sizes
+
+-- ---- choose: the new columns. Of the labels it needs a key for each site, below n, and how many sites have it
+pub record Choosable (mode : Mode) (form : Form) (m seed : ℕ) (flags labels tally flips perms reached cols : List ℕ) : Type 0 where
+  pub few : length cols ≤ 4096
+  pub flags-long : length flags ≡ length cols
+  pub labels-long : length labels ≡ length cols
+  pub reached-long : length reached ≡ length cols
+  pub below : (i : ℕ) → i < length cols → getD labels i 0 < length cols
+  pub tallied : Sized labels tally
+  pub seeded : isWolff form ≡ true → seed < length cols
+  pub moving : moves form ≡ true
+  pub size-low : 1 ≤ m
+  pub size-high : m ≤ 8
+  pub flips-long : flipsBy mode form ≡ true → length flips ≡ length cols
+  pub perms-long : isPerm mode ≡ true → length perms ≡ entries form (length cols) * m
+  pub places : isPerm mode ≡ true → (x : ℕ) → x < length perms → getD perms x 0 < m
+  pub narrow : (i : ℕ) → i < length cols → getD cols i 0 < 2 ^ m
+
+-- what CMR's grey half is lent
+pub record Greyable (t : Task) (fwd greys grey greyLabels : List ℕ) : Type 0 where
+  pub d-high : t .d ≤ 4
+  pub fwd-long : length fwd ≡ t .n * t .d
+  pub ahead-lt : (i e : ℕ) → i < t .n → e < t .d → getD fwd (i * t .d + e) 0 < t .n
+  pub grey-long : length grey ≡ t .n * t .d
+  pub greys-long : length greys ≡ entries (t .form) (t .n)
+  pub small : (x : ℕ) → x < length greys → getD greys x 0 ≤ 3
+  pub labels-long : length greyLabels ≡ t .n
+  pub two : t .group .len ≡ 2
+
+pub record ChooseAsks (t : Task) (fwd flips perms greys flags grey labels tally reached cols greyLabels : List ℕ) : Type 0 where
+  pub choosable : Choosable (t .mode) (t .form) (t .group .len) (t .seed) flags labels tally flips perms reached cols
+  pub cols-long : length cols ≡ t .n
+  pub greyable : isCmr (t .mode) ≡ true → Greyable t fwd greys grey greyLabels
+
+-- the new column of the site i from the choice of its component
+abbrev pub chosenAt : Mode → Form → ℕ → ℕ → List ℕ → List ℕ → List ℕ → List ℕ → List ℕ → ℕ → ℕ
+chosenAt mode form m seed flags labels flips perms cols i =
+    cond (reachedAt form mode seed flags labels i) (choiceColumn mode form m flips perms (labelOf labels i) (getD cols i 0)) (getD cols i 0)
+
+-- and in CMR then from the grey number of its grey component
+abbrev pub finalAt : Mode → Form → ℕ → ℕ → List ℕ → List ℕ → List ℕ → List ℕ → List ℕ → List ℕ → List ℕ → ℕ → ℕ
+finalAt mode form m seed flags labels greyLabels flips perms greys cols i =
+    cond (isCmr mode && reachedAt form mode seed flags greyLabels i)
+    (greyed (greyAt form greys (labelOf greyLabels i)) (chosenAt mode form m seed flags labels flips perms cols i))
+    (chosenAt mode form m seed flags labels flips perms cols i)
+
+pub record ChooseLeaves (t : Task) (fwd flips perms greys flags grey labels cols lent new greyLabels : List ℕ) : Type 0 where
+  pub columns : Becomes (finalAt (t .mode) (t .form) (t .group .len) (t .seed) flags labels greyLabels flips perms greys cols) cols new
+  pub grey-labels : isCmr (t .mode) ≡ true → Labels (graphOf (t .n) (t .d) fwd) (marked (t .d) grey) greyLabels
+  pub grey-kept : isCmr (t .mode) ≡ false → greyLabels ≡ lent
+
+-- ---- write: the group's rows
+pub record WriteAsks (t : Task) (xs : List ℤ) (cols : List ℕ) : Type 0 where
+  pub n-high : t .n ≤ 4096
+  pub size-high : t .group .len ≤ 8
+  pub inside : Inside (t .n) (t .group) xs
+  pub spins : Spinning (t .n) (t .group) xs
+  pub distinct : Distinct (t .group .len) (member (t .group))
+  pub reference : isGperm (t .mode) ≡ true → t .reference < t .n
+  pub cols-long : length cols ≡ t .n
+
+-- the group's rows are those that the columns show, each spin with its member's sign; the others' are as they were
+pub record WriteLeaves (t : Task) (cols : List ℕ) (xs ys : List ℤ) : Type 0 where
+  pub long : length ys ≡ length xs
+  pub group :
+      (i k : ℕ) → i < t .n → k < t .group .len
+      → patternOf (t .n) (t .group) ys i k ≡ signBy (t .mode) (patternOf (t .n) (t .group) xs (t .reference)) k *ℤ shown (getD cols i 0) k
+  pub others : (i s : ℕ) → i < t .n → ((k : ℕ) → k < t .group .len → s ≢ member (t .group) k) → spin (t .n) ys s i ≡ spin (t .n) xs s i
+  -- with no sites there are no rows
+  pub empty : t .n ≡ 0 → ys ≡ xs
