@@ -5,6 +5,7 @@ use crate::calls::{Energy, Frames, Label, Step, Sweep};
 use crate::foreign::*;
 
 /// One move or observation of one group. The example of the [crate] is one.
+#[inline]
 #[rustfmt::skip]
 pub fn step(call: Step) -> Result<Stepped, Refusal> {
     let number = unsafe {
@@ -59,6 +60,7 @@ pub fn step(call: Step) -> Result<Stepped, Refusal> {
 /// assert_eq!(spins, [-1, 1, 1, 1]);
 /// # Ok::<(), tsorvenk::Refusal>(())
 /// ```
+#[inline]
 #[rustfmt::skip]
 pub fn sweep(call: Sweep) -> Result<Swept, Refusal> {
     let mut tally = [0u32; 2];
@@ -103,6 +105,7 @@ pub fn sweep(call: Sweep) -> Result<Swept, Refusal> {
 /// assert_eq!(energy(ring), Ok(-2));
 /// assert_eq!(energy(Energy { system: 1, ..ring }), Err(Refusal { number: 5 }));
 /// ```
+#[inline]
 #[rustfmt::skip]
 pub fn energy(call: Energy) -> Result<i64, Refusal> {
     let mut energy = [0i64];
@@ -140,6 +143,7 @@ pub fn energy(call: Energy) -> Result<i64, Refusal> {
 /// assert_eq!(sizes, [3, 1, 0, 0]);
 /// # Ok::<(), tsorvenk::Refusal>(())
 /// ```
+#[inline]
 #[rustfmt::skip]
 pub fn label(call: Label) -> Result<(), Refusal> {
     let number = unsafe {
@@ -169,6 +173,7 @@ pub fn label(call: Label) -> Result<(), Refusal> {
 /// assert_eq!(frames(Frames { text, out: &mut out[..4] }), Err(NoRoom));
 /// # Ok::<(), NoRoom>(())
 /// ```
+#[inline]
 #[rustfmt::skip]
 pub fn frames(call: Frames<'_>) -> Result<&[u8], NoRoom> {
     let Frames { text, out } = call;
