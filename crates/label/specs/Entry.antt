@@ -3,8 +3,9 @@ use Prim.Native.Nat.{ℕ, _+_, _*_, _≤_, _<_}
 use mathlib.Core.Path.{_≡_}
 use mathlib.Core.List.{List, [], _∷_}
 use lib.ListN.{length, getD}
-use Rattle.paper.specs.Refusal.Rule.{Rule, rule, Kept, Broken}
+use Rattle.paper.specs.Refusal.Rule.{Rule, rule, Broken}
 use Rattle.paper.specs.Refusal.Rules.{Sizes}
+use Rattle.paper.specs.Refusal.Verdict.{Verdict}
 use Rattle.label.specs.declared.Labelling.{Labelling}
 use Rattle.label.specs.declared.Labelling.the-variants.{Unlabelled, Written}
 use Rattle.label.specs.Contract.{Seen}
@@ -41,7 +42,7 @@ Bits xs = (k : ℕ) → k < length xs → getD xs k 0 ≤ 1
 abbrev pub rules : Request → Lent → List Rule
 rules r b = rule 1 (Sizes (r .n) (r .d) 1) ∷ rule 2 (Exact r b) ∷ rule 4 (Below (r .n) (r .fwd)) ∷ rule 9 (Bits (r .holds)) ∷ []
 
--- the paper's number of an answer, 0 where the call is accepted
+-- the paper's number of an answer, 0 where the call is accepted: the verdict of the rules. Its values are what is written
 abbrev pub labellingNumber : Labelling → ℕ
 labellingNumber (Unlabelled c) = c
 labellingNumber Written = 0
@@ -53,7 +54,7 @@ pub record Refuses (r : Request) (b : Lent) (c : ℕ) (b′ : Lent) : Type 0 whe
 
 -- accepted: the labels, counts and sizes of the bonds whose byte is 1
 pub record Accepts (r : Request) (b b′ : Lent) : Type 0 where
-  pub valid : Kept (rules r b)
+  pub valid : Verdict (rules r b) (labellingNumber Written)
   pub seen : Seen (r .n) (r .d) (r .fwd) (r .holds) (b′ .labels) (b′ .counts) (b′ .sizes)
 
 -- the answer a may be given to the request r with the lent buffers b, which then hold b′

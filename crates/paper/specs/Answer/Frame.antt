@@ -10,10 +10,13 @@ use lib.IntN.{ℤ, pos, negsuc}
 use Rattle.paper.specs.declared.Mode.the-variants.{Perm}
 use Rattle.paper.specs.declared.Form.the-variants.{Sw}
 use Rattle.paper.specs.declared.Answer.{Answer}
+use Rattle.paper.specs.declared.Answer.the-variants.{Refused}
 use Rattle.paper.specs.Panel.Input.{Lattice, Call, Choices, Buffers}
 use Rattle.paper.specs.Site.Bonds.{whole}
-use Rattle.paper.specs.Refusal.Rule.{Rule, rule, Kept, Broken}
+use Rattle.paper.specs.Refusal.Rule.{Rule, rule, Broken}
 use Rattle.paper.specs.Refusal.Rules.{Spins, Inverse, Grouped, Chosen}
+use Rattle.paper.specs.Refusal.Verdict.{Verdict}
+use Rattle.paper.specs.Answer.Number as numbers
 use Rattle.paper.specs.Answer.Move.{Answers, Accepted}
 use Rattle.paper.specs.Answer.Task.{table}
 
@@ -162,13 +165,13 @@ refusal r = 50 ∷ 102 ∷ (48 + r / 10) ∷ (48 + r % 10) ∷ 10 ∷ []
 
 pub record FrameRefuses (text out : List ℕ) : Type 0 where
   pub number : ℕ
-  pub why : Broken (frameRules text) number
-  pub written : out ≡ refusal number
+  pub why : Broken (frameRules text) (numbers.number (Refused number))
+  pub written : out ≡ refusal (numbers.number (Refused number))
 
 pub record FrameRuns (text out : List ℕ) : Type 0 where
-  pub valid : Kept (frameRules text)
-  pub back : HasBack text
   pub answer : Answer
+  pub valid : Verdict (frameRules text) (numbers.number answer)
+  pub back : HasBack text
   pub after : Buffers
   pub accepted : Accepted answer
   pub answers : Answers (frameCall text (back .bwd)) (frameChoices text) (frameBuffers text) answer after

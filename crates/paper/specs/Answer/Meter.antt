@@ -6,10 +6,11 @@ use lib.ListN.{length}
 use lib.IntN.{ℤ}
 use Rattle.paper.specs.declared.MeterAnswer.{MeterAnswer}
 use Rattle.paper.specs.declared.MeterAnswer.the-variants.{Unmetered, Energy}
-use Rattle.paper.specs.Answer.Number.{meterNumber}
+use Rattle.paper.specs.Answer.Number.{meterNumber, energyOf}
 use Rattle.paper.specs.Panel.Input.{Lattice}
-use Rattle.paper.specs.Refusal.Rule.{Rule, rule, Kept, Broken, broken-unique, broken-not-kept}
+use Rattle.paper.specs.Refusal.Rule.{Rule, rule, Broken, broken-unique, broken-not-kept}
 use Rattle.paper.specs.Refusal.Rules.{Sizes, Spins, Inverse, SmallCouplings}
+use Rattle.paper.specs.Refusal.Verdict.{Verdict}
 use Rattle.paper.specs.Site.Energy.{energy}
 
 pub record MeterExact (t : Lattice) (xs : List ℤ) : Type 0 where
@@ -29,13 +30,13 @@ meterRules t xs k =
     ∷ []
 
 pub record Meters (t : Lattice) (xs : List ℤ) (k : ℕ) (e : ℤ) : Type 0 where
-  pub valid : Kept (meterRules t xs k)
+  pub valid : Verdict (meterRules t xs k) (meterNumber (Energy e))
   pub is : e ≡ energy t xs k
 
 -- nothing is lent to write to
 abbrev pub MeterAnswers : Lattice → List ℤ → ℕ → MeterAnswer → Type 0
 MeterAnswers t xs k (Unmetered r) = Broken (meterRules t xs k) (meterNumber (Unmetered r))
-MeterAnswers t xs k (Energy e) = Meters t xs k e
+MeterAnswers t xs k (Energy e) = Meters t xs k (energyOf (Energy e))
 
 pub meter-determined : (t : Lattice) (xs : List ℤ) (k : ℕ) (a a′ : MeterAnswer) → MeterAnswers t xs k a → MeterAnswers t xs k a′ → a ≡ a′
 meter-determined t xs k (Unmetered r) (Unmetered s) f g = ap Unmetered (broken-unique (meterRules t xs k) r s f g)

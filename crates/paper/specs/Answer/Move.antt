@@ -1,5 +1,5 @@
 -- What a move answers, for every input, and what every lent buffer then holds.
-use mathlib.Core.Path.{_≡_}
+use mathlib.Core.Path.{_≡_, refl}
 use mathlib.Core.Bool.{false}
 use Prim.Native.Nat.{ℕ}
 use Rattle.paper.specs.declared.Answer.{Answer}
@@ -12,8 +12,9 @@ use Rattle.paper.specs.Site.Bonds.{holds, holdsGrey}
 use Rattle.paper.specs.Component.Labels.{Labels}
 use Rattle.paper.specs.Component.Sizes.{Counted, Largest}
 use Rattle.paper.specs.Move.Moving.{Moves}
-use Rattle.paper.specs.Refusal.Rule.{Kept, Broken}
+use Rattle.paper.specs.Refusal.Rule.{Broken}
 use Rattle.paper.specs.Refusal.Rules.{When, rules}
+use Rattle.paper.specs.Refusal.Verdict.{Verdict}
 
 -- labels, counts and sizes are those of the spins before the move
 pub record Seen (c : Call) (b b′ : Buffers) : Type 0 where
@@ -30,14 +31,14 @@ pub record Refuses (c : Call) (p : Choices) (b : Buffers) (r : ℕ) (b′ : Buff
 
 -- idle: no site acts
 pub record Rests (c : Call) (p : Choices) (b b′ : Buffers) : Type 0 where
-  pub valid : Kept (rules c p b)
+  pub valid : Verdict (rules c p b) (number Idle)
   pub none : NoneActs c (b .spins)
   pub still : b′ .spins ≡ b .spins
   pub seen : Seen c b b′
 
 -- any other accepted call. To observe moves no site
 pub record Goes (c : Call) (p : Choices) (b b′ : Buffers) : Type 0 where
-  pub valid : Kept (rules c p b)
+  pub valid : Verdict (rules c p b) (number Moved)
   pub some : SomeActs c (b .spins)
   pub moved : Moves c p (b .spins) (b′ .labels) (b′ .greyLabels) (b′ .spins)
   pub seen : Seen c b b′
@@ -52,3 +53,8 @@ Answers c p b Moved b′ = Goes c p b b′
 pub data Accepted : Answer → Type 0 where
   idle : Accepted Idle
   moved : Accepted Moved
+
+-- has the number 0
+pub accepted-zero : {a : Answer} → Accepted a → number a ≡ 0
+accepted-zero idle = refl
+accepted-zero moved = refl

@@ -12,8 +12,9 @@ use Rattle.paper.specs.declared.SweepAnswer.{SweepAnswer}
 use Rattle.paper.specs.declared.SweepAnswer.the-variants.{Fault, Swept}
 use Rattle.paper.specs.Panel.Input.{Call, Buffers, spin, pattern, system}
 use Rattle.paper.specs.Panel.Takes.{takesCuts, takesFlips, takesPerms, takesGreys, takesReference, takesSeed, entries}
-use Rattle.paper.specs.Refusal.Rule.{Rule, rule, Kept, Broken}
+use Rattle.paper.specs.Refusal.Rule.{Rule, rule, Broken}
 use Rattle.paper.specs.Refusal.Rules.{When, Ranged, Spins, Inverse, Permutes, SmallCouplings, Warm, choiceRules}
+use Rattle.paper.specs.Refusal.Verdict.{Verdict}
 use Rattle.paper.specs.Answer.Number.{sweepNumber, idleOf, movedOf}
 use Rattle.paper.specs.Answer.Move.{Answers}
 use Rattle.paper.specs.Answer.Task.{Sweep, tasks, masked, taskCall, taskChoices, areas, idleTasks, movedTasks}
@@ -82,7 +83,7 @@ pub record SameLengths (b b′ : Buffers) : Type 0 where
   pub grey-labels : length (b′ .greyLabels) ≡ length (b .greyLabels)
 
 pub record Sweeps (w : Sweep) (b : Buffers) (idle moved : ℕ) (b′ : Buffers) : Type 0 where
-  pub valid : Kept (sweepRules w b)
+  pub valid : Verdict (sweepRules w b) (sweepNumber (Swept idle moved))
   pub idles : idle ≡ idleTasks w (b .spins)
   pub moveds : moved ≡ movedTasks w (b .spins)
   pub lengths : SameLengths b b′

@@ -8,8 +8,9 @@ use lib.ListN.{getD}
 use lib.Seq.{ext-getD}
 use Rattle.paper.specs.declared.Answer.{Answer}
 use Rattle.paper.specs.Panel.Input.{Buffers}
-use Rattle.paper.specs.Refusal.Rule.{broken-unique, broken-not-kept}
-use Rattle.paper.specs.Answer.Move.{Answers}
+use Rattle.paper.specs.Refusal.Rule.{Kept, broken-unique, broken-not-kept}
+use Rattle.paper.specs.Refusal.Verdict.{Verdict}
+use Rattle.paper.specs.Answer.Move.{Answers, accepted-zero}
 use Rattle.paper.specs.Answer.Frame.{frameLattice, frameCall, frameChoices, frameBuffers, HasBack, frameRules}
 use Rattle.paper.specs.Answer.Frame.{result, refusal, FrameRuns, FrameAnswers}
 use Rattle.paper.specs.Law.Determined.{determined}
@@ -41,11 +42,15 @@ module _ (text : List ℕ) where
   abbrev Ran : List ℕ → Answer → Buffers → Type 0
   Ran w a after = Answers (frameCall text w) (frameChoices text) (frameBuffers text) a after
 
+  -- an accepted answer's number says that all rules are kept
+  kept-of : {out : List ℕ} → FrameRuns text out → Kept (frameRules text)
+  kept-of f = subst (Verdict (frameRules text)) (accepted-zero (f .accepted)) (f .valid)
+
   runs-same : (out out′ : List ℕ) → FrameRuns text out → FrameRuns text out′ → out ≡ out′
   runs-same out out′ f g = f .written ∙ (ap result same-after ∙ sym (g .written))
     where
       some : 0 < frameLattice text [] .d
-      some = frame-valid-of text (f .valid) .sizes .d-low
+      some = frame-valid-of text (kept-of f) .sizes .d-low
 
       again : Ran (f .back .bwd) (g .answer) (g .after)
       again = subst (λ (w : List ℕ). Ran w (g .answer) (g .after)) (sym (back-unique text some (f .back) (g .back))) (g .answers)
@@ -60,6 +65,6 @@ frames-determined text out out′ (inl f) (inl g) = f .written ∙ (ap refusal s
   where
     same-number : f .number ≡ g .number
     same-number = broken-unique (frameRules text) (f .number) (g .number) (f .why) (g .why)
-frames-determined text out out′ (inl f) (inr g) = absurd (broken-not-kept (frameRules text) (f .number) (f .why) (g .valid))
-frames-determined text out out′ (inr f) (inl g) = absurd (broken-not-kept (frameRules text) (g .number) (g .why) (f .valid))
+frames-determined text out out′ (inl f) (inr g) = absurd (broken-not-kept (frameRules text) (f .number) (f .why) (kept-of text g))
+frames-determined text out out′ (inr f) (inl g) = absurd (broken-not-kept (frameRules text) (g .number) (g .why) (kept-of text f))
 frames-determined text out out′ (inr f) (inr g) = runs-same text out out′ f g
