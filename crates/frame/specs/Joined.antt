@@ -1,6 +1,6 @@
 -- Reading and writing against the whole program: what was read is the paper's call, and what was written is an answer to the text.
 use Prim.Native.Nat.{ℕ, zero, suc, _*_, _≤_, _<_}
-use mathlib.Core.Path.{_≡_, sym, _∙_, ap}
+use mathlib.Core.Path.{_≡_, sym, _∙_, ap, subst}
 use mathlib.Core.Logic.{inl, inr}
 use mathlib.Core.Bool.{Bool, true, false, _&&_}
 use mathlib.Core.List.{List, []}
@@ -14,7 +14,8 @@ use Rattle.paper.specs.Panel.Input.{Call, Buffers}
 use Rattle.paper.specs.Component.Links.{Linked.stay}
 use Rattle.paper.specs.Component.Sizes.{bit, countWhere, counted, sizeOf}
 use Rattle.paper.specs.Refusal.Rule.{Kept, Broken}
-use Rattle.paper.specs.Answer.Move.{Answers, Seen, Accepted}
+use Rattle.paper.specs.Refusal.Verdict.{Verdict}
+use Rattle.paper.specs.Answer.Move.{Answers, Seen, Accepted, accepted-zero}
 use Rattle.paper.specs.Answer.Frame.{bytes, signed, frameLattice, frameCall, frameChoices, frameBuffers, HasBack, frameRules, refusal, FrameAnswers}
 use Rattle.frame.specs.declared.Sizes.{Sizes}
 use Rattle.frame.specs.Spelling.{line2, line3, spellingRules, valueRules, Spelling, spelling-of, misspelt, misvalued, all-kept}
@@ -70,7 +71,7 @@ module _ (text out : List ℕ) (m : ℕ) (out′ : List ℕ) where
       → Fitted (resultOf (after .labels) (after .counts) (after .spins)) out m out′
       → FrameAnswers text (take m out′)
   answer-run back r after k v ok w f = inr (record {
-    valid = all-kept text k v;
+    valid = subst (Verdict (frameRules text)) (sym (accepted-zero ok)) (all-kept text k v);
     back = back;
     answer = r;
     after = after;

@@ -5,8 +5,10 @@ use mathlib.Core.List.{List, [], _++_, map}
 use lib.ListN.{drop, replicate}
 use lib.IntN.{ℤ}
 use Rattle.paper.specs.declared.Group.{Group}
-use Rattle.paper.specs.Refusal.Rule.{Kept, Broken}
+use Rattle.paper.specs.Refusal.Rule.{Broken}
+use Rattle.paper.specs.Refusal.Verdict.{Verdict}
 use Rattle.paper.specs.Answer.Frame.{bytes, words, signed, frameCall}
+use Rattle.frame.specs.Number.{foundNumber, foundSizes}
 use Rattle.frame.specs.Spelling.{line2, line3, line5, spellingRules}
 use Rattle.frame.specs.Scan.{sizesIn, Placed}
 use Rattle.frame.specs.declared.Sizes.{Sizes}
@@ -44,7 +46,7 @@ pub record Misread (text : List ℕ) (b : Held) (r : ℕ) (g : Group) (a : Held)
 
 -- the rules are kept, and what the lines say stands at the front of the buffers; the rest is as it was
 pub record Readout (text : List ℕ) (b : Held) (z : Sizes) (g : Group) (a : Held) : Type 0 where
-  pub spelt : Kept (spellingRules text)
+  pub spelt : Verdict (spellingRules text) (foundNumber (Panel z))
   pub sizes : z ≡ sizesIn text
   pub group : g ≡ frameCall text [] .group
   pub spins : a .spins ≡ map signed (bytes (line2 text)) ++ drop (z .s * z .n) (b .spins)
@@ -52,8 +54,8 @@ pub record Readout (text : List ℕ) (b : Held) (z : Sizes) (g : Group) (a : Hel
   pub perms : a .perms ≡ bytes (line5 text) ++ drop (z .n * g .len) (b .perms)
 
 abbrev pub FoundAs : List ℕ → Held → Found → Group → Held → Type 0
-FoundAs text b (Fault r) g a = Misread text b r g a
-FoundAs text b (Panel z) g a = Readout text b z g a
+FoundAs text b (Fault r) g a = Misread text b (foundNumber (Fault r)) g a
+FoundAs text b (Panel z) g a = Readout text b (foundSizes (Panel z)) g a
 
 abbrev pub ReadAs : List ℕ → Held → Frames → Held → Type 0
 ReadAs text b r a = FoundAs text b (r .found) (r .group) a

@@ -27,7 +27,7 @@ use Rattle.frame.specs.declared.Written.{Written}
 use Rattle.frame.specs.declared.Written.the-variants.{Wrote, NoRoom}
 use Rattle.frame.specs.Spelling.{spellingRules, Spelling, spelling-of, misspelt, misvalued, all-kept}
 use Rattle.frame.specs.Reading.{Rooms, Held, Misread, Readout, FoundAs}
-use Rattle.frame.specs.Writing.{resultOf, TwoByte, Fitted, WrittenAs, fitted-take, fitted-drop}
+use Rattle.frame.specs.Writing.{resultOf, TwoByte, Fitted, WrittenAs, shorter, fitted-take, fitted-drop}
 use Rattle.frame.specs.Back.{Reversed, back-complete}
 use Rattle.frame.specs.Values.{values-kept, values-broken}
 use Rattle.frame.specs.Joined.{spins-count, fwd-count, perms-count, spins-part, fwd-part, perms-part, seen-small}
@@ -56,11 +56,11 @@ Says text before NoRoom after = Unsaid text before after
 
 pub run-says : (text before : List ℕ) (w : Written) (after : List ℕ) → RunAs text before w after → Says text before w after
 run-says text before (Wrote m) after r = record {
-  fits = omega (arith, r .written .fits, r .written .count);
+  fits = omega (arith, r .written .fits .0, r .written .count);
   answers = rw (fitted-take (r .answer) before m after (r .written)) (r .answers);
   kept = fitted-drop (r .answer) before m after (r .written);
 }
-run-says text before NoRoom after r = record { answer = r .answer; answers = r .answers; short = r .written .short; kept = r .written .kept }
+run-says text before NoRoom after r = record { answer = r .answer; answers = r .answers; short = shorter (r .answer) before after (r .written); kept = r .written .kept }
 
 -- so many bytes are there
 pub run-fits : (text before : List ℕ) (w : Written) (after : List ℕ) (m : ℕ) → RunAs text before w after → w ≡ Wrote m → m ≤ length after

@@ -1,15 +1,19 @@
 -- What writing an answer leaves in the lent buffer.
 use Prim.Native.Nat.{ℕ, suc, _+_, _*_, _/_, _%_, _≤_, _<_}
 use mathlib.Core.Path.{_≡_, refl, sym, _∙_, ap}
+use mathlib.Core.Logic.{inl, inr}
 use mathlib.Core.List.{List, [], _∷_, _++_, map}
 use native.Mathlib.Omega.{arith}
 use native.Mathlib.Numerals.{add-one}
 use lib.ListN.{length, getD, take, drop, set, length-append, length-map}
 use lib.Seq.{sets, sets-eq, length-sets, take-at, drop-at, take-suc, take-all, length-take-le}
 use lib.IntN.{ℤ}
+use Rattle.paper.specs.Refusal.Rule.{Rule, rule}
+use Rattle.paper.specs.Refusal.Verdict.{Verdict}
 use Rattle.paper.specs.Answer.Frame.{digit, hex, line, result, twoBytes, spinByte}
 use Rattle.frame.specs.declared.Written.{Written}
 use Rattle.frame.specs.declared.Written.the-variants.{Wrote, NoRoom}
+use Rattle.frame.specs.Number.{writtenNumber, writtenBytes}
 use Rattle.frame.specs.Digits.{Below, hex-length}
 use Rattle.frame.specs.Words.{twoBytes-length}
 
@@ -22,20 +26,34 @@ pub record TwoByte (labels counts : List ℕ) : Type 0 where
   pub small-labels : Below 65536 labels
   pub small-counts : Below 65536 counts
 
+-- there is room for bs
+abbrev pub roomRules : List ℕ → List ℕ → List Rule
+roomRules bs before = rule 65 (length bs ≤ length before) ∷ []
+
 -- bs stands at the front, and behind it what was there
 pub record Fitted (bs before : List ℕ) (m : ℕ) (after : List ℕ) : Type 0 where
-  pub fits : length bs ≤ length before
+  pub fits : Verdict (roomRules bs before) (writtenNumber (Wrote m))
   pub count : m ≡ length bs
   pub is : after ≡ bs ++ drop (length bs) before
 
 -- bs is too long, and nothing is written
 pub record Short (bs before after : List ℕ) : Type 0 where
-  pub short : length before < length bs
+  pub short : Verdict (roomRules bs before) (writtenNumber NoRoom)
   pub kept : after ≡ before
 
 abbrev pub WrittenAs : List ℕ → List ℕ → Written → List ℕ → Type 0
-WrittenAs bs before (Wrote m) after = Fitted bs before m after
+WrittenAs bs before (Wrote m) after = Fitted bs before (writtenBytes (Wrote m)) after
 WrittenAs bs before NoRoom after = Short bs before after
+
+pub short-of : (bs before : List ℕ) → length before < length bs → Short bs before before
+short-of bs before l = record { short = inl ((λ h. omega (arith, h, l)), refl); kept = refl }
+
+pub shorter : (bs before after : List ℕ) → Short bs before after → length before < length bs
+shorter bs before after s = go (s .short)
+  where
+    go : Verdict (roomRules bs before) 65 → length before < length bs
+    go (inl w) = omega (arith, w .0)
+    go (inr w) = absurd (w .1)
 
 -- what is written, and what is kept
 pub fitted-take : (bs before : List ℕ) (m : ℕ) (after : List ℕ) → Fitted bs before m after → take m after ≡ bs
@@ -166,4 +184,4 @@ put-long vs before a r after p = rw (p .is) (length-sets before a vs)
 
 -- all of it, at the front
 pub put-fitted : (vs before : List ℕ) (r : ℕ) (after : List ℕ) → length vs ≤ length before → Put vs before 0 r after → Fitted vs before r after
-put-fitted vs before r after h p = record { fits = h; count = rw (p .next) (omega arith); is = p .is ∙ sets-front vs before h }
+put-fitted vs before r after h p = record { fits = (h, tt); count = rw (p .next) (omega arith); is = p .is ∙ sets-front vs before h }

@@ -1,5 +1,4 @@
 -- What the proofs of several functions use.
-mod Listed
 mod Told
 mod Swept
 mod Written

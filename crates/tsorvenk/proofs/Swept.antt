@@ -1,9 +1,8 @@
--- The returned number stands for the sweep's answer, and the counts for its counts.
+-- The returned number is that of the sweep's answer, and the counts are its counts.
 use Prim.Native.Nat.{ℕ, zero, suc}
 use mathlib.Core.Path.{_≡_, refl, sym, subst}
 use mathlib.Core.Logic.{inl, inr}
-use mathlib.Core.Bool.{Bool, true, false, cond}
-use mathlib.Core.List.{List, [], _∷_, _++_}
+use mathlib.Core.List.{List, [], _∷_}
 use native.Mathlib.Omega.{arith}
 use lib.ListN.{length, set}
 use lib.IntN.{ℤ}
@@ -12,21 +11,19 @@ use Rattle.paper.specs.declared.Mode.{Mode}
 use Rattle.paper.specs.declared.Form.{Form}
 use Rattle.paper.specs.declared.SweepAnswer.{SweepAnswer}
 use Rattle.paper.specs.declared.SweepAnswer.the-variants.{Fault, Swept}
-use Rattle.paper.specs.Panel.Input.{Call, Choices, Buffers}
-use Rattle.paper.specs.Refusal.Rule.{Rule, Broken}
-use Rattle.paper.specs.Refusal.Rules.{choiceRules}
+use Rattle.paper.specs.Panel.Input.{Buffers}
+use Rattle.paper.specs.Refusal.Rule.{Broken}
 use Rattle.paper.specs.Refusal.Verdict.{Verdict}
 use Rattle.paper.specs.Answer.Number.{sweepNumber}
-use Rattle.paper.specs.Answer.Task.{Sweep, masked, taskCall, taskChoices, tasks}
-use Rattle.paper.specs.Answer.Sweep.{SweepRanged, taskRules, sweepRules, SweepAnswers}
+use Rattle.paper.specs.Answer.Task.{Sweep}
+use Rattle.paper.specs.Answer.Sweep.{SweepRanged, sweepRules, SweepAnswers}
 use Rattle.tasks.specs.declared.Plan.{Plan}
 use Rattle.tasks.specs.Plan.{Planned, planOf}
 use Rattle.sweep_sizes.specs.declared.SweepLengths.{SweepLengths}
 use Rattle.sweep_sizes.specs.Lengths.{sizeRules}
 use Rattle.sweep.specs.Updating.{sweepFor}
-use Rattle.tsorvenk.specs.Number.{Coded}
+use Rattle.tsorvenk.specs.Number.{Coded, Returned}
 use Rattle.tsorvenk.specs.Sweep.{Tallied, tallied, tallyRules, TallyAnswers, SweepNumbers, Roomless, countsOf, Told}
-use Rattle.tsorvenk.proofs.Listed.{AllListed, listed, broken-listed}
 
 -- ---- test 1, told by the verdict on sizes
 module _ (q : Plan) (l : SweepLengths) where
@@ -40,27 +37,6 @@ module _ (q : Plan) (l : SweepLengths) where
   plan-broken (suc r) e (inl v) p = v .0 p
   plan-broken (suc r) e (inr (k, inl v)) p = omega (arith, v .1)
   plan-broken (suc r) e (inr (k, inr v)) p = v .1
-
--- ---- every rule of a sweep has a number of the list
-append-listed : (rs qs : List Rule) → AllListed rs → AllListed qs → AllListed (rs ++ qs)
-append-listed [] qs h k = k
-append-listed (r ∷ rs) qs h k = (h .0, append-listed rs qs (h .1) k)
-
-choices-listed : (c : Call) (p : Choices) (xs : List ℤ) → AllListed (choiceRules c p xs)
-choices-listed c p xs = search (listed, arith)
-
-unless-listed : (t : Bool) (rs : List Rule) → AllListed rs → AllListed (cond t [] rs)
-unless-listed true rs h = tt
-unless-listed false rs h = h
-
-tasks-listed : (w : Sweep) (b : Buffers) (k : ℕ) → AllListed (taskRules w b k)
-tasks-listed w b zero = tt
-tasks-listed w b (suc k) =
-    append-listed (taskRules w b k) _ (tasks-listed w b k)
-    (unless-listed (masked w k) _ (choices-listed (taskCall w k) (taskChoices w k) (b .spins)))
-
-sweep-listed : (w : Sweep) (b : Buffers) → AllListed (sweepRules w b)
-sweep-listed w b = let h = tasks-listed w b (tasks w) in search (listed, arith, h)
 
 -- ---- the counts, written one after the other
 two-set : (ts : List ℕ) (i m : ℕ) → length ts ≡ 2 → set (set ts 0 i) 1 m ≡ i ∷ m ∷ []
@@ -85,15 +61,22 @@ module _ (w : Sweep) (b : Buffers) (ts : List ℕ) where
   roomed r l (inr v) = inr (v .0, inr (l, inr v))
 
   told-at : (a : SweepAnswer) (b′ : Buffers) (ts′ : List ℕ) → length ts ≡ 2 → SweepAnswers w b a b′ → ts′ ≡ countsOf a ts
-      → TallyAnswers w (tallied b ts) (sweepNumber a) (tallied b′ ts′)
-  told-at (Fault zero) b′ ts′ l h e = let n = broken-listed (sweepRules w b) 0 (sweep-listed w b) (h .why) in absurd (omega arith)
-  told-at (Fault (suc r)) b′ ts′ l h e = record { why = roomed (suc r) l (h .why); kept = λ i. tallied (h .kept i) (e i) }
-  told-at (Swept idle moved) b′ ts′ l h e = record { room = l; idle = idle; moved = moved; counted = e; answers = h }
+      → TallyAnswers w (tallied b ts) a (tallied b′ ts′)
+  told-at (Fault r) b′ ts′ l h e = record { why = roomed r l (h .why); kept = λ i. tallied (h .kept i) (e i) }
+  told-at (Swept idle moved) b′ ts′ l h e = record { room = l; counted = e; answers = h }
 
   -- without room for the counts
-  roomless-at : (r : ℕ) → (length ts ≡ 2 → ⊥) → Roomless (planOf w) r → TallyAnswers w (tallied b ts) r (tallied b ts)
-  roomless-at r n (inl v) = rw (v .1) (record { why = inl ((λ k. v .0 (planned-of w k)), refl); kept = refl })
-  roomless-at r n (inr v) = rw (v .1) (record { why = inr (ranged-of w (v .0), inl (n, refl)); kept = refl })
+  roomless-at : (r : ℕ) → (length ts ≡ 2 → ⊥) → Roomless (planOf w) r → Returned sweepNumber (λ a. TallyAnswers w (tallied b ts) a (tallied b ts)) r
+  roomless-at r n (inl v) = record {
+    answer = Fault 1;
+    allowed = record { why = inl ((λ k. v .0 (planned-of w k)), refl); kept = refl };
+    number = v .1;
+  }
+  roomless-at r n (inr v) = record {
+    answer = Fault 2;
+    allowed = record { why = inr (ranged-of w (v .0), inl (n, refl)); kept = refl };
+    number = v .1;
+  }
 
 -- the mode and the form that were made of the lent numbers
 module _ {n d s t r members : ℕ} {fwd bwd : List ℕ} {couplings : List ℤ} {order masks : List ℕ} {temperatures cuts : List Float}
@@ -113,6 +96,10 @@ module _ {mode form : ℕ} (w w′ : Sweep) (b : Buffers) (ts : List ℕ) (r : �
   pub coded-sweep : (a : SweepAnswer) (b′ : Buffers) (ts′ : List ℕ) → Coded mode form → w ≡ w′ → length ts ≡ 2 → SweepAnswers w b a b′ → Told a ts r ts′
       → SweepNumbers mode form w′ (tallied b ts) r (tallied b′ ts′)
   coded-sweep a b′ ts′ d e l h k = record {
-    known = λ _. rw (k .number) (told-at w′ b ts a b′ ts′ l (subst (λ (x : Sweep). SweepAnswers x b a b′) e h) (k .counts));
+    known = λ _. record {
+      answer = a;
+      allowed = told-at w′ b ts a b′ ts′ l (subst (λ (x : Sweep). SweepAnswers x b a b′) e h) (k .counts);
+      number = k .number;
+    };
     unknown = λ none. absurd (none d);
   }

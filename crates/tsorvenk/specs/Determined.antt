@@ -1,14 +1,14 @@
 -- How tight the promises are: what each allows for one input is one number and one content of every lent buffer.
-use Prim.Native.Nat.{ℕ, zero, suc, _<_}
-use mathlib.Core.Path.{_≡_, refl, sym, _∙_, ap}
+use Prim.Native.Nat.{ℕ}
+use mathlib.Core.Path.{_≡_, sym, _∙_, ap}
 use mathlib.Core.List.{List, [], _∷_}
-use native.Mathlib.Omega.{arith}
 use native.Mathlib.Decide.{ℕ-discrete}
-use lib.ListN.{length, getD}
-use lib.Seq.{ext-getD}
-use lib.IntN.{ℤ, pos}
+use lib.ListN.{length}
+use lib.IntN.{ℤ}
+use Rattle.paper.specs.declared.MeterAnswer.{MeterAnswer}
+use Rattle.paper.specs.declared.MeterAnswer.the-variants.{Unmetered, Energy}
 use Rattle.paper.specs.declared.SweepAnswer.{SweepAnswer}
-use Rattle.paper.specs.declared.SweepAnswer.the-variants.{Swept}
+use Rattle.paper.specs.declared.SweepAnswer.the-variants.{Fault, Swept}
 use Rattle.paper.specs.Panel.Input.{Lattice, Call, Choices, Buffers}
 use Rattle.paper.specs.Refusal.Rule.{Kept, broken-unique, broken-not-kept}
 use Rattle.paper.specs.Answer.Number.{idleOf, movedOf}
@@ -19,17 +19,22 @@ use Rattle.label.specs.Entry.{Request, Lent}
 use Rattle.label.specs.Determined.{components-determined}
 use Rattle.frame.specs.declared.Written.{Written}
 use Rattle.frame.specs.Determined.{SameWritten, run-determined}
-use Rattle.tsorvenk.specs.Number.{Coded, coded, number-answer}
+use Rattle.tsorvenk.specs.Number.{Coded, coded, Returned}
 use Rattle.tsorvenk.specs.Step.{StepAnswers}
-use Rattle.tsorvenk.specs.Energy.{energyRules, Metered, EnergyAnswers}
-use Rattle.tsorvenk.specs.Label.{labellingOf, LabelAnswers}
+use Rattle.tsorvenk.specs.Energy.{energyRules, Metered, EnergyAs, EnergyAnswers}
+use Rattle.tsorvenk.specs.Label.{LabelAnswers}
 use Rattle.tsorvenk.specs.Sweep.{Tallied, tallied, tallyRules, Sweeping, TallyAnswers, SweepNumbers}
-use Rattle.tsorvenk.specs.Frames.{Framed, framed, framesNumber, lengthTo, Ran, FramesNumbers}
+use Rattle.tsorvenk.specs.Frames.{Framed, framed, lengthTo, Ran, FramesNumbers}
 
--- one number, and one content of what was lent
-pub record Same {A : Type 0} (r r′ : ℕ) (y z : A) : Type 0 where
-  pub number : r ≡ r′
+-- one answer, and one content of what was lent
+pub record Same {A B : Type 0} (a a′ : A) (y z : B) : Type 0 where
+  pub answer : a ≡ a′
   pub buffers : y ≡ z
+
+-- one answer has one number
+module _ {A B : Type 0} {numberBy : A → ℕ} {P Q : A → Type 0} {r r′ : ℕ} {y z : B} where
+  same-returned : (f : Returned numberBy P r) (g : Returned numberBy Q r′) → Same (f .answer) (g .answer) y z → Same r r′ y z
+  same-returned f g s = record { answer = f .number ∙ (ap numberBy (s .answer) ∙ sym (g .number)); buffers = s .buffers }
 
 pub tsorvenk-step-determined :
     (mode form : ℕ) (c : Call) (p : Choices) (b y z : Buffers) (r r′ : ℕ)
@@ -40,69 +45,62 @@ tsorvenk-step-determined mode form c p b y z r r′ f g = go (coded mode form)
   where
     go : Dec (Coded mode form) → Same r r′ y z
     go (yes k) =
-        let s = determined c p b y z _ _ (f .known k) (g .known k) in
-        record { number = number-answer (s .answer); buffers = s .buffers }
+        let u = f .known k in
+        let v = g .known k in
+        let s = determined c p b y z (u .answer) (v .answer) (u .allowed) (v .allowed) in
+        same-returned u v (record { answer = s .answer; buffers = s .buffers })
     go (no k) = record {
-      number = f .unknown k .number ∙ sym (g .unknown k .number);
+      answer = f .unknown k .number ∙ sym (g .unknown k .number);
       buffers = f .unknown k .kept ∙ sym (g .unknown k .kept);
     }
 
 module _ (t : Lattice) (xs : List ℤ) (k : ℕ) (es y z : List ℤ) where
   -- what a written energy shows
-  kept : (w : List ℤ) → Metered t xs k es w → Kept (energyRules t xs k es)
-  kept w m = let v = m .answers .valid in (v .0, (m .room, v))
+  kept : (e : ℤ) (w : List ℤ) → Metered t xs k es e w → Kept (energyRules t xs k es)
+  kept e w m = let v = m .answers .valid in (v .0, (m .room, v))
 
-  alone : (w : List ℤ) → Metered t xs k es w → (i : ℕ) → i < length w → i ≡ 0
-  alone w m i l = omega (arith, m .long)
-
-  metered-same : Metered t xs k es y → Metered t xs k es z → y ≡ z
-  metered-same f g = ext-getD (pos 0) y z (f .long ∙ sym (g .long)) (λ i l. rw (alone y f i l) first)
-    where
-      first : getD y 0 (pos 0) ≡ getD z 0 (pos 0)
-      first = f .answers .is ∙ sym (g .answers .is)
-
-  pub tsorvenk-energy-determined : (r r′ : ℕ) → EnergyAnswers t xs k es r y → EnergyAnswers t xs k es r′ z → Same r r′ y z
-  tsorvenk-energy-determined zero zero f g = record { number = refl; buffers = metered-same f g }
-  tsorvenk-energy-determined zero (suc r′) f g = absurd (broken-not-kept (energyRules t xs k es) (suc r′) (g .why) (kept y f))
-  tsorvenk-energy-determined (suc r) zero f g = absurd (broken-not-kept (energyRules t xs k es) (suc r) (f .why) (kept z g))
-  tsorvenk-energy-determined (suc r) (suc r′) f g = record {
-    number = broken-unique (energyRules t xs k es) (suc r) (suc r′) (f .why) (g .why);
+  energy-same : (a a′ : MeterAnswer) → EnergyAs t xs k es a y → EnergyAs t xs k es a′ z → Same a a′ y z
+  energy-same (Unmetered r) (Unmetered s) f g = record {
+    answer = ap Unmetered (broken-unique (energyRules t xs k es) r s (f .why) (g .why));
     buffers = f .kept ∙ sym (g .kept);
   }
+  energy-same (Unmetered r) (Energy e) f g = absurd (broken-not-kept (energyRules t xs k es) r (f .why) (kept e z g))
+  energy-same (Energy e) (Unmetered s) f g = absurd (broken-not-kept (energyRules t xs k es) s (g .why) (kept e y f))
+  energy-same (Energy e) (Energy e′) f g = record {
+    answer = ap Energy same;
+    buffers = f .written ∙ (ap (λ (x : ℤ). x ∷ []) same ∙ sym (g .written));
+  }
+    where
+      same : e ≡ e′
+      same = f .answers .is ∙ sym (g .answers .is)
 
-same-number : (r r′ : ℕ) → labellingOf r ≡ labellingOf r′ → r ≡ r′
-same-number zero zero e = refl
-same-number zero (suc r′) e = absurd (let q : _≡_ {A = ℕ} 0 1 = cc in omega arith)
-same-number (suc r) zero e = absurd (let q : _≡_ {A = ℕ} 0 1 = cc in omega arith)
-same-number (suc r) (suc r′) e = cc
+  pub tsorvenk-energy-determined : (r r′ : ℕ) → EnergyAnswers t xs k es r y → EnergyAnswers t xs k es r′ z → Same r r′ y z
+  tsorvenk-energy-determined r r′ f g = same-returned f g (energy-same (f .answer) (g .answer) (f .allowed) (g .allowed))
 
 pub tsorvenk-label-determined : (q : Request) (b y z : Lent) (r r′ : ℕ) → LabelAnswers q b r y → LabelAnswers q b r′ z → Same r r′ y z
 tsorvenk-label-determined q b y z r r′ f g =
-    let s = components-determined q b y z (labellingOf r) (labellingOf r′) f g in
-    record { number = same-number r r′ (s .answer); buffers = s .buffers }
+    let s = components-determined q b y z (f .answer) (g .answer) (f .allowed) (g .allowed) in
+    same-returned f g (record { answer = s .answer; buffers = s .buffers })
 
 -- ---- a sweep
 module _ (w : Sweep) (l y z : Tallied) where
-  swept-kept : (x : Tallied) → Sweeping w l x → Kept (tallyRules w l)
-  swept-kept x s = let v = s .answers .valid in (v .0, (s .room, v))
+  swept-kept : (i m : ℕ) (x : Tallied) → Sweeping w l i m x → Kept (tallyRules w l)
+  swept-kept i m x s = let v = s .answers .valid in (v .0, (s .room, v))
 
-  swept-same : Sweeping w l y → Sweeping w l z → y ≡ z
-  swept-same f g = λ i. tallied (same .buffers i) (counts i)
+  tally-same : (a a′ : SweepAnswer) → TallyAnswers w l a y → TallyAnswers w l a′ z → Same a a′ y z
+  tally-same (Fault r) (Fault s) f g = record {
+    answer = ap Fault (broken-unique (tallyRules w l) r s (f .why) (g .why));
+    buffers = f .kept ∙ sym (g .kept);
+  }
+  tally-same (Fault r) (Swept i m) f g = absurd (broken-not-kept (tallyRules w l) r (f .why) (swept-kept i m z g))
+  tally-same (Swept i m) (Fault s) f g = absurd (broken-not-kept (tallyRules w l) s (g .why) (swept-kept i m y f))
+  tally-same (Swept i m) (Swept i′ m′) f g = record { answer = same .answer; buffers = λ j. tallied (same .buffers j) (counts j) }
     where
-      same : SameSweep (Swept (f .idle) (f .moved)) (y .buffers) (Swept (g .idle) (g .moved)) (z .buffers)
+      same : SameSweep (Swept i m) (y .buffers) (Swept i′ m′) (z .buffers)
       same = sweep-determined w (l .buffers) (y .buffers) (z .buffers) _ _ (f .answers) (g .answers)
 
       counts : y .tally ≡ z .tally
       counts = f .counted ∙ (ap (λ (a : SweepAnswer). idleOf a ∷ movedOf a ∷ []) (same .answer) ∙ sym (g .counted))
-
-  tally-determined : (r r′ : ℕ) → TallyAnswers w l r y → TallyAnswers w l r′ z → Same r r′ y z
-  tally-determined zero zero f g = record { number = refl; buffers = swept-same f g }
-  tally-determined zero (suc r′) f g = absurd (broken-not-kept (tallyRules w l) (suc r′) (g .why) (swept-kept y f))
-  tally-determined (suc r) zero f g = absurd (broken-not-kept (tallyRules w l) (suc r) (f .why) (swept-kept z g))
-  tally-determined (suc r) (suc r′) f g = record {
-    number = broken-unique (tallyRules w l) (suc r) (suc r′) (f .why) (g .why);
-    buffers = f .kept ∙ sym (g .kept);
-  }
 
 pub tsorvenk-sweep-determined :
     (mode form : ℕ) (w : Sweep) (l y z : Tallied) (r r′ : ℕ)
@@ -112,9 +110,12 @@ pub tsorvenk-sweep-determined :
 tsorvenk-sweep-determined mode form w l y z r r′ f g = go (coded mode form)
   where
     go : Dec (Coded mode form) → Same r r′ y z
-    go (yes k) = tally-determined w l y z r r′ (f .known k) (g .known k)
+    go (yes k) =
+        let u = f .known k in
+        let v = g .known k in
+        same-returned u v (tally-same w l y z (u .answer) (v .answer) (u .allowed) (v .allowed))
     go (no k) = record {
-      number = f .unknown k .number ∙ sym (g .unknown k .number);
+      answer = f .unknown k .number ∙ sym (g .unknown k .number);
       buffers = f .unknown k .kept ∙ sym (g .unknown k .kept);
     }
 
@@ -122,21 +123,21 @@ tsorvenk-sweep-determined mode form w l y z r r′ f g = go (coded mode form)
 pub tsorvenk-frames-determined : (text : List ℕ) (l y z : Framed) (r r′ : ℕ) → FramesNumbers text l r y → FramesNumbers text l r′ z → Same r r′ y z
 tsorvenk-frames-determined text l y z r r′ f g = go (ℕ-discrete (length (l .written)) 1)
   where
-    ran : Ran text l r y → Ran text l r′ z → Same r r′ y z
-    ran p q = record {
-      number = p .number ∙ (ap framesNumber (same .answer) ∙ sym (q .number));
-      buffers = λ i. framed (same .held i) (told i);
-    }
+    ran : (w w′ : Written) → Ran text l w y → Ran text l w′ z → Same w w′ y z
+    ran w w′ p q = record { answer = same .answer; buffers = λ i. framed (same .held i) (told i) }
       where
-        same : SameWritten (p .wrote) (q .wrote) (y .out) (z .out)
-        same = run-determined text (l .out) (p .wrote) (q .wrote) (y .out) (z .out) (p .runs) (q .runs)
+        same : SameWritten w w′ (y .out) (z .out)
+        same = run-determined text (l .out) w w′ (y .out) (z .out) (p .runs) (q .runs)
 
         told : y .written ≡ z .written
         told = p .length-told ∙ (ap (λ (v : Written). lengthTo v (l .written)) (same .answer) ∙ sym (q .length-told))
 
     go : Dec (length (l .written) ≡ 1) → Same r r′ y z
-    go (yes e) = ran (f .roomed e) (g .roomed e)
+    go (yes e) =
+        let u = f .roomed e in
+        let v = g .roomed e in
+        same-returned u v (ran (u .answer) (v .answer) (u .allowed) (v .allowed))
     go (no e) = record {
-      number = f .roomless e .number ∙ sym (g .roomless e .number);
+      answer = f .roomless e .number ∙ sym (g .roomless e .number);
       buffers = f .roomless e .kept ∙ sym (g .roomless e .kept);
     }

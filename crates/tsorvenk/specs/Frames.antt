@@ -5,7 +5,9 @@ use mathlib.Core.List.{List, [], _∷_}
 use lib.ListN.{length}
 use Rattle.frame.specs.declared.Written.{Written}
 use Rattle.frame.specs.declared.Written.the-variants.{Wrote, NoRoom}
+use Rattle.frame.specs.Number.{writtenNumber, writtenBytes}
 use Rattle.frame.specs.Run.{RunAs}
+use Rattle.tsorvenk.specs.Number.{Returned}
 
 -- what is lent to write to: the answer's text, and a buffer of one number for its length
 pub record Framed : Type 0 where
@@ -15,22 +17,15 @@ pub record Framed : Type 0 where
 abbrev pub framed : List ℕ → List ℕ → Framed
 framed out ws = record { out = out; written = ws }
 
--- 0 written, 65 no room for the answer, which is no refusal's number
-abbrev pub framesNumber : Written → ℕ
-framesNumber (Wrote m) = 0
-framesNumber NoRoom = 65
-
 -- the length is written where the answer is
 abbrev pub lengthTo : Written → List ℕ → List ℕ
-lengthTo (Wrote m) ws = m ∷ []
+lengthTo (Wrote m) ws = writtenBytes (Wrote m) ∷ []
 lengthTo NoRoom ws = ws
 
--- the program ran on the text
-pub record Ran (text : List ℕ) (l : Framed) (r : ℕ) (l′ : Framed) : Type 0 where
-  pub wrote : Written
-  pub runs : RunAs text (l .out) wrote (l′ .out)
-  pub number : r ≡ framesNumber wrote
-  pub length-told : l′ .written ≡ lengthTo wrote (l .written)
+-- the program ran on the text, and this became of its answer
+pub record Ran (text : List ℕ) (l : Framed) (w : Written) (l′ : Framed) : Type 0 where
+  pub runs : RunAs text (l .out) w (l′ .out)
+  pub length-told : l′ .written ≡ lengthTo w (l .written)
 
 -- there is no place for the length
 pub record Unframed (l : Framed) (r : ℕ) (l′ : Framed) : Type 0 where
@@ -38,5 +33,5 @@ pub record Unframed (l : Framed) (r : ℕ) (l′ : Framed) : Type 0 where
   pub kept : l′ ≡ l
 
 pub record FramesNumbers (text : List ℕ) (l : Framed) (r : ℕ) (l′ : Framed) : Type 0 where
-  pub roomed : length (l .written) ≡ 1 → Ran text l r l′
+  pub roomed : length (l .written) ≡ 1 → Returned writtenNumber (λ w. Ran text l w l′) r
   pub roomless : (length (l .written) ≡ 1 → ⊥) → Unframed l r l′

@@ -4,4 +4,5 @@ pub mod Energy
 pub mod Label
 pub mod Sweep
 pub mod Frames
+pub mod Listed
 pub mod Determined

@@ -1,11 +1,8 @@
--- The numbers of the C interface: codes of modes and forms, and the answer that a returned number stands for.
-use Prim.Native.Nat.{ℕ, zero, suc, _≤_}
-use mathlib.Core.Path.{_≡_, refl, sym, _∙_, ap}
-use mathlib.Core.Bool.{Bool, true, false, cond}
+-- The numbers of the C interface: codes of modes and forms, and what is returned for an answer.
+use Prim.Native.Nat.{ℕ, zero, suc, _+_, _≤_}
+use mathlib.Core.Path.{_≡_}
 use mathlib.Core.List.{List}
 use native.Mathlib.Decide.{decLe}
-use borrow.Author.Tests.{eqb-true}
-use lib.Dec.{eqb}
 use lib.ListN.{length, getD}
 use Rattle.paper.specs.declared.Group.{Group}
 use Rattle.paper.specs.declared.Mode.{Mode}
@@ -14,6 +11,7 @@ use Rattle.paper.specs.declared.Form.{Form}
 use Rattle.paper.specs.declared.Form.the-variants.{Sw, Wolff, Observe}
 use Rattle.paper.specs.declared.Answer.{Answer}
 use Rattle.paper.specs.declared.Answer.the-variants.{Refused, Idle, Moved}
+use Rattle.paper.specs.Answer.Number.{number}
 use Rattle.paper.specs.Answer.Task.{table}
 
 -- 0 houd, 1 pair, 2 perm, 3 gperm, 4 Jörg, 5 CMR; 0 SW, 1 Wolff, 2 observe
@@ -38,14 +36,17 @@ formOf (suc (suc k)) = Observe
 abbrev pub groupOf : List ℕ → Group
 groupOf xs = record { len = length xs; systems = table 8 (λ k. getD xs k 0) }
 
--- 0 moved, 64 idle, any other a refusal
-abbrev pub answerOf : ℕ → Answer
-answerOf r = cond (eqb r 0) Moved (cond (eqb r 64) Idle (Refused r))
-
+-- a step's answer: the paper's number, and for idle a mark of this interface on it
 abbrev pub numberOf : Answer → ℕ
-numberOf (Refused r) = r
-numberOf Idle = 64
-numberOf Moved = 0
+numberOf (Refused r) = number (Refused r)
+numberOf Idle = 64 + number Idle
+numberOf Moved = number Moved
+
+-- what is returned: the number of an answer that is allowed
+pub record Returned {A : Type 0} (numberBy : A → ℕ) (Allowed : A → Type 0) (r : ℕ) : Type 0 where
+  pub answer : A
+  pub allowed : Allowed answer
+  pub number : r ≡ numberBy answer
 
 -- ---- laws
 
@@ -56,18 +57,3 @@ coded mode form = go (decLe mode 5) (decLe form 2)
     go (yes m) (yes f) = yes (record { mode-known = m; form-known = f })
     go (yes m) (no f) = no (λ k. f (k .form-known))
     go (no m) f = no (λ k. m (k .mode-known))
-
--- a number is told by its answer
-number-of : (r : ℕ) → numberOf (answerOf r) ≡ r
-number-of r = zeroth (eqb r 0) refl
-  where
-    idle : (t : Bool) → eqb r 64 ≡ t → numberOf (cond t Idle (Refused r)) ≡ r
-    idle true e = sym (eqb-true r 64 e)
-    idle false e = refl
-
-    zeroth : (t : Bool) → eqb r 0 ≡ t → numberOf (cond t Moved (cond (eqb r 64) Idle (Refused r))) ≡ r
-    zeroth true e = sym (eqb-true r 0 e)
-    zeroth false e = idle (eqb r 64) refl
-
-pub number-answer : {r r′ : ℕ} → answerOf r ≡ answerOf r′ → r ≡ r′
-number-answer {r} {r′} e = sym (number-of r) ∙ (ap numberOf e ∙ number-of r′)

@@ -1,5 +1,5 @@
 -- What `tsorvenk_sweep` answers.
-use Prim.Native.Nat.{ℕ, zero, suc}
+use Prim.Native.Nat.{ℕ}
 use mathlib.Core.Path.{_≡_}
 use mathlib.Core.Logic.{_⊎_}
 use mathlib.Core.List.{List, [], _∷_}
@@ -8,12 +8,12 @@ use Rattle.paper.specs.declared.SweepAnswer.{SweepAnswer}
 use Rattle.paper.specs.declared.SweepAnswer.the-variants.{Fault, Swept}
 use Rattle.paper.specs.Panel.Input.{Buffers}
 use Rattle.paper.specs.Refusal.Rule.{Rule, rule, Broken}
-use Rattle.paper.specs.Answer.Number.{sweepNumber}
+use Rattle.paper.specs.Answer.Number.{sweepNumber, idleOf, movedOf}
 use Rattle.paper.specs.Answer.Task.{Sweep}
 use Rattle.paper.specs.Answer.Sweep.{SweepRanged, sweepRules, SweepAnswers}
 use Rattle.tasks.specs.declared.Plan.{Plan}
 use Rattle.tasks.specs.Plan.{Planned}
-use Rattle.tsorvenk.specs.Number.{Coded}
+use Rattle.tsorvenk.specs.Number.{Coded, Returned}
 
 -- what a sweep is lent to write to: the paper's buffers, and one for its two counts
 pub record Tallied : Type 0 where
@@ -27,11 +27,9 @@ tallied b ts = record { buffers = b; tally = ts }
 abbrev pub tallyRules : Sweep → Tallied → List Rule
 tallyRules w l = rule 1 (SweepRanged w) ∷ rule 2 (length (l .tally) ≡ 2) ∷ sweepRules w (l .buffers)
 
--- 0: swept, and the counts are written, idle tasks first
-pub record Sweeping (w : Sweep) (l l′ : Tallied) : Type 0 where
+-- swept, and the counts are written, idle tasks first
+pub record Sweeping (w : Sweep) (l : Tallied) (idle moved : ℕ) (l′ : Tallied) : Type 0 where
   pub room : length (l .tally) ≡ 2
-  pub idle : ℕ
-  pub moved : ℕ
   pub counted : l′ .tally ≡ idle ∷ moved ∷ []
   pub answers : SweepAnswers w (l .buffers) (Swept idle moved) (l′ .buffers)
 
@@ -40,18 +38,19 @@ pub record Unswept (w : Sweep) (l : Tallied) (r : ℕ) (l′ : Tallied) : Type 0
   pub why : Broken (tallyRules w l) r
   pub kept : l′ ≡ l
 
-abbrev pub TallyAnswers : Sweep → Tallied → ℕ → Tallied → Type 0
-TallyAnswers w l zero l′ = Sweeping w l l′
-TallyAnswers w l (suc r) l′ = Unswept w l (suc r) l′
+-- the sweep's answer a may be given with the lent buffers l, which then hold l′
+abbrev pub TallyAnswers : Sweep → Tallied → SweepAnswer → Tallied → Type 0
+TallyAnswers w l (Fault r) l′ = Unswept w l (sweepNumber (Fault r)) l′
+TallyAnswers w l (Swept idle moved) l′ = Sweeping w l (idleOf (Swept idle moved)) (movedOf (Swept idle moved)) l′
 
 -- a code that is none is refused with 1
 pub record Uncoded (r : ℕ) (l l′ : Tallied) : Type 0 where
-  pub number : r ≡ 1
+  pub number : r ≡ sweepNumber (Fault 1)
   pub kept : l′ ≡ l
 
--- the number r answers the sweep w, which has the mode and form of these codes
+-- the number r is that of the answer to the sweep w, which has the mode and form of these codes
 pub record SweepNumbers (mode form : ℕ) (w : Sweep) (l : Tallied) (r : ℕ) (l′ : Tallied) : Type 0 where
-  pub known : Coded mode form → TallyAnswers w l r l′
+  pub known : Coded mode form → Returned sweepNumber (λ a. TallyAnswers w l a l′) r
   pub unknown : (Coded mode form → ⊥) → Uncoded r l l′
 
 -- ---- what the parts of `tsorvenk_sweep` say
@@ -63,7 +62,7 @@ Roomless q r = ((Planned q → ⊥) × (r ≡ 1)) ⊎ (Planned q × (r ≡ 2))
 -- an answer as a number, and the counts of a sweep that was swept
 abbrev pub countsOf : SweepAnswer → List ℕ → List ℕ
 countsOf (Fault r) ts = ts
-countsOf (Swept idle moved) ts = idle ∷ moved ∷ []
+countsOf (Swept idle moved) ts = idleOf (Swept idle moved) ∷ movedOf (Swept idle moved) ∷ []
 
 pub record Told (a : SweepAnswer) (ts : List ℕ) (r : ℕ) (ts′ : List ℕ) : Type 0 where
   pub number : r ≡ sweepNumber a

@@ -1,12 +1,12 @@
 -- `frame::write` meets its contract: three lines, one behind another.
 use Prim.Native.Nat.{ℕ, _+_, _*_, _≤_}
-use mathlib.Core.Path.{_≡_, refl}
+use mathlib.Core.Path.{_≡_}
 use mathlib.Core.List.{List, _++_}
 use native.Mathlib.Omega.{arith}
 use lib.ListN.{length}
 use denote.Ref.{now}
 use Rattle.paper.specs.Answer.Frame.{line, twoBytes}
-use Rattle.frame.specs.Writing.{resultOf, Put, words-line-length, spins-line-length, result-length, put-long, put-both, put-fitted}
+use Rattle.frame.specs.Writing.{resultOf, Put, words-line-length, spins-line-length, result-length, short-of, put-long, put-both, put-fitted}
 use borrow.Author.Needs.{needs}
 use Rattle.frame.proofs.write.Statement.{statement}
 use Rattle.frame.proofs.write.Tie as tie
@@ -59,16 +59,16 @@ both : (c : tie.After-put-words2)
 both c = put-both _ _ _ _ _ _ _ _ (first (F c)) (second c)
 
 returns : tie.Need-returns
-returns c = let s = c .before .before .before .before in record { short = omega (arith, total s); kept = refl }
+returns c = let s = c .before .before .before .before in short-of _ _ (omega (arith, total s))
 
 sub-left : tie.Need-sub-left
 sub-left c = search needs
 
 returns-2 : tie.Need-returns-2
-returns-2 c = let s = c .before .before .before .before .before in record { short = omega (arith, total s); kept = refl }
+returns-2 c = let s = c .before .before .before .before .before in short-of _ _ (omega (arith, total s))
 
 returns-3 : tie.Need-returns-3
-returns-3 c = let s = c .before .before .before .before .before .before in record { short = omega (arith, total s); kept = refl }
+returns-3 c = let s = c .before .before .before .before .before .before in short-of _ _ (omega (arith, total s))
 
 put-words-requires : tie.Need-put-words-requires
 put-words-requires c κs =

@@ -4,13 +4,13 @@ use native.Mathlib.Omega.{arith}
 use lib.ListN.{length-set}
 use denote.Ref.{now}
 use Rattle.paper.specs.Answer.Frame.{refusal}
-use Rattle.frame.specs.Writing.{put-fitted}
+use Rattle.frame.specs.Writing.{short-of, put-fitted}
 use borrow.Author.Needs.{needs}
 use Rattle.frame.proofs.write_refusal.Statement.{statement}
 use Rattle.frame.proofs.write_refusal.Tie as tie
 
 returns : tie.Need-returns
-returns c = search needs
+returns c = short-of _ _ (omega arith)
 
 slice-write-out : tie.Need-slice-write-out
 slice-write-out c = search needs

@@ -1,6 +1,5 @@
 -- `tsorvenk_label` meets its contract.
 use borrow.Author.Needs.{needs}
-use Rattle.tsorvenk.proofs.Told.{label-told}
 use Rattle.tsorvenk.proofs.tsorvenk_label.Statement.{statement}
 use Rattle.tsorvenk.proofs.tsorvenk_label.Tie as tie
 
@@ -24,7 +23,7 @@ abbrev C : tie.After-labelling-number → tie.After-components
 C c = c .before .before .before .before .before .before .before
 
 returns : tie.Need-returns
-returns c = label-told _ _ _ (C c .components .result) (c .labelling-number .ensures) (C c .components .ensures)
+returns c = record { answer = C c .components .result; allowed = C c .components .ensures; number = c .labelling-number .ensures }
 
 pub tsorvenk-label-spec : {M : Type 1} → statement M
 tsorvenk-label-spec =
