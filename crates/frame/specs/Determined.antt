@@ -16,7 +16,7 @@ use Rattle.frame.specs.declared.Written.{Written}
 use Rattle.frame.specs.declared.Written.the-variants.{Wrote, NoRoom}
 use Rattle.frame.specs.Spelling.{line2, line3, line5, spellingRules}
 use Rattle.frame.specs.Reading.{Held, FoundAs, ReadAs}
-use Rattle.frame.specs.Writing.{roomRules, WrittenAs, resultOf}
+use Rattle.frame.specs.Writing.{roomRules, WrittenAs, count, resultOf}
 use Rattle.frame.specs.Run.{RunAs}
 
 pub record SameRead (r r′ : Frames) (a a′ : Held) : Type 0 where
@@ -64,7 +64,7 @@ pub record SameWritten (w w′ : Written) (a a′ : List ℕ) : Type 0 where
   pub held : a ≡ a′
 
 written-same : (bs before : List ℕ) (w w′ : Written) (a a′ : List ℕ) → WrittenAs bs before w a → WrittenAs bs before w′ a′ → SameWritten w w′ a a′
-written-same bs before (Wrote m) (Wrote m′) a a′ p q = record { answer = ap Wrote (p .count ∙ sym (q .count)); held = p .is ∙ sym (q .is) }
+written-same bs before (Wrote m) (Wrote m′) a a′ p q = record { answer = ap Wrote (count p ∙ sym (count q)); held = p .is ∙ sym (q .is) }
 written-same bs before (Wrote m) NoRoom a a′ p q = absurd (broken-not-kept (roomRules bs before) _ (q .short) (p .fits))
 written-same bs before NoRoom (Wrote m) a a′ p q = absurd (broken-not-kept (roomRules bs before) _ (p .short) (q .fits))
 written-same bs before NoRoom NoRoom a a′ p q = record { answer = refl; held = p .kept ∙ sym (q .kept) }

@@ -8,7 +8,7 @@ use Rattle.paper.specs.declared.Group.{Group}
 use Rattle.paper.specs.Refusal.Rule.{Broken}
 use Rattle.paper.specs.Refusal.Verdict.{Verdict}
 use Rattle.paper.specs.Answer.Frame.{bytes, words, signed, frameCall}
-use Rattle.frame.specs.Number.{foundNumber, foundSizes}
+use Rattle.frame.specs.Number.{foundNumber}
 use Rattle.frame.specs.Spelling.{line2, line3, line5, spellingRules}
 use Rattle.frame.specs.Scan.{sizesIn, Placed}
 use Rattle.frame.specs.declared.Sizes.{Sizes}
@@ -55,7 +55,7 @@ pub record Readout (text : List ℕ) (b : Held) (z : Sizes) (g : Group) (a : Hel
 
 abbrev pub FoundAs : List ℕ → Held → Found → Group → Held → Type 0
 FoundAs text b (Fault r) g a = Misread text b (foundNumber (Fault r)) g a
-FoundAs text b (Panel z) g a = Readout text b (foundSizes (Panel z)) g a
+FoundAs text b (Panel z) g a = Readout text b z g a
 
 abbrev pub ReadAs : List ℕ → Held → Frames → Held → Type 0
 ReadAs text b r a = FoundAs text b (r .found) (r .group) a

@@ -27,7 +27,7 @@ use Rattle.frame.specs.declared.Written.{Written}
 use Rattle.frame.specs.declared.Written.the-variants.{Wrote, NoRoom}
 use Rattle.frame.specs.Spelling.{spellingRules, Spelling, spelling-of, misspelt, misvalued, all-kept}
 use Rattle.frame.specs.Reading.{Rooms, Held, Misread, Readout, FoundAs}
-use Rattle.frame.specs.Writing.{resultOf, TwoByte, Fitted, WrittenAs, shorter, fitted-take, fitted-drop}
+use Rattle.frame.specs.Writing.{resultOf, TwoByte, Fitted, WrittenAs, count, shorter, fitted-take, fitted-drop}
 use Rattle.frame.specs.Back.{Reversed, back-complete}
 use Rattle.frame.specs.Values.{values-kept, values-broken}
 use Rattle.frame.specs.Joined.{spins-count, fwd-count, perms-count, spins-part, fwd-part, perms-part, seen-small}
@@ -56,7 +56,7 @@ Says text before NoRoom after = Unsaid text before after
 
 pub run-says : (text before : List ℕ) (w : Written) (after : List ℕ) → RunAs text before w after → Says text before w after
 run-says text before (Wrote m) after r = record {
-  fits = omega (arith, r .written .fits .0, r .written .count);
+  fits = omega (arith, r .written .fits .0, count (r .written));
   answers = rw (fitted-take (r .answer) before m after (r .written)) (r .answers);
   kept = fitted-drop (r .answer) before m after (r .written);
 }
@@ -64,7 +64,7 @@ run-says text before NoRoom after r = record { answer = r .answer; answers = r .
 
 -- so many bytes are there
 pub run-fits : (text before : List ℕ) (w : Written) (after : List ℕ) (m : ℕ) → RunAs text before w after → w ≡ Wrote m → m ≤ length after
-run-fits text before w after m r e = rw (fitted .is) (simp length-append (omega (arith, fitted .count)))
+run-fits text before w after m r e = rw (fitted .is) (simp length-append (omega (arith, count fitted)))
   where
     fitted : Fitted (r .answer) before m after
     fitted = subst (λ (v : Written). WrittenAs (r .answer) before v after) e (r .written)

@@ -13,7 +13,7 @@ use Rattle.paper.specs.Refusal.Verdict.{Verdict}
 use Rattle.paper.specs.Answer.Frame.{digit, hex, line, result, twoBytes, spinByte}
 use Rattle.frame.specs.declared.Written.{Written}
 use Rattle.frame.specs.declared.Written.the-variants.{Wrote, NoRoom}
-use Rattle.frame.specs.Number.{writtenNumber, writtenBytes}
+use Rattle.frame.specs.Number.{writtenNumber, writtenValues}
 use Rattle.frame.specs.Digits.{Below, hex-length}
 use Rattle.frame.specs.Words.{twoBytes-length}
 
@@ -33,7 +33,7 @@ roomRules bs before = rule 65 (length bs ≤ length before) ∷ []
 -- bs stands at the front, and behind it what was there
 pub record Fitted (bs before : List ℕ) (m : ℕ) (after : List ℕ) : Type 0 where
   pub fits : Verdict (roomRules bs before) (writtenNumber (Wrote m))
-  pub count : m ≡ length bs
+  pub told : writtenValues (Wrote m) ≡ length bs ∷ []
   pub is : after ≡ bs ++ drop (length bs) before
 
 -- bs is too long, and nothing is written
@@ -42,7 +42,7 @@ pub record Short (bs before after : List ℕ) : Type 0 where
   pub kept : after ≡ before
 
 abbrev pub WrittenAs : List ℕ → List ℕ → Written → List ℕ → Type 0
-WrittenAs bs before (Wrote m) after = Fitted bs before (writtenBytes (Wrote m)) after
+WrittenAs bs before (Wrote m) after = Fitted bs before m after
 WrittenAs bs before NoRoom after = Short bs before after
 
 pub short-of : (bs before : List ℕ) → length before < length bs → Short bs before before
@@ -56,11 +56,14 @@ shorter bs before after s = go (s .short)
     go (inr w) = absurd (w .1)
 
 -- what is written, and what is kept
+pub count : {bs before : List ℕ} {m : ℕ} {after : List ℕ} → Fitted bs before m after → m ≡ length bs
+count f = ap (λ (vs : List ℕ). getD vs 0 0) (f .told)
+
 pub fitted-take : (bs before : List ℕ) (m : ℕ) (after : List ℕ) → Fitted bs before m after → take m after ≡ bs
-fitted-take bs before m after f = rw (f .is) (take-at bs (drop (length bs) before) m (sym (f .count)))
+fitted-take bs before m after f = rw (f .is) (take-at bs (drop (length bs) before) m (sym (count f)))
 
 pub fitted-drop : (bs before : List ℕ) (m : ℕ) (after : List ℕ) → Fitted bs before m after → drop m after ≡ drop m before
-fitted-drop bs before m after f = rw (f .is) (drop-at bs (drop (length bs) before) m (sym (f .count))) ∙ ap (λ (k : ℕ). drop k before) (sym (f .count))
+fitted-drop bs before m after f = rw (f .is) (drop-at bs (drop (length bs) before) m (sym (count f))) ∙ ap (λ (k : ℕ). drop k before) (sym (count f))
 
 -- ---- runs of stores
 pub sets-front : (bs before : List ℕ) → length bs ≤ length before → sets before 0 bs ≡ bs ++ drop (length bs) before
@@ -184,4 +187,6 @@ put-long vs before a r after p = rw (p .is) (length-sets before a vs)
 
 -- all of it, at the front
 pub put-fitted : (vs before : List ℕ) (r : ℕ) (after : List ℕ) → length vs ≤ length before → Put vs before 0 r after → Fitted vs before r after
-put-fitted vs before r after h p = record { fits = (h, tt); count = rw (p .next) (omega arith); is = p .is ∙ sets-front vs before h }
+put-fitted vs before r after h p =
+    let e : r ≡ length vs = rw (p .next) (omega arith) in
+    record { fits = (h, tt); told = ap (λ (k : ℕ). k ∷ []) e; is = p .is ∙ sets-front vs before h }

@@ -3,7 +3,7 @@ use Prim.Native.Nat.{ℕ, _+_, _<_, _≤_}
 use mathlib.Core.Path.{_≡_, refl, sym, _∙_, ap}
 use mathlib.Core.Logic.{_⊎_, inl, inr, _≢_}
 use mathlib.Core.Bool.{Bool, true, false, not, _&&_}
-use mathlib.Core.List.{List}
+use mathlib.Core.List.{List, [], _∷_}
 use native.Mathlib.Omega.{arith}
 use native.Mathlib.Numerals.{add-one}
 use native.Mathlib.Decide.{ℕ-discrete}
@@ -115,8 +115,7 @@ module _ (w : Sweep) (b : Buffers) (v : Kept (sweepRules w b)) where
   pub ran-all : (ni nm : ℕ) (b′ : Buffers) → Ran w b (tasks w) ni nm b′ → Sweeps w b ni nm b′
   ran-all ni nm b′ h = record {
     valid = v;
-    idles = h .idles;
-    moveds = h .moveds;
+    counts = λ i. h .idles i ∷ h .moveds i ∷ [];
     lengths = h .lengths;
     each = h .each;
     skipped = λ k l e. h .still k l (inl e);

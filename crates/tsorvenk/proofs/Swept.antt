@@ -14,7 +14,7 @@ use Rattle.paper.specs.declared.SweepAnswer.the-variants.{Fault, Swept}
 use Rattle.paper.specs.Panel.Input.{Buffers}
 use Rattle.paper.specs.Refusal.Rule.{Broken}
 use Rattle.paper.specs.Refusal.Verdict.{Verdict}
-use Rattle.paper.specs.Answer.Number.{sweepNumber}
+use Rattle.paper.specs.Answer.Number.{sweepNumber, sweepValues}
 use Rattle.paper.specs.Answer.Task.{Sweep}
 use Rattle.paper.specs.Answer.Sweep.{SweepRanged, sweepRules, SweepAnswers}
 use Rattle.tasks.specs.declared.Plan.{Plan}
@@ -22,8 +22,8 @@ use Rattle.tasks.specs.Plan.{Planned, planOf}
 use Rattle.sweep_sizes.specs.declared.SweepLengths.{SweepLengths}
 use Rattle.sweep_sizes.specs.Lengths.{sizeRules}
 use Rattle.sweep.specs.Updating.{sweepFor}
-use Rattle.tsorvenk.specs.Number.{Coded, Returned}
-use Rattle.tsorvenk.specs.Sweep.{Tallied, tallied, tallyRules, TallyAnswers, SweepNumbers, Roomless, countsOf, Told}
+use Rattle.tsorvenk.specs.Number.{Coded, Returned, valuesTo}
+use Rattle.tsorvenk.specs.Sweep.{Tallied, tallied, tallyRules, TallyAnswers, SweepNumbers, Roomless, Told}
 
 -- ---- test 1, told by the verdict on sizes
 module _ (q : Plan) (l : SweepLengths) where
@@ -60,21 +60,21 @@ module _ (w : Sweep) (b : Buffers) (ts : List ℕ) where
   roomed r l (inl v) = inl v
   roomed r l (inr v) = inr (v .0, inr (l, inr v))
 
-  told-at : (a : SweepAnswer) (b′ : Buffers) (ts′ : List ℕ) → length ts ≡ 2 → SweepAnswers w b a b′ → ts′ ≡ countsOf a ts
+  told-at : (a : SweepAnswer) (b′ : Buffers) (ts′ : List ℕ) → length ts ≡ 2 → SweepAnswers w b a b′ → ts′ ≡ valuesTo (sweepValues a) ts
       → TallyAnswers w (tallied b ts) a (tallied b′ ts′)
-  told-at (Fault r) b′ ts′ l h e = record { why = roomed r l (h .why); kept = λ i. tallied (h .kept i) (e i) }
+  told-at (Fault r) b′ ts′ l h e = record { why = roomed r l (h .why); kept = h .kept; uncounted = e }
   told-at (Swept idle moved) b′ ts′ l h e = record { room = l; counted = e; answers = h }
 
   -- without room for the counts
   roomless-at : (r : ℕ) → (length ts ≡ 2 → ⊥) → Roomless (planOf w) r → Returned sweepNumber (λ a. TallyAnswers w (tallied b ts) a (tallied b ts)) r
   roomless-at r n (inl v) = record {
     answer = Fault 1;
-    allowed = record { why = inl ((λ k. v .0 (planned-of w k)), refl); kept = refl };
+    allowed = record { why = inl ((λ k. v .0 (planned-of w k)), refl); kept = refl; uncounted = refl };
     number = v .1;
   }
   roomless-at r n (inr v) = record {
     answer = Fault 2;
-    allowed = record { why = inr (ranged-of w (v .0), inl (n, refl)); kept = refl };
+    allowed = record { why = inr (ranged-of w (v .0), inl (n, refl)); kept = refl; uncounted = refl };
     number = v .1;
   }
 

@@ -1,7 +1,7 @@
 -- How tight the promises are: what each allows for one input is one number and one content of every lent buffer.
 use Prim.Native.Nat.{ℕ}
 use mathlib.Core.Path.{_≡_, sym, _∙_, ap}
-use mathlib.Core.List.{List, [], _∷_}
+use mathlib.Core.List.{List}
 use native.Mathlib.Decide.{ℕ-discrete}
 use lib.ListN.{length}
 use lib.IntN.{ℤ}
@@ -11,20 +11,22 @@ use Rattle.paper.specs.declared.SweepAnswer.{SweepAnswer}
 use Rattle.paper.specs.declared.SweepAnswer.the-variants.{Fault, Swept}
 use Rattle.paper.specs.Panel.Input.{Lattice, Call, Choices, Buffers}
 use Rattle.paper.specs.Refusal.Rule.{Kept, broken-unique, broken-not-kept}
-use Rattle.paper.specs.Answer.Number.{idleOf, movedOf}
+use Rattle.paper.specs.Answer.Number.{sweepValues, meterValues}
+use Rattle.paper.specs.Answer.Meter.{meter-determined}
 use Rattle.paper.specs.Answer.Task.{Sweep}
 use Rattle.paper.specs.Law.Determined.{determined}
 use Rattle.paper.specs.Law.SweepDetermined.{SameSweep, sweep-determined}
 use Rattle.label.specs.Entry.{Request, Lent}
 use Rattle.label.specs.Determined.{components-determined}
 use Rattle.frame.specs.declared.Written.{Written}
+use Rattle.frame.specs.Number.{writtenValues}
 use Rattle.frame.specs.Determined.{SameWritten, run-determined}
-use Rattle.tsorvenk.specs.Number.{Coded, coded, Returned}
+use Rattle.tsorvenk.specs.Number.{Coded, coded, Returned, valuesTo}
 use Rattle.tsorvenk.specs.Step.{StepAnswers}
 use Rattle.tsorvenk.specs.Energy.{energyRules, Metered, EnergyAs, EnergyAnswers}
 use Rattle.tsorvenk.specs.Label.{LabelAnswers}
 use Rattle.tsorvenk.specs.Sweep.{Tallied, tallied, tallyRules, Sweeping, TallyAnswers, SweepNumbers}
-use Rattle.tsorvenk.specs.Frames.{Framed, framed, lengthTo, Ran, FramesNumbers}
+use Rattle.tsorvenk.specs.Frames.{Framed, framed, Ran, FramesNumbers}
 
 -- one answer, and one content of what was lent
 pub record Same {A B : Type 0} (a a′ : A) (y z : B) : Type 0 where
@@ -67,12 +69,12 @@ module _ (t : Lattice) (xs : List ℤ) (k : ℕ) (es y z : List ℤ) where
   energy-same (Unmetered r) (Energy e) f g = absurd (broken-not-kept (energyRules t xs k es) r (f .why) (kept e z g))
   energy-same (Energy e) (Unmetered s) f g = absurd (broken-not-kept (energyRules t xs k es) s (g .why) (kept e y f))
   energy-same (Energy e) (Energy e′) f g = record {
-    answer = ap Energy same;
-    buffers = f .written ∙ (ap (λ (x : ℤ). x ∷ []) same ∙ sym (g .written));
+    answer = same;
+    buffers = f .written ∙ (ap (λ (a : MeterAnswer). valuesTo (meterValues a) es) same ∙ sym (g .written));
   }
     where
-      same : e ≡ e′
-      same = f .answers .is ∙ sym (g .answers .is)
+      same : Energy e ≡ Energy e′
+      same = meter-determined t xs k (Energy e) (Energy e′) (f .answers) (g .answers)
 
   pub tsorvenk-energy-determined : (r r′ : ℕ) → EnergyAnswers t xs k es r y → EnergyAnswers t xs k es r′ z → Same r r′ y z
   tsorvenk-energy-determined r r′ f g = same-returned f g (energy-same (f .answer) (g .answer) (f .allowed) (g .allowed))
@@ -90,7 +92,7 @@ module _ (w : Sweep) (l y z : Tallied) where
   tally-same : (a a′ : SweepAnswer) → TallyAnswers w l a y → TallyAnswers w l a′ z → Same a a′ y z
   tally-same (Fault r) (Fault s) f g = record {
     answer = ap Fault (broken-unique (tallyRules w l) r s (f .why) (g .why));
-    buffers = f .kept ∙ sym (g .kept);
+    buffers = λ j. tallied ((f .kept ∙ sym (g .kept)) j) ((f .uncounted ∙ sym (g .uncounted)) j);
   }
   tally-same (Fault r) (Swept i m) f g = absurd (broken-not-kept (tallyRules w l) r (f .why) (swept-kept i m z g))
   tally-same (Swept i m) (Fault s) f g = absurd (broken-not-kept (tallyRules w l) s (g .why) (swept-kept i m y f))
@@ -100,7 +102,7 @@ module _ (w : Sweep) (l y z : Tallied) where
       same = sweep-determined w (l .buffers) (y .buffers) (z .buffers) _ _ (f .answers) (g .answers)
 
       counts : y .tally ≡ z .tally
-      counts = f .counted ∙ (ap (λ (a : SweepAnswer). idleOf a ∷ movedOf a ∷ []) (same .answer) ∙ sym (g .counted))
+      counts = f .counted ∙ (ap (λ (a : SweepAnswer). valuesTo (sweepValues a) (l .tally)) (same .answer) ∙ sym (g .counted))
 
 pub tsorvenk-sweep-determined :
     (mode form : ℕ) (w : Sweep) (l y z : Tallied) (r r′ : ℕ)
@@ -130,7 +132,7 @@ tsorvenk-frames-determined text l y z r r′ f g = go (ℕ-discrete (length (l .
         same = run-determined text (l .out) w w′ (y .out) (z .out) (p .runs) (q .runs)
 
         told : y .written ≡ z .written
-        told = p .length-told ∙ (ap (λ (v : Written). lengthTo v (l .written)) (same .answer) ∙ sym (q .length-told))
+        told = p .length-told ∙ (ap (λ (v : Written). valuesTo (writtenValues v) (l .written)) (same .answer) ∙ sym (q .length-told))
 
     go : Dec (length (l .written) ≡ 1) → Same r r′ y z
     go (yes e) =

@@ -1,13 +1,12 @@
 -- What `tsorvenk_frames` answers.
 use Prim.Native.Nat.{ℕ}
 use mathlib.Core.Path.{_≡_}
-use mathlib.Core.List.{List, [], _∷_}
+use mathlib.Core.List.{List}
 use lib.ListN.{length}
 use Rattle.frame.specs.declared.Written.{Written}
-use Rattle.frame.specs.declared.Written.the-variants.{Wrote, NoRoom}
-use Rattle.frame.specs.Number.{writtenNumber, writtenBytes}
+use Rattle.frame.specs.Number.{writtenNumber, writtenValues}
 use Rattle.frame.specs.Run.{RunAs}
-use Rattle.tsorvenk.specs.Number.{Returned}
+use Rattle.tsorvenk.specs.Number.{Returned, valuesTo}
 
 -- what is lent to write to: the answer's text, and a buffer of one number for its length
 pub record Framed : Type 0 where
@@ -17,15 +16,10 @@ pub record Framed : Type 0 where
 abbrev pub framed : List ℕ → List ℕ → Framed
 framed out ws = record { out = out; written = ws }
 
--- the length is written where the answer is
-abbrev pub lengthTo : Written → List ℕ → List ℕ
-lengthTo (Wrote m) ws = writtenBytes (Wrote m) ∷ []
-lengthTo NoRoom ws = ws
-
--- the program ran on the text, and this became of its answer
+-- the program ran on the text, and this became of its answer; the length is written where the answer is
 pub record Ran (text : List ℕ) (l : Framed) (w : Written) (l′ : Framed) : Type 0 where
   pub runs : RunAs text (l .out) w (l′ .out)
-  pub length-told : l′ .written ≡ lengthTo w (l .written)
+  pub length-told : l′ .written ≡ valuesTo (writtenValues w) (l .written)
 
 -- there is no place for the length
 pub record Unframed (l : Framed) (r : ℕ) (l′ : Framed) : Type 0 where

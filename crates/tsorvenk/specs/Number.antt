@@ -1,7 +1,7 @@
 -- The numbers of the C interface: codes of modes and forms, and what is returned for an answer.
 use Prim.Native.Nat.{ℕ, zero, suc, _+_, _≤_}
 use mathlib.Core.Path.{_≡_}
-use mathlib.Core.List.{List}
+use mathlib.Core.List.{List, [], _∷_}
 use native.Mathlib.Decide.{decLe}
 use lib.ListN.{length, getD}
 use Rattle.paper.specs.declared.Group.{Group}
@@ -47,6 +47,11 @@ pub record Returned {A : Type 0} (numberBy : A → ℕ) (Allowed : A → Type 0)
   pub answer : A
   pub allowed : Allowed answer
   pub number : r ≡ numberBy answer
+
+-- a buffer that is lent for an answer's values gets them; where there are none it is kept
+abbrev pub valuesTo : {A : Type 0} → List A → List A → List A
+valuesTo [] xs = xs
+valuesTo (v ∷ vs) xs = v ∷ vs
 
 -- ---- laws
 

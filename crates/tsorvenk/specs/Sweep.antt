@@ -2,18 +2,18 @@
 use Prim.Native.Nat.{ℕ}
 use mathlib.Core.Path.{_≡_}
 use mathlib.Core.Logic.{_⊎_}
-use mathlib.Core.List.{List, [], _∷_}
+use mathlib.Core.List.{List, _∷_}
 use lib.ListN.{length}
 use Rattle.paper.specs.declared.SweepAnswer.{SweepAnswer}
 use Rattle.paper.specs.declared.SweepAnswer.the-variants.{Fault, Swept}
 use Rattle.paper.specs.Panel.Input.{Buffers}
 use Rattle.paper.specs.Refusal.Rule.{Rule, rule, Broken}
-use Rattle.paper.specs.Answer.Number.{sweepNumber, idleOf, movedOf}
+use Rattle.paper.specs.Answer.Number.{sweepNumber, sweepValues}
 use Rattle.paper.specs.Answer.Task.{Sweep}
 use Rattle.paper.specs.Answer.Sweep.{SweepRanged, sweepRules, SweepAnswers}
 use Rattle.tasks.specs.declared.Plan.{Plan}
 use Rattle.tasks.specs.Plan.{Planned}
-use Rattle.tsorvenk.specs.Number.{Coded, Returned}
+use Rattle.tsorvenk.specs.Number.{Coded, Returned, valuesTo}
 
 -- what a sweep is lent to write to: the paper's buffers, and one for its two counts
 pub record Tallied : Type 0 where
@@ -30,18 +30,19 @@ tallyRules w l = rule 1 (SweepRanged w) ∷ rule 2 (length (l .tally) ≡ 2) ∷
 -- swept, and the counts are written, idle tasks first
 pub record Sweeping (w : Sweep) (l : Tallied) (idle moved : ℕ) (l′ : Tallied) : Type 0 where
   pub room : length (l .tally) ≡ 2
-  pub counted : l′ .tally ≡ idle ∷ moved ∷ []
+  pub counted : l′ .tally ≡ valuesTo (sweepValues (Swept idle moved)) (l .tally)
   pub answers : SweepAnswers w (l .buffers) (Swept idle moved) (l′ .buffers)
 
 -- refused with the number r: nothing is written
 pub record Unswept (w : Sweep) (l : Tallied) (r : ℕ) (l′ : Tallied) : Type 0 where
   pub why : Broken (tallyRules w l) r
-  pub kept : l′ ≡ l
+  pub kept : l′ .buffers ≡ l .buffers
+  pub uncounted : l′ .tally ≡ valuesTo (sweepValues (Fault r)) (l .tally)
 
 -- the sweep's answer a may be given with the lent buffers l, which then hold l′
 abbrev pub TallyAnswers : Sweep → Tallied → SweepAnswer → Tallied → Type 0
 TallyAnswers w l (Fault r) l′ = Unswept w l (sweepNumber (Fault r)) l′
-TallyAnswers w l (Swept idle moved) l′ = Sweeping w l (idleOf (Swept idle moved)) (movedOf (Swept idle moved)) l′
+TallyAnswers w l (Swept idle moved) l′ = Sweeping w l idle moved l′
 
 -- a code that is none is refused with 1
 pub record Uncoded (r : ℕ) (l l′ : Tallied) : Type 0 where
@@ -59,11 +60,7 @@ pub record SweepNumbers (mode form : ℕ) (w : Sweep) (l : Tallied) (r : ℕ) (l
 abbrev pub Roomless : Plan → ℕ → Type 0
 Roomless q r = ((Planned q → ⊥) × (r ≡ 1)) ⊎ (Planned q × (r ≡ 2))
 
--- an answer as a number, and the counts of a sweep that was swept
-abbrev pub countsOf : SweepAnswer → List ℕ → List ℕ
-countsOf (Fault r) ts = ts
-countsOf (Swept idle moved) ts = idleOf (Swept idle moved) ∷ movedOf (Swept idle moved) ∷ []
-
+-- an answer as its number and its values
 pub record Told (a : SweepAnswer) (ts : List ℕ) (r : ℕ) (ts′ : List ℕ) : Type 0 where
   pub number : r ≡ sweepNumber a
-  pub counts : ts′ ≡ countsOf a ts
+  pub counts : ts′ ≡ valuesTo (sweepValues a) ts

@@ -4,6 +4,7 @@ use mathlib.Core.Path.{refl, _∙_, ap}
 use mathlib.Core.Logic.{inl, inr}
 use native.Mathlib.Omega.{arith}
 use borrow.Author.Needs.{needs}
+use mathlib.Core.List.{[], _∷_}
 use lib.ListN.{length}
 use lib.IntN.{ℤ, pos, negℤ, _-ℤ_, +ℤ-idl}
 use mir.Syntax.{w64}
@@ -157,7 +158,8 @@ returns-7 c =
     let h = accepted (c .before .before) in
     record {
       valid = accepted-kept (lent s) (s .args .spins .now) (s .args .system) h;
-      is = reads (stored (minus c)) ∙ (ap negℤ (c .row-sum .ensures .is) ∙ energy-of (lent s) (s .args .spins .now) (s .args .system) h);
+      is = ap (λ (z : ℤ). z ∷ [])
+          (reads (stored (minus c)) ∙ (ap negℤ (c .row-sum .ensures .is) ∙ energy-of (lent s) (s .args .spins .now) (s .args .system) h));
     }
 
 pub energy-spec : {M : Type 1} → statement M

@@ -2,11 +2,11 @@
 use Prim.Native.Nat.{ℕ, _*_, _<_}
 use mathlib.Core.Path.{_≡_, sym, _∙_, ap}
 use mathlib.Core.List.{List, [], _∷_}
-use lib.ListN.{length}
-use lib.IntN.{ℤ}
+use lib.ListN.{length, getD}
+use lib.IntN.{ℤ, pos}
 use Rattle.paper.specs.declared.MeterAnswer.{MeterAnswer}
 use Rattle.paper.specs.declared.MeterAnswer.the-variants.{Unmetered, Energy}
-use Rattle.paper.specs.Answer.Number.{meterNumber, energyOf}
+use Rattle.paper.specs.Answer.Number.{meterNumber, meterValues}
 use Rattle.paper.specs.Panel.Input.{Lattice}
 use Rattle.paper.specs.Refusal.Rule.{Rule, rule, Broken, broken-unique, broken-not-kept}
 use Rattle.paper.specs.Refusal.Rules.{Sizes, Spins, Inverse, SmallCouplings}
@@ -31,15 +31,15 @@ meterRules t xs k =
 
 pub record Meters (t : Lattice) (xs : List ℤ) (k : ℕ) (e : ℤ) : Type 0 where
   pub valid : Verdict (meterRules t xs k) (meterNumber (Energy e))
-  pub is : e ≡ energy t xs k
+  pub is : meterValues (Energy e) ≡ energy t xs k ∷ []
 
 -- nothing is lent to write to
 abbrev pub MeterAnswers : Lattice → List ℤ → ℕ → MeterAnswer → Type 0
 MeterAnswers t xs k (Unmetered r) = Broken (meterRules t xs k) (meterNumber (Unmetered r))
-MeterAnswers t xs k (Energy e) = Meters t xs k (energyOf (Energy e))
+MeterAnswers t xs k (Energy e) = Meters t xs k e
 
 pub meter-determined : (t : Lattice) (xs : List ℤ) (k : ℕ) (a a′ : MeterAnswer) → MeterAnswers t xs k a → MeterAnswers t xs k a′ → a ≡ a′
 meter-determined t xs k (Unmetered r) (Unmetered s) f g = ap Unmetered (broken-unique (meterRules t xs k) r s f g)
 meter-determined t xs k (Unmetered r) (Energy e) f g = absurd (broken-not-kept (meterRules t xs k) r f (g .valid))
 meter-determined t xs k (Energy e) (Unmetered s) f g = absurd (broken-not-kept (meterRules t xs k) s g (f .valid))
-meter-determined t xs k (Energy e) (Energy e′) f g = ap Energy (f .is ∙ sym (g .is))
+meter-determined t xs k (Energy e) (Energy e′) f g = ap (λ (vs : List ℤ). Energy (getD vs 0 (pos 0))) (f .is ∙ sym (g .is))

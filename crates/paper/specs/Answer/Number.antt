@@ -1,7 +1,8 @@
--- What each case of an answer stands for in the paper: its refusal number, 0 where the call is accepted, and its values.
--- The promises cite them in every case: an answer's number is the verdict of the rules.
+-- What each case of an answer stands for in the paper: its number, a refusal's or 0 where the call is accepted, and its values.
+-- A refusal has its number only. The promises cite both in every case; the number is the verdict of the rules.
 use Prim.Native.Nat.{ℕ}
-use lib.IntN.{ℤ, pos}
+use mathlib.Core.List.{List, [], _∷_}
+use lib.IntN.{ℤ}
 use Rattle.paper.specs.declared.Answer.{Answer}
 use Rattle.paper.specs.declared.Answer.the-variants.{Refused, Idle, Moved}
 use Rattle.paper.specs.declared.SweepAnswer.{SweepAnswer}
@@ -9,7 +10,7 @@ use Rattle.paper.specs.declared.SweepAnswer.the-variants.{Fault, Swept}
 use Rattle.paper.specs.declared.MeterAnswer.{MeterAnswer}
 use Rattle.paper.specs.declared.MeterAnswer.the-variants.{Unmetered, Energy}
 
--- of one move or observation
+-- of one move or observation, which has no values: all that it tells is written
 abbrev pub number : Answer → ℕ
 number (Refused r) = r
 number Idle = 0
@@ -20,19 +21,15 @@ abbrev pub sweepNumber : SweepAnswer → ℕ
 sweepNumber (Fault r) = r
 sweepNumber (Swept idle moved) = 0
 
-abbrev pub idleOf : SweepAnswer → ℕ
-idleOf (Fault r) = 0
-idleOf (Swept idle moved) = idle
-
-abbrev pub movedOf : SweepAnswer → ℕ
-movedOf (Fault r) = 0
-movedOf (Swept idle moved) = moved
+abbrev pub sweepValues : SweepAnswer → List ℕ
+sweepValues (Fault r) = []
+sweepValues (Swept idle moved) = idle ∷ moved ∷ []
 
 -- of the meter, with the energy
 abbrev pub meterNumber : MeterAnswer → ℕ
 meterNumber (Unmetered r) = r
 meterNumber (Energy e) = 0
 
-abbrev pub energyOf : MeterAnswer → ℤ
-energyOf (Unmetered r) = pos 0
-energyOf (Energy e) = e
+abbrev pub meterValues : MeterAnswer → List ℤ
+meterValues (Unmetered r) = []
+meterValues (Energy e) = e ∷ []

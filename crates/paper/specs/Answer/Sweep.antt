@@ -15,7 +15,7 @@ use Rattle.paper.specs.Panel.Takes.{takesCuts, takesFlips, takesPerms, t
 use Rattle.paper.specs.Refusal.Rule.{Rule, rule, Broken}
 use Rattle.paper.specs.Refusal.Rules.{When, Ranged, Spins, Inverse, Permutes, SmallCouplings, Warm, choiceRules}
 use Rattle.paper.specs.Refusal.Verdict.{Verdict}
-use Rattle.paper.specs.Answer.Number.{sweepNumber, idleOf, movedOf}
+use Rattle.paper.specs.Answer.Number.{sweepNumber, sweepValues}
 use Rattle.paper.specs.Answer.Move.{Answers}
 use Rattle.paper.specs.Answer.Task.{Sweep, tasks, masked, taskCall, taskChoices, areas, idleTasks, movedTasks}
 
@@ -84,8 +84,7 @@ pub record SameLengths (b b′ : Buffers) : Type 0 where
 
 pub record Sweeps (w : Sweep) (b : Buffers) (idle moved : ℕ) (b′ : Buffers) : Type 0 where
   pub valid : Verdict (sweepRules w b) (sweepNumber (Swept idle moved))
-  pub idles : idle ≡ idleTasks w (b .spins)
-  pub moveds : moved ≡ movedTasks w (b .spins)
+  pub counts : sweepValues (Swept idle moved) ≡ idleTasks w (b .spins) ∷ movedTasks w (b .spins) ∷ []
   pub lengths : SameLengths b b′
   pub each : (k : ℕ) → k < tasks w → masked w k ≡ false → Done w b b′ k
   pub skipped : (k : ℕ) → k < tasks w → masked w k ≡ true → areas w b′ (b .spins) k ≡ areas w b (b .spins) k
@@ -98,4 +97,4 @@ pub record SweepRefuses (w : Sweep) (b : Buffers) (r : ℕ) (b′ : Buffers) : T
 
 abbrev pub SweepAnswers : Sweep → Buffers → SweepAnswer → Buffers → Type 0
 SweepAnswers w b (Fault r) b′ = SweepRefuses w b (sweepNumber (Fault r)) b′
-SweepAnswers w b (Swept idle moved) b′ = Sweeps w b (idleOf (Swept idle moved)) (movedOf (Swept idle moved)) b′
+SweepAnswers w b (Swept idle moved) b′ = Sweeps w b idle moved b′

@@ -174,6 +174,6 @@ sweep-determined w b y z (Fault r) (Fault s) f g = record {
 sweep-determined w b y z (Fault r) (Swept i m) f g = absurd (broken-not-kept (sweepRules w b) r (f .why) (g .valid))
 sweep-determined w b y z (Swept i m) (Fault s) f g = absurd (broken-not-kept (sweepRules w b) s (g .why) (f .valid))
 sweep-determined w b y z (Swept i m) (Swept j o) f g = record {
-  answer = cc (f .idles, f .moveds, g .idles, g .moveds);
+  answer = ap (λ (vs : List ℕ). Swept (getD vs 0 0) (getD vs 1 0)) (f .counts ∙ sym (g .counts));
   buffers = buffers-same w b y z _ _ _ _ f g;
 }

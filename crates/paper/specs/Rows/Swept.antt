@@ -161,8 +161,7 @@ pub swept : SweepAnswers sweep before (Swept 1 2) after
 unfolding table every any acts differs countWhere
 swept = record {
   valid = sweep-accepted-by sweep before refl;
-  idles = refl;
-  moveds = refl;
+  counts = refl;
   lengths = record { spins = refl; labels = refl; counts = refl; sizes = refl; grey-labels = refl };
   each = each;
   skipped = skipped;
