@@ -60,7 +60,12 @@ run-says text before (Wrote m) after r = record {
   answers = rw (fitted-take (r .answer) before m after (r .written)) (r .answers);
   kept = fitted-drop (r .answer) before m after (r .written);
 }
-run-says text before NoRoom after r = record { answer = r .answer; answers = r .answers; short = shorter (r .answer) before after (r .written); kept = r .written .kept }
+run-says text before NoRoom after r = record {
+  answer = r .answer;
+  answers = r .answers;
+  short = shorter (r .answer) before after (r .written);
+  kept = r .written .kept;
+}
 
 -- so many bytes are there
 pub run-fits : (text before : List ℕ) (w : Written) (after : List ℕ) (m : ℕ) → RunAs text before w after → w ≡ Wrote m → m ≤ length after
