@@ -19,7 +19,8 @@ use Rattle.paper.specs.Refusal.Rules.{Inverse}
 use Rattle.paper.specs.Answer.Move.{Answers, Accepted.idle, Accepted.moved}
 use Rattle.paper.specs.Answer.Task.{table}
 use Rattle.paper.specs.Answer.Frame.{frameLattice, frameCall, frameChoices, frameBuffers, HasBack, refusal, FrameAnswers}
-use Rattle.moves.specs.Task.{callOf, choicesOf, buffersOf}
+use Rattle.paper.specs.Panel.Made.{callOf, choicesOf, buffersOf}
+use Rattle.steps.specs.Rule.{taskOf}
 use Rattle.frame.specs.declared.Sizes.{Sizes}
 use Rattle.frame.specs.declared.Found.{Found}
 use Rattle.frame.specs.declared.Found.the-variants.{Fault, Panel}
@@ -76,7 +77,7 @@ run-fits text before w after m r e = rw (fitted .is) (simp length-append (omega 
 
 -- ---- one perm move, whose backward table is worked out
 abbrev pub permCall : ℕ → ℕ → ℕ → List ℕ → List ℕ → Group → Call
-permCall n d s fwd bwd g = callOf Perm Sw n d s fwd bwd [] g (whole 1) [] 0 0
+permCall n d s fwd bwd g = callOf (taskOf Perm Sw n d s g (whole 1) 0 0) fwd bwd [] []
 
 pub record PermMoved (n d s : ℕ) (g : Group) (fwd perms : List ℕ) (b : Buffers) (r : Answer) (bwd : List ℕ) (spins : List ℤ) (labels counts sizes : List ℕ) : Type 0 where
   pub long : length bwd ≡ n * d

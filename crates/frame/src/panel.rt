@@ -7,10 +7,11 @@ use paper::Answer;
 use paper::Form;
 use paper::Group;
 use paper::Mode;
+use paper::Task;
 ghost use mathlib.Core.List.{List, []};
 ghost use Prim.Native.Nat.{ℕ, _*_};
 ghost use Rattle.lattice.specs.Backward.{Turnable};
-ghost use Rattle.moves.specs.Task.{buffersOf};
+ghost use Rattle.paper.specs.Panel.Made.{buffersOf};
 ghost use Rattle.frame.specs.Reading.{Held, Readout};
 ghost use Rattle.frame.specs.Writing.{WrittenAs};
 ghost use Rattle.frame.specs.Run.{PermMoved, Writable, answerText, MoveWritten, PanelGiven, RunAs};
@@ -38,21 +39,24 @@ fn perm_move(
     let couplings = [0i32; 1];
     let cuts = [0f32; 1];
     let mut grey_labels = [0u32; 1];
-    steps::overlap_step(
-        Mode::Perm,
-        Form::Sw,
+    let t = Task {
+        mode: Mode::Perm,
+        form: Form::Sw,
         n,
         d,
         s,
+        group,
+        temperature: 1.0,
+        reference: 0,
+        seed: 0,
+    };
+    steps::overlap_step(
+        t,
         spins,
         fwd,
         bwd,
         &couplings[..0],
-        group,
-        1.0,
         &cuts[..0],
-        0,
-        0,
         &perms[..0],
         perms,
         &perms[..0],

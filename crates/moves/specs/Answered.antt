@@ -25,7 +25,7 @@ use Rattle.paper.specs.Answer.Move.{Answers}
 use Rattle.paper.specs.Law.ByTest.{never, and-left, and-right}
 use Rattle.paper.specs.Law.Unique.{label-lt}
 use Rattle.moves.specs.Ready.{TestedFor, ready}
-use Rattle.moves.specs.Looked.{none-acts}
+use Rattle.rules.specs.Sight.{none-acts}
 use Rattle.moves.specs.Moved.{Rows, spins-back}
 use Rattle.moves.specs.Steps.{LabelAsks, LabelLeaves, ChooseAsks, ChooseLeaves, WriteAsks, WriteLeaves}
 use Rattle.moves.specs.Held.{grey-labels}

@@ -19,7 +19,7 @@ use Rattle.paper.specs.Law.Unique.{label-lt}
 use Rattle.paper.specs.Demand3.Step.{entry-lt}
 use Rattle.columns.specs.Column.{Columns, column-lt}
 use Rattle.choose.specs.Chosen.{reachedAt}
-use Rattle.moves.specs.Looked.{flag-at}
+use Rattle.rules.specs.Sight.{flag-at}
 use Rattle.moves.specs.Moved.{Rows}
 
 -- rows of m places, each a permutation: every entry names a place

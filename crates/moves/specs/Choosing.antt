@@ -15,7 +15,7 @@ use Rattle.paper.specs.Law.ByTest.{never}
 use Rattle.columns.specs.Column.{shown, columnOf, column-lt, flipped}
 use Rattle.rules.specs.Tables.{Table}
 use Rattle.choose.specs.Chosen.{Becomes, reachedAt, flippedAt, permutedAt, greyed, greyedAt}
-use Rattle.moves.specs.Looked.{flag-at}
+use Rattle.rules.specs.Sight.{flag-at}
 use Rattle.moves.specs.Moved.{choiceColumn}
 use Rattle.moves.specs.Steps.{chosenAt, finalAt}
 

@@ -21,7 +21,8 @@ use Rattle.columns.specs.Column.{shown, columnOf, shown-column, column-ext, Col
 use Rattle.columns.specs.Rows.{Signed, Written}
 use Rattle.choose.specs.Chosen.{Becomes, greyed}
 use Rattle.moves.specs.Ready.{TestedFor}
-use Rattle.moves.specs.Looked.{seenAt, no-gauge, gauge-spin}
+use Rattle.rules.specs.Sight.{seenAt, gauge-spin}
+use Rattle.moves.specs.Looked.{no-gauge}
 use Rattle.moves.specs.Moved.{Rows, choiceColumn, gauge-at, chosen-column, after-spin}
 use Rattle.moves.specs.Steps.{chosenAt, finalAt, WriteLeaves}
 use Rattle.moves.specs.Held.{cmr-ungauged}

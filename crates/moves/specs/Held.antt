@@ -28,8 +28,9 @@ use Rattle.bonds.specs.Laws.{jorg-ext, kind-ext}
 use Rattle.bonds.specs.Table.{bothActing, jorgAt, greyAt, CmrOut}
 use Rattle.label.specs.Contract.{Labelled, Reported}
 use Rattle.moves.specs.Ready.{Tested, TestedFor}
-use Rattle.moves.specs.Looked.{seenAt, seen-spin, no-gauge, flag-at, mark-at, acts-flags, acts-tells}
-use Rattle.moves.specs.Task.{Sights}
+use Rattle.rules.specs.Sight.{seenAt, seen-spin, flag-at, acts-flags, acts-tells}
+use Rattle.moves.specs.Looked.{no-gauge, mark-at}
+use Rattle.rules.specs.Sight.{Sights}
 use Rattle.moves.specs.Steps.{heldAt, HoldLeaves, LabelLeaves}
 
 drawn-ungauged : (m : Mode) → isDrawn m ≡ true → isGperm m ≡ false

@@ -2,7 +2,6 @@ pub mod Ready
 pub mod Looked
 pub mod Moved
 pub mod Steps
-pub mod Task
 pub mod Held
 pub mod Choosing
 pub mod Choices

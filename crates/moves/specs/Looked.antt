@@ -2,31 +2,19 @@
 use Prim.Native.Nat.{ℕ, _<_}
 use mathlib.Core.Path.{_≡_, refl, sym, _∙_, ap}
 use mathlib.Core.Logic.{inl, inr}
-use mathlib.Core.Bool.{Bool, true, false}
+use mathlib.Core.Bool.{Bool, false}
 use mathlib.Core.List.{List}
 use lib.Dec.{eqb}
-use lib.ListN.{getD}
 use lib.IntN.{ℤ, pos, _*ℤ_}
-use Rattle.paper.specs.declared.Group.{Group}
 use Rattle.paper.specs.declared.Mode.{Mode}
 use Rattle.paper.specs.declared.Mode.the-variants.{Houd, Pair, Perm, Gperm, Jorg, Cmr}
-use Rattle.paper.specs.Panel.Input.{Call, Pattern, patternOf, size}
+use Rattle.paper.specs.Panel.Input.{Pattern}
 use Rattle.paper.specs.Panel.Takes.{isGperm}
-use Rattle.paper.specs.Site.Acting.{gauge, testBy, acts, SomeActs, NoneActs}
-use Rattle.paper.specs.Component.Sizes.{bit}
-use Rattle.paper.specs.Component.Marks.{Flags, Marks, marked, Tells}
+use Rattle.paper.specs.Site.Acting.{gauge}
+use Rattle.paper.specs.Component.Marks.{Marks, marked}
 use Rattle.paper.specs.Refusal.Rules.{Spin}
-use Rattle.paper.specs.Law.Patterns.{times-spin}
 use Rattle.paper.specs.Law.ByTest.{never}
-use Rattle.columns.specs.Column.{Spinning}
-use Rattle.rules.specs.Laws.{SomeSite, none-passes}
-
--- the group's pattern at the site i as the mode sees it, with the reference site q
-abbrev pub seenBy : Mode → ℕ → Group → ℕ → List ℤ → ℕ → Pattern
-seenBy mode n g q xs i = gauge mode (patternOf n g xs q) (patternOf n g xs i)
-
-abbrev pub seenAt : Call → List ℤ → ℕ → Pattern
-seenAt c = seenBy (c .mode) (c .lattice .n) (c .group) (c .reference)
+use Rattle.rules.specs.Sight.{flag-is}
 
 pub one-times : (z : ℤ) → Spin z → pos 1 *ℤ z ≡ z
 one-times z (inl p) = rw p
@@ -40,52 +28,6 @@ no-gauge Perm P f k e = refl
 no-gauge Gperm P f k e = never (sym e)
 no-gauge Jorg P f k e = refl
 no-gauge Cmr P f k e = refl
-
-pub gauge-spin : (m : Mode) (P f : Pattern) (k : ℕ) → (isGperm m ≡ true → Spin (P k)) → Spin (f k) → Spin (gauge m P f k)
-gauge-spin Houd P f k sp s = s
-gauge-spin Pair P f k sp s = s
-gauge-spin Perm P f k sp s = s
-gauge-spin Gperm P f k sp s = times-spin (P k) (f k) (sp refl) s
-gauge-spin Jorg P f k sp s = s
-gauge-spin Cmr P f k sp s = s
-
-module _ (mode : Mode) (n : ℕ) (g : Group) (q : ℕ) (xs : List ℤ) (spins : Spinning n g xs) (reference : isGperm mode ≡ true → q < n) where
-  pub seen-spin : (i k : ℕ) → i < n → k < g .len → Spin (seenBy mode n g q xs i k)
-  seen-spin i k hi hk = gauge-spin mode (patternOf n g xs q) (patternOf n g xs i) k (λ e. spins q k (reference e) hk) (spins i k hi hk)
-
--- the same flags are those of the call's acting sites
-pub acts-flags :
-    (c : Call) (xs : List ℤ) (flags : List ℕ)
-    → Flags (c .lattice .n) (λ i. testBy (c .mode) (size c) (seenAt c xs i)) flags → Flags (c .lattice .n) (acts c xs) flags
-unfolding acts
-acts-flags c xs flags h = record { long = h .long; at = h .at }
-
-some-site : (c : Call) (xs : List ℤ) → SomeActs c xs → SomeSite (c .lattice .n) (λ i. testBy (c .mode) (size c) (seenAt c xs i))
-unfolding acts
-some-site c xs s = record { site = s .site; below = s .below; does = s .does }
-
-pub some-acts : (c : Call) (xs : List ℤ) → SomeSite (c .lattice .n) (λ i. testBy (c .mode) (size c) (seenAt c xs i)) → SomeActs c xs
-unfolding acts
-some-acts c xs s = record { site = s .site; below = s .below; does = s .does }
-
--- what a test tells of the sites' patterns it tells of the call's acting sites
-pub acts-tells :
-    (c : Call) (xs : List ℤ) (r : Bool)
-    → Tells r (SomeSite (c .lattice .n) (λ i. testBy (c .mode) (size c) (seenAt c xs i))) → Tells r (SomeActs c xs)
-acts-tells c xs true h = some-acts c xs h
-acts-tells c xs false h = λ s. h (some-site c xs s)
-
-pub none-acts : (c : Call) (xs : List ℤ) → (SomeActs c xs → ⊥) → NoneActs c xs
-unfolding acts
-none-acts c xs s = none-passes (c .lattice .n) (λ i. testBy (c .mode) (size c) (seenAt c xs i)) (λ h. s (some-acts c xs h))
-
--- a flag read back
-pub flag-is : (t : Bool) → eqb (bit t) 1 ≡ t
-flag-is true = refl
-flag-is false = refl
-
-pub flag-at : (n : ℕ) (f : ℕ → Bool) (xs : List ℕ) → Flags n f xs → (i : ℕ) → i < n → eqb (getD xs i 0) 1 ≡ f i
-flag-at n f xs h i l = ap (λ (x : ℕ). eqb x 1) (h .at i l) ∙ flag-is (f i)
 
 -- a marked bond read back
 pub mark-at : (n d : ℕ) (f : ℕ → ℕ → Bool) (xs : List ℕ) → Marks n d f xs → (i e : ℕ) → i < n → e < d → marked d xs i e ≡ f i e

@@ -21,7 +21,8 @@ use Rattle.paper.specs.Law.ByTest.{and-right}
 use Rattle.paper.specs.Demand3.Turns.{form-moves}
 use Rattle.columns.specs.Column.{shown, columnOf, shown-column, column-ext, signBy, flipped, Columns}
 use Rattle.moves.specs.Ready.{TestedFor}
-use Rattle.moves.specs.Looked.{seenAt, one-times, gauge-spin}
+use Rattle.rules.specs.Sight.{seenAt, gauge-spin}
+use Rattle.moves.specs.Looked.{one-times}
 
 -- what the choice of the component with the label r makes of a column of m members
 abbrev pub choiceColumn : Mode → Form → ℕ → List ℕ → List ℕ → ℕ → ℕ → ℕ

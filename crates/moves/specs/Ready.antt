@@ -10,10 +10,11 @@ use lib.IntN.{ℤ}
 use Rattle.paper.specs.declared.Group.{Group}
 use Rattle.paper.specs.declared.Mode.{Mode}
 use Rattle.paper.specs.Panel.Input.{Call, Choices, Buffers, member, system}
-use Rattle.paper.specs.Panel.Takes.{isCmr}
+use Rattle.paper.specs.Panel.Takes.{isGperm, isCmr}
 use Rattle.paper.specs.Refusal.Rules.{Distinct}
 use Rattle.paper.specs.Refusal.Kept.{Sound}
 use Rattle.columns.specs.Column.{Inside, Spinning}
+use Rattle.rules.specs.Sight.{Sighted}
 
 -- the parts of tests 1 to 5 that the steps lean on
 pub record Tested (mode : Mode) (n d : ℕ) (fwd : List ℕ) (g : Group) (xs : List ℤ) : Type 0 where
@@ -29,6 +30,17 @@ pub record Tested (mode : Mode) (n d : ℕ) (fwd : List ℕ) (g : Group) (xs : L
   pub inside : Inside n g xs
   pub spins : Spinning n g xs
   pub distinct : Distinct (g .len) (member g)
+
+-- so the panel can be looked at
+pub sighted : {mode : Mode} {n d q : ℕ} {fwd : List ℕ} {g : Group} {xs : List ℤ} → Tested mode n d fwd g xs → (isGperm mode ≡ true → q < n) → Sighted mode n g q xs
+sighted r e = record {
+  n-high = r .n-high;
+  size-low = omega (arith, r .size-low);
+  size-high = r .size-high;
+  inside = r .inside;
+  spins = r .spins;
+  reference = e;
+}
 
 abbrev pub TestedFor : Call → List ℤ → Type 0
 TestedFor c xs = Tested (c .mode) (c .lattice .n) (c .lattice .d) (c .lattice .fwd) (c .group) xs

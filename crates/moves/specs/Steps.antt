@@ -26,7 +26,7 @@ use Rattle.bonds.specs.Table.{Coupled, ActiveIn, bothActing, jorgAt, blueAt}
 use Rattle.label.specs.Contract.{graphOf}
 use Rattle.choose.specs.Chosen.{Becomes, reachedAt, greyed}
 use Rattle.moves.specs.Ready.{Tested}
-use Rattle.moves.specs.Looked.{seenAt}
+use Rattle.rules.specs.Sight.{seenAt}
 use Rattle.moves.specs.Moved.{choiceColumn}
 
 -- ---- hold: the tables of bonds

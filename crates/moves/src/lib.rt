@@ -11,7 +11,6 @@ ghost use Rattle.paper.specs.Panel.Made.{callOf, choicesOf, buffersOf};
 ghost use Rattle.paper.specs.Refusal.Kept.{Valid};
 ghost use Rattle.paper.specs.Answer.Move.{Answers};
 ghost use Rattle.choose.specs.Chosen.{Becomes};
-ghost use Rattle.moves.specs.Task.{Seeable, Sights};
 ghost use Rattle.moves.specs.Steps.{
   HoldAsks,
   HoldLeaves,
@@ -24,24 +23,6 @@ ghost use Rattle.moves.specs.Steps.{
   WriteAsks,
   WriteLeaves,
 };
-
-// The group's columns, and which sites act. True where some site does.
-pub fn look(
-    mode: Mode,
-    n: usize,
-    spins: &[i8],
-    group: Group,
-    reference: usize,
-    cols: &mut [u8],
-    acts: &mut [u8],
-) -> bool
-    requires { ⌜ Seeable mode n group reference (now spins) (now cols) (now acts) ⌝ }
-    ensures { λ r. ⌜ Sights mode n group reference (now (spins .entry)) (now (cols .exit)) (now (acts .exit)) r ⌝ }
-{
-    let signs = columns::signs(mode, spins, n, group, reference);
-    columns::pack(spins, n, group, signs, cols);
-    rules::mark_active(rules::acts_table(mode, group), cols, acts)
-}
 
 // The table of holding bonds. CMR has two: these are its blue ones, and grey the table of its grey ones.
 fn hold(
@@ -107,7 +88,7 @@ fn label_task(
 {
     let mode = t.mode;
     let group = t.group;
-    let some = look(mode, t.n, spins, group, t.reference, cols, acts);
+    let some = rules::look(mode, t.n, spins, group, t.reference, cols, acts);
     hold(t, fwd, couplings, cuts, acts, cols, holds, grey);
     label::label(t.n, t.d, fwd, holds, labels, tally);
     label::count(labels, tally, counts, sizes);

@@ -1,6 +1,7 @@
 pub mod Number
 pub mod Move
 pub mod Task
+pub mod Made
 pub mod Sweep
 pub mod Meter
 pub mod Frame

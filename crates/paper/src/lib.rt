@@ -159,6 +159,18 @@ pub struct Task {
     pub seed: usize,
 }
 
+// The numbers of a sweep over t temperatures of r replicas, in groups of `members`.
+pub struct Plan {
+    pub mode: Mode,
+    pub form: Form,
+    pub n: usize,
+    pub d: usize,
+    pub s: usize,
+    pub t: usize,
+    pub r: usize,
+    pub members: usize,
+}
+
 // How many elements each buffer has that a move may be lent.
 pub struct Lengths {
     pub spins: usize,
@@ -170,7 +182,7 @@ pub struct Lengths {
     pub perms: usize,
     pub greys: usize,
     pub labels: usize,
-    pub greyed: usize,
+    pub grey_labels: usize,
     pub counts: usize,
     pub sizes: usize,
 }

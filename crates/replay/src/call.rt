@@ -8,10 +8,12 @@ use crate::head::form_of;
 use crate::head::mode_of;
 use paper::Answer;
 use paper::Group;
+use paper::Plan;
 use paper::SweepAnswer;
+use paper::Task;
 
 // How many tasks were idle and how many were not; a refusal is neither, and no case of the list has 255 of both.
-struct Tally {
+struct Outcomes {
     idle: u32,
     moved: u32,
 }
@@ -45,24 +47,24 @@ fn group_of(order: &[u32]) -> Group {
     }
 }
 
-fn of_step(a: Answer) -> Tally {
+fn of_step(a: Answer) -> Outcomes {
     match a {
-        Answer::Refused(_) => Tally {
+        Answer::Refused(_) => Outcomes {
             idle: 255,
             moved: 255,
         },
-        Answer::Idle => Tally { idle: 1, moved: 0 },
-        Answer::Moved => Tally { idle: 0, moved: 1 },
+        Answer::Idle => Outcomes { idle: 1, moved: 0 },
+        Answer::Moved => Outcomes { idle: 0, moved: 1 },
     }
 }
 
-fn of_sweep(a: SweepAnswer) -> Tally {
+fn of_sweep(a: SweepAnswer) -> Outcomes {
     match a {
-        SweepAnswer::Fault(_) => Tally {
+        SweepAnswer::Fault(_) => Outcomes {
             idle: 255,
             moved: 255,
         },
-        SweepAnswer::Swept(idle, moved) => Tally { idle, moved },
+        SweepAnswer::Swept(idle, moved) => Outcomes { idle, moved },
     }
 }
 
@@ -81,30 +83,33 @@ fn step(
     perms: &[u8],
     greys: &[u8],
     labels: &mut [u32],
-    greyed: &mut [u32],
+    grey_labels: &mut [u32],
     counts: &mut [u32],
     sizes: &mut [u32],
-) -> Tally {
+) -> Outcomes {
+    let t = Task {
+        mode: mode_of(h),
+        form: form_of(h),
+        n: h.n,
+        d: h.d,
+        s: h.s,
+        group: group_of(order),
+        temperature: first(temperatures),
+        reference: at(references, 0),
+        seed: at(seeds, 0),
+    };
     let a = steps::overlap_step(
-        mode_of(h),
-        form_of(h),
-        h.n,
-        h.d,
-        h.s,
+        t,
         spins,
         fwd,
         bwd,
         couplings,
-        group_of(order),
-        first(temperatures),
         cuts,
-        at(references, 0),
-        at(seeds, 0),
         flips,
         perms,
         greys,
         labels,
-        greyed,
+        grey_labels,
         counts,
         sizes,
     );
@@ -127,19 +132,22 @@ fn update(
     perms: &[u8],
     greys: &[u8],
     labels: &mut [u32],
-    greyed: &mut [u32],
+    grey_labels: &mut [u32],
     counts: &mut [u32],
     sizes: &mut [u32],
-) -> Tally {
+) -> Outcomes {
+    let plan = Plan {
+        mode: mode_of(h),
+        form: form_of(h),
+        n: h.n,
+        d: h.d,
+        s: h.s,
+        t: h.t,
+        r: h.r,
+        members: h.members,
+    };
     let a = sweep::overlap_update(
-        mode_of(h),
-        form_of(h),
-        h.n,
-        h.d,
-        h.s,
-        h.t,
-        h.r,
-        h.members,
+        plan,
         spins,
         fwd,
         bwd,
@@ -154,7 +162,7 @@ fn update(
         perms,
         greys,
         labels,
-        greyed,
+        grey_labels,
         counts,
         sizes,
     );
@@ -177,10 +185,10 @@ fn run(
     perms: &[u8],
     greys: &[u8],
     labels: &mut [u32],
-    greyed: &mut [u32],
+    grey_labels: &mut [u32],
     counts: &mut [u32],
     sizes: &mut [u32],
-) -> Tally {
+) -> Outcomes {
     if h.kind == 0 {
         step(
             h,
@@ -197,7 +205,7 @@ fn run(
             perms,
             greys,
             labels,
-            greyed,
+            grey_labels,
             counts,
             sizes,
         )
@@ -218,7 +226,7 @@ fn run(
             perms,
             greys,
             labels,
-            greyed,
+            grey_labels,
             counts,
             sizes,
         )
@@ -229,10 +237,10 @@ fn run(
 fn compare(
     list: &[u8],
     from: usize,
-    got: Tally,
+    got: Outcomes,
     spins: &[i8],
     labels: &[u32],
-    greyed: &[u32],
+    grey_labels: &[u32],
     counts: &[u32],
     sizes: &[u32],
 ) -> Seen {
@@ -244,7 +252,7 @@ fn compare(
     let b = same_byte(list, a, got.moved);
     let c = same_spins(list, b, spins);
     let d = same_words(list, c, labels);
-    let e = same_words(list, d, greyed);
+    let e = same_words(list, d, grey_labels);
     let f = same_words(list, e, counts);
     same_words(list, f, sizes)
 }
@@ -267,7 +275,7 @@ pub(crate) fn run_and_compare(
     perms: &[u8],
     greys: &[u8],
     labels: &mut [u32],
-    greyed: &mut [u32],
+    grey_labels: &mut [u32],
     counts: &mut [u32],
     sizes: &mut [u32],
 ) -> Seen {
@@ -287,9 +295,9 @@ pub(crate) fn run_and_compare(
         perms,
         greys,
         labels,
-        greyed,
+        grey_labels,
         counts,
         sizes,
     );
-    compare(list, from, got, spins, labels, greyed, counts, sizes)
+    compare(list, from, got, spins, labels, grey_labels, counts, sizes)
 }

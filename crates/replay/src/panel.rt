@@ -35,7 +35,7 @@ fn with_outputs(
     greys: &[u8],
 ) -> Seen {
     let mut labels = [65535u32; 32];
-    let mut greyed = [65535u32; 32];
+    let mut grey_labels = [65535u32; 32];
     let mut counts = [65535u32; 36];
     let mut sizes = [65535u32; 16];
     let sites = room(h.tasks, h.n, 32);
@@ -61,7 +61,7 @@ fn with_outputs(
         perms,
         greys,
         &mut labels[..sites],
-        &mut greyed[..grey],
+        &mut grey_labels[..grey],
         &mut counts[..more],
         &mut sizes[..four],
     )

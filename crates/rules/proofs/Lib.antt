@@ -2,3 +2,4 @@ pub mod Rules
 pub mod Bytes
 pub mod Flips
 pub mod Marking
+pub mod Products

@@ -11,9 +11,12 @@ use lib.IntN.{ℤ, pos}
 use Rattle.paper.specs.declared.Group.{Group}
 use Rattle.paper.specs.declared.Mode.{Mode}
 use Rattle.paper.specs.Site.Acting.{pairDiffers, testBy}
-use Rattle.paper.specs.Component.Marks.{Tells}
+use Rattle.paper.specs.Component.Marks.{Flags, Tells}
 use Rattle.columns.specs.Column.{flipped}
+use Rattle.columns.specs.Determined.{columns-unique}
 use Rattle.rules.specs.Tables.{spinAt, Written, Table, actsEntry, flipEntry, SomeMarked, Looked}
+use Rattle.rules.specs.Laws.{SomeSite}
+use Rattle.rules.specs.Sight.{actsAt, Sights}
 
 module _ (g : Group) (p : List ℤ) (r s : Bool) where
   pub any-pair-differs-determined : r ≡ pairDiffers (g .len / 2) (spinAt p) → s ≡ pairDiffers (g .len / 2) (spinAt p) → r ≡ s
@@ -72,3 +75,28 @@ module _ (table cols acts acts′ : List ℕ) (r r′ : Bool) where
 
       same : acts ≡ acts′
       same = ext-getD 0 acts acts′ (a .long ∙ sym (b .long)) there
+
+-- ---- the look: columns, marks and the result
+pub record SameSights (cols flags : List ℕ) (r : Bool) (cols′ flags′ : List ℕ) (r′ : Bool) : Type 0 where
+  pub columns : cols ≡ cols′
+  pub flagged : flags ≡ flags′
+  pub result : r ≡ r′
+
+flags-unique : (n : ℕ) (f : ℕ → Bool) (xs ys : List ℕ) → Flags n f xs → Flags n f ys → xs ≡ ys
+flags-unique n f xs ys p q = ext-getD 0 xs ys (p .long ∙ sym (q .long)) (λ i h. let l = rw (p .long) at h in p .at i l ∙ sym (q .at i l))
+
+module _ (mode : Mode) (n : ℕ) (g : Group) (q : ℕ) (xs : List ℤ) where
+  pub look-determined :
+      (cols flags : List ℕ) (r : Bool) (cols′ flags′ : List ℕ) (r′ : Bool)
+      → Sights mode n g q xs cols flags r → Sights mode n g q xs cols′ flags′ r′ → SameSights cols flags r cols′ flags′ r′
+  look-determined cols flags r cols′ flags′ r′ a b = record {
+    columns = columns-unique _ _ _ cols cols′ (a .columns) (b .columns);
+    flagged = flags-unique n _ flags flags′ (a .flagged) (b .flagged);
+    result = tells-unique _ r r′ (a .some) (b .some);
+  }
+
+  pub any-acts-determined : (r r′ : Bool) → Tells r (SomeSite n (actsAt mode n g q xs)) → Tells r′ (SomeSite n (actsAt mode n g q xs)) → r ≡ r′
+  any-acts-determined = tells-unique (SomeSite n (actsAt mode n g q xs))
+
+  pub acts-at-determined : (i : ℕ) (r r′ : Bool) → r ≡ actsAt mode n g q xs i → r′ ≡ actsAt mode n g q xs i → r ≡ r′
+  acts-at-determined i r r′ a b = a ∙ sym b

@@ -1,3 +1,4 @@
 pub mod Tables
 pub mod Laws
+pub mod Sight
 pub mod Determined

@@ -11,7 +11,8 @@ use Rattle.paper.specs.Panel.Input.{Pattern}
 use Rattle.paper.specs.Site.Acting.{testBy}
 use Rattle.paper.specs.Component.Sizes.{bit}
 use Rattle.paper.specs.Component.Marks.{Tells}
-use Rattle.columns.specs.Column.{shown, columnOf, flipped}
+use Rattle.columns.specs.Column.{shown, columnOf, flipped, Inside, Spinning}
+use Rattle.columns.specs.Rows.{Signs}
 
 -- the pattern that an array holds
 abbrev pub spinAt : List ℤ → Pattern
@@ -21,6 +22,14 @@ spinAt p k = getD p k (pos 0)
 pub record Sized (g : Group) : Type 0 where
   pub some : 1 ≤ g .len
   pub few : g .len ≤ 8
+
+-- what reading one site asks: the group's rows of spins, a sign for each member, and a site
+pub record Readable (n : ℕ) (g : Group) (xs ss : List ℤ) (i : ℕ) : Type 0 where
+  pub few : g .len ≤ 8
+  pub inside : Inside n g xs
+  pub spins : Spinning n g xs
+  pub signs : Signs (g .len) ss
+  pub below : i < n
 
 -- q is p with f written at its first m places
 pub record Written {A : Type 0} (d : A) (m : ℕ) (f : ℕ → A) (p q : List A) : Type 0 where

@@ -8,8 +8,12 @@ ghost use lib.ListN.{length};
 ghost use Rattle.paper.specs.Site.Acting.{eqZ, sum, differs, pairDiffers, testBy};
 ghost use Rattle.paper.specs.Move.Moving.{other};
 ghost use Rattle.paper.specs.Demand3.Reversible.{Spinning};
+ghost use Rattle.paper.specs.Component.Marks.{Tells};
 ghost use Rattle.columns.specs.Column.{shown, columnOf, flipped};
-ghost use Rattle.rules.specs.Tables.{spinAt, Sized, Written, Table, actsEntry, flipEntry, Looked};
+ghost use Rattle.columns.specs.Rows.{signed};
+ghost use Rattle.rules.specs.Tables.{spinAt, Sized, Written, Table, actsEntry, flipEntry, Looked, Readable};
+ghost use Rattle.rules.specs.Laws.{SomeSite};
+ghost use Rattle.rules.specs.Sight.{actsAt, Sighted, SightedAt, Seeable, Sights};
 
 // pair and Jörg: some pair (0 1), (2 3), .. disagrees; an odd last system is not read.
 pub fn any_pair_differs(p: [i8; 8], group: Group) -> bool
@@ -234,4 +238,71 @@ pub fn mark_active(table: [u8; 256], cols: &[u8], acts: &mut [u8]) -> bool
         i += 1;
     }
     found
+}
+
+// The group's columns, and which sites act. True where some site does.
+pub fn look(
+    mode: Mode,
+    n: usize,
+    spins: &[i8],
+    group: Group,
+    reference: usize,
+    cols: &mut [u8],
+    acts: &mut [u8],
+) -> bool
+    requires { ⌜ Seeable mode n group reference (now spins) (now cols) (now acts) ⌝ }
+    ensures { λ r. ⌜ Sights mode n group reference (now (spins .entry)) (now (cols .exit)) (now (acts .exit)) r ⌝ }
+{
+    let signs = columns::signs(mode, spins, n, group, reference);
+    columns::pack(spins, n, group, signs, cols);
+    mark_active(acts_table(mode, group), cols, acts)
+}
+
+// Whether some site acts.
+pub fn any_acts(mode: Mode, n: usize, spins: &[i8], group: Group, reference: usize) -> bool
+    requires { ⌜ Sighted mode n group reference (now spins) ⌝ }
+    ensures { λ r. ⌜ Tells r (SomeSite n (actsAt mode n group reference (now (spins .entry)))) ⌝ }
+{
+    let mut cols = [0u8; 4096];
+    let mut acts = [0u8; 4096];
+    look(
+        mode,
+        n,
+        spins,
+        group,
+        reference,
+        &mut cols[..n],
+        &mut acts[..n],
+    )
+}
+
+// The group's spins at one site, each times its member's sign.
+fn read_site(spins: &[i8], n: usize, group: Group, signs: [i8; 8], i: usize) -> [i8; 8]
+    requires { ⌜ Readable n group (now spins) signs i ⌝ }
+    ensures { λ r. ⌜ ((k : ℕ) → k < group .len → spinAt r k ≡ signed n group signs (now (spins .entry)) i k) ⌝ }
+{
+    let mut p = [1i8; 8];
+    let len = group.len;
+    let mut k: usize = 0;
+    while k < len {
+        let s = group.systems[k];
+        let plus = signs[k];
+        let spin = spins[s * n + i];
+        let mut v: i8 = -1;
+        if spin == plus {
+            v = 1;
+        }
+        p[k] = v;
+        k += 1;
+    }
+    p
+}
+
+// Whether one site acts. No other is read but, in gperm, the reference.
+pub fn acts_at(mode: Mode, n: usize, spins: &[i8], group: Group, reference: usize, i: usize) -> bool
+    requires { ⌜ SightedAt mode n group reference (now spins) i ⌝ }
+    ensures { λ r. ⌜ r ≡ actsAt mode n group reference (now (spins .entry)) i ⌝ }
+{
+    let signs = columns::signs(mode, spins, n, group, reference);
+    acts_site(mode, group, read_site(spins, n, group, signs, i))
 }

@@ -1,4 +1,9 @@
--- The published names of the rules, as modes.
+-- The published names of the rules, as modes; and a move's numbers as one value.
+use Prim.Native.Nat.{ℕ}
+use lib.Ieee.{Float}
+use Rattle.paper.specs.declared.Group.{Group}
+use Rattle.paper.specs.declared.Form.{Form}
+use Rattle.paper.specs.declared.Task.{Task}
 use Rattle.paper.specs.declared.Mode.{Mode}
 use Rattle.paper.specs.declared.Mode.the-variants.{Houd, Pair, Perm, Gperm}
 use Rattle.steps.specs.declared.ActiveRule.{ActiveRule}
@@ -9,3 +14,16 @@ modeOf Balanced = Houd
 modeOf Pairwise = Pair
 modeOf Permutation = Perm
 modeOf GaugedPermutation = Gperm
+
+abbrev pub taskOf : Mode → Form → ℕ → ℕ → ℕ → Group → Float → ℕ → ℕ → Task
+taskOf mode form n d s group temperature reference seed = record {
+  mode = mode;
+  form = form;
+  n = n;
+  d = d;
+  s = s;
+  group = group;
+  temperature = temperature;
+  reference = reference;
+  seed = seed;
+}

@@ -4,13 +4,14 @@ use paper::Form;
 use paper::Group;
 use paper::Lengths;
 use paper::Mode;
+use paper::Task;
 ghost use mathlib.Core.Path.{_≡_};
 ghost use mathlib.Core.List.{[]};
 ghost use Rattle.paper.specs.declared.Mode.the-variants.{Jorg, Cmr};
 ghost use Rattle.paper.specs.Site.Bonds.{whole};
 ghost use Rattle.paper.specs.Answer.Move.{Answers};
-ghost use Rattle.moves.specs.Task.{callOf, choicesOf, buffersOf};
-ghost use Rattle.steps.specs.Rule.{modeOf};
+ghost use Rattle.paper.specs.Panel.Made.{callOf, choicesOf, buffersOf};
+ghost use Rattle.steps.specs.Rule.{modeOf, taskOf};
 
 // The rules that need no drawn bond, under their published names.
 pub enum ActiveRule {
@@ -33,20 +34,12 @@ fn mode_of(rule: ActiveRule) -> Mode
 
 // One move or observation in any mode and form. An input that the mode and form do not take is ignored, whatever it holds.
 pub fn overlap_step(
-    mode: Mode,
-    form: Form,
-    n: usize,
-    d: usize,
-    s: usize,
+    t: Task,
     spins: &mut [i8],
     fwd: &[u32],
     bwd: &[u32],
     couplings: &[i32],
-    group: Group,
-    temperature: f32,
     cuts: &[f32],
-    reference: usize,
-    seed: usize,
     flips: &[u8],
     perms: &[u8],
     greys: &[u8],
@@ -56,7 +49,7 @@ pub fn overlap_step(
     sizes: &mut [u32],
 ) -> Answer
     ensures { λ r. ⌜ Answers
-        (callOf mode form n d s (now (fwd .entry)) (now (bwd .entry)) (now (couplings .entry)) group temperature (now (cuts .entry)) reference seed)
+        (callOf t (now (fwd .entry)) (now (bwd .entry)) (now (couplings .entry)) (now (cuts .entry)))
         (choicesOf (now (flips .entry)) (now (perms .entry)) (now (greys .entry)))
         (buffersOf (now (spins .entry)) (now (labels .entry)) (now («grey_labels» .entry)) (now (counts .entry)) (now (sizes .entry)))
         r
@@ -72,58 +65,25 @@ pub fn overlap_step(
         perms: perms.len(),
         greys: greys.len(),
         labels: labels.len(),
-        greyed: grey_labels.len(),
+        grey_labels: grey_labels.len(),
         counts: counts.len(),
         sizes: sizes.len(),
     };
-    let fault = checks::test_panel(
-        mode,
-        form,
-        n,
-        d,
-        s,
-        spins,
-        fwd,
-        bwd,
-        couplings,
-        group,
-        temperature,
-        l,
-    );
+    let fault = tests::panel::test_panel(t, spins, fwd, bwd, couplings, l);
     if fault != 0 {
         return Answer::Refused(fault);
     }
-    let unfit = checks::test_choices(
-        mode,
-        form,
-        n,
-        spins,
-        group,
-        cuts,
-        reference,
-        seed,
-        flips,
-        perms,
-        greys,
-    );
+    let unfit = tests::choices::test_choices(t, spins, cuts, flips, perms, greys);
     if unfit != 0 {
         return Answer::Refused(unfit);
     }
     moves::run_task(
-        mode,
-        form,
-        n,
-        d,
-        s,
+        t,
         spins,
         fwd,
         bwd,
         couplings,
-        group,
-        temperature,
         cuts,
-        reference,
-        seed,
         flips,
         perms,
         greys,
@@ -154,7 +114,7 @@ pub fn houdayer_step(
     sizes: &mut [u32],
 ) -> Answer
     ensures { λ r. ⌜ Answers
-        (callOf (modeOf rule) form n d s (now (fwd .entry)) (now (bwd .entry)) [] group (whole 1) [] reference seed)
+        (callOf (taskOf (modeOf rule) form n d s group (whole 1) reference seed) (now (fwd .entry)) (now (bwd .entry)) [] [])
         (choicesOf (now (flips .entry)) (now (perms .entry)) [])
         (buffersOf (now (spins .entry)) (now (labels .entry)) [] (now (counts .entry)) (now (sizes .entry)))
         r
@@ -164,21 +124,24 @@ pub fn houdayer_step(
     let cuts = [0.0f32; 1];
     let mut grey_labels = [0u32; 1];
     let mode = mode_of(rule);
-    overlap_step(
+    let t = Task {
         mode,
         form,
         n,
         d,
         s,
+        group,
+        temperature: 1.0,
+        reference,
+        seed,
+    };
+    overlap_step(
+        t,
         spins,
         fwd,
         bwd,
         &couplings[..0],
-        group,
-        1.0,
         &cuts[..0],
-        reference,
-        seed,
         flips,
         perms,
         &flips[..0],
@@ -209,28 +172,31 @@ pub fn jorg_step(
     sizes: &mut [u32],
 ) -> Answer
     ensures { λ r. ⌜ Answers
-        (callOf Jorg form n d s (now (fwd .entry)) (now (bwd .entry)) (now (couplings .entry)) group temperature (now (cuts .entry)) 0 seed)
+        (callOf (taskOf Jorg form n d s group temperature 0 seed) (now (fwd .entry)) (now (bwd .entry)) (now (couplings .entry)) (now (cuts .entry)))
         (choicesOf (now (flips .entry)) [] [])
         (buffersOf (now (spins .entry)) (now (labels .entry)) [] (now (counts .entry)) (now (sizes .entry)))
         r
         (buffersOf (now (spins .exit)) (now (labels .exit)) [] (now (counts .exit)) (now (sizes .exit))) ⌝ }
 {
     let mut grey_labels = [0u32; 1];
-    overlap_step(
-        Mode::Jorg,
+    let t = Task {
+        mode: Mode::Jorg,
         form,
         n,
         d,
         s,
+        group,
+        temperature,
+        reference: 0,
+        seed,
+    };
+    overlap_step(
+        t,
         spins,
         fwd,
         bwd,
         couplings,
-        group,
-        temperature,
         cuts,
-        0,
-        seed,
         flips,
         &flips[..0],
         &flips[..0],
@@ -263,27 +229,30 @@ pub fn cmr_step(
     sizes: &mut [u32],
 ) -> Answer
     ensures { λ r. ⌜ Answers
-        (callOf Cmr form n d s (now (fwd .entry)) (now (bwd .entry)) (now (couplings .entry)) group temperature (now (cuts .entry)) 0 seed)
+        (callOf (taskOf Cmr form n d s group temperature 0 seed) (now (fwd .entry)) (now (bwd .entry)) (now (couplings .entry)) (now (cuts .entry)))
         (choicesOf (now (flips .entry)) [] (now (greys .entry)))
         (buffersOf (now (spins .entry)) (now (labels .entry)) (now («grey_labels» .entry)) (now (counts .entry)) (now (sizes .entry)))
         r
         (buffersOf (now (spins .exit)) (now (labels .exit)) (now («grey_labels» .exit)) (now (counts .exit)) (now (sizes .exit))) ⌝ }
 {
-    overlap_step(
-        Mode::Cmr,
+    let t = Task {
+        mode: Mode::Cmr,
         form,
         n,
         d,
         s,
+        group,
+        temperature,
+        reference: 0,
+        seed,
+    };
+    overlap_step(
+        t,
         spins,
         fwd,
         bwd,
         couplings,
-        group,
-        temperature,
         cuts,
-        0,
-        seed,
         flips,
         &flips[..0],
         greys,

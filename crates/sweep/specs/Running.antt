@@ -4,21 +4,22 @@ use mathlib.Core.Path.{_≡_, refl, sym, _∙_, ap}
 use mathlib.Core.Logic.{_≢_}
 use mathlib.Core.Bool.{false}
 use mathlib.Core.List.{List}
-use lib.ListN.{length, getD, take, drop}
+use lib.ListN.{length, take, drop}
 use lib.IntN.{ℤ}
-use lib.Ieee.{Float, nan}
-use Rattle.paper.specs.declared.Group.{Group}
+use lib.Ieee.{Float}
+use Rattle.paper.specs.declared.Task.{Task}
 use Rattle.paper.specs.declared.Answer.{Answer}
 use Rattle.paper.specs.declared.Answer.the-variants.{Refused, Idle, Moved}
-use Rattle.paper.specs.Panel.Input.{Buffers}
+use Rattle.paper.specs.Panel.Input.{Call, Buffers}
 use Rattle.paper.specs.Panel.Takes.{takesGreys, entries}
 use Rattle.paper.specs.Refusal.Kept.{Valid}
 use Rattle.paper.specs.Answer.Move.{Answers}
-use Rattle.paper.specs.Answer.Task.{Sweep, temperatureOf, part, groupOf, taskCall, taskChoices, areas}
+use Rattle.paper.specs.Answer.Task.{Sweep, part, taskCall, taskChoices, areas}
 use Rattle.paper.specs.Answer.Sweep.{common}
 use Rattle.paper.specs.Law.Determined.{buffers-equal}
-use Rattle.moves.specs.Task.{callOf, choicesOf}
-use Rattle.tasks.specs.Plan.{Placing, Bounding, planOf, lent}
+use Rattle.paper.specs.Panel.Made.{callOf, choicesOf, buffersOf}
+use Rattle.paper.specs.Answer.Made.{planOf}
+use Rattle.tasks.specs.Plan.{Placing, Bounding, taskAt}
 use Rattle.tasks.specs.Parts.{back, lent-part, lent-length, back-length, back-own, back-other, back-same}
 use Rattle.sweep.specs.Spinning.{length-after}
 use Rattle.sweep.specs.Ascending.{Steps}
@@ -37,31 +38,22 @@ abbrev pub TaskAnswers : Sweep → ℕ → Buffers → Answer → Buffers → Ty
 TaskAnswers w k b r b′ = Answers (taskCall w k) (taskChoices w k) b r b′
 
 -- these inputs are the task's
-pub record Parts (w : Sweep) (k : ℕ) (g : Group) (t : Float) (cs : List Float) (a b : ℕ) (fs ps gs : List ℕ) : Type 0 where
-  pub group : g ≡ groupOf w k
-  pub temperature : t ≡ getD (w .temperatures) (temperatureOf w k) nan
+pub record Parts (w : Sweep) (k : ℕ) (t : Task) (cs : List Float) (fs ps gs : List ℕ) : Type 0 where
+  pub task : t ≡ taskAt (planOf w) (w .order) (w .temperatures) (w .references) (w .seeds) k
   pub cuts : cs ≡ part k (w .lattice .n * w .lattice .d) (w .cuts)
-  pub reference : a ≡ getD (w .references) k 0
-  pub seed : b ≡ getD (w .seeds) k 0
   pub flips : fs ≡ part k (w .lattice .n) (w .flips)
   pub perms : ps ≡ part k (entries (w .form) (w .lattice .n) * w .members) (w .perms)
   pub greys : gs ≡ part k (entries (w .form) (w .lattice .n)) (w .greys)
 
-module _ {w : Sweep} {k : ℕ} {g : Group} {t : Float} {cs : List Float} {a b : ℕ} {fs ps gs : List ℕ} (e : Parts w k g t cs a b fs ps gs) where
-  pub valid-parts :
-      {x : Buffers} → Valid (taskCall w k) (taskChoices w k) x
-      → Valid
-      (callOf (w .mode) (w .form) (w .lattice .n) (w .lattice .d) (w .lattice .s) (w .lattice .fwd) (w .lattice .bwd) (w .lattice .couplings) g t cs a b)
-      (choicesOf fs ps gs) x
-  valid-parts v = rw (e .group, e .temperature, e .cuts, e .reference, e .seed, e .flips, e .perms, e .greys) v
+module _ {w : Sweep} {k : ℕ} {t : Task} {cs : List Float} {fs ps gs : List ℕ} (e : Parts w k t cs fs ps gs) where
+  abbrev callWith : Call
+  callWith = callOf t (w .lattice .fwd) (w .lattice .bwd) (w .lattice .couplings) cs
 
-  pub answers-parts :
-      (x y : Buffers) (r : Answer)
-      → Answers
-      (callOf (w .mode) (w .form) (w .lattice .n) (w .lattice .d) (w .lattice .s) (w .lattice .fwd) (w .lattice .bwd) (w .lattice .couplings) g t cs a b)
-      (choicesOf fs ps gs) x r y
-      → Answers (taskCall w k) (taskChoices w k) x r y
-  answers-parts x y r h = rw (e .group, e .temperature, e .cuts, e .reference, e .seed, e .flips, e .perms, e .greys) at h
+  pub valid-parts : {x : Buffers} → Valid (taskCall w k) (taskChoices w k) x → Valid callWith (choicesOf fs ps gs) x
+  valid-parts v = rw (e .task, e .cuts, e .flips, e .perms, e .greys) v
+
+  pub answers-parts : (x y : Buffers) (r : Answer) → Answers callWith (choicesOf fs ps gs) x r y → Answers (taskCall w k) (taskChoices w k) x r y
+  answers-parts x y r h = rw (e .task, e .cuts, e .flips, e .perms, e .greys) at h
 
 -- ---- the task's areas, lent and put back
 module _ (w : Sweep) (k : ℕ) (b : Buffers) {la lb ga gb ca cb za zb : ℕ} (hl : Bounding (length (b .labels)) k (w .lattice .n) la lb)
@@ -69,7 +61,7 @@ module _ (w : Sweep) (k : ℕ) (b : Buffers) {la lb ga gb ca cb za zb : ℕ} (hl
     (hz : Bounding (length (b .sizes)) k 4 za zb) where
   abbrev pub lentAreas : Buffers
   lentAreas =
-      lent (b .spins) (take (lb - la) (drop la (b .labels))) (take (gb - ga) (drop ga (b .greyLabels))) (take (cb - ca) (drop ca (b .counts)))
+      buffersOf (b .spins) (take (lb - la) (drop la (b .labels))) (take (gb - ga) (drop ga (b .greyLabels))) (take (cb - ca) (drop ca (b .counts)))
       (take (zb - za) (drop za (b .sizes)))
 
   pub areas-lent : areas w b (b .spins) k ≡ lentAreas
@@ -79,7 +71,7 @@ module _ (w : Sweep) (k : ℕ) (b : Buffers) {la lb ga gb ca cb za zb : ℕ} (hl
 
   module _ (xs : List ℤ) (ls gs cs zs : List ℕ) (kl : length ls ≡ length (lentAreas .labels)) (kg : length gs ≡ length (lentAreas .greyLabels))
       (kc : length cs ≡ length (lentAreas .counts)) (kz : length zs ≡ length (lentAreas .sizes)) (r : Answer)
-      (h : Answers (taskCall w k) (taskChoices w k) lentAreas r (lent xs ls gs cs zs)) where
+      (h : Answers (taskCall w k) (taskChoices w k) lentAreas r (buffersOf xs ls gs cs zs)) where
     el : length ls ≡ lb - la
     el = kl ∙ lent-length (b .labels) k (w .lattice .n) la lb hl
 
@@ -93,9 +85,9 @@ module _ (w : Sweep) (k : ℕ) (b : Buffers) {la lb ga gb ca cb za zb : ℕ} (hl
     ez = kz ∙ lent-length (b .sizes) k 4 za zb hz
 
     abbrev put : Buffers
-    put = lent xs (back (b .labels) la lb ls) (back (b .greyLabels) ga gb gs) (back (b .counts) ca cb cs) (back (b .sizes) za zb zs)
+    put = buffersOf xs (back (b .labels) la lb ls) (back (b .greyLabels) ga gb gs) (back (b .counts) ca cb cs) (back (b .sizes) za zb zs)
 
-    areas-put : areas w put xs k ≡ lent xs ls gs cs zs
+    areas-put : areas w put xs k ≡ buffersOf xs ls gs cs zs
     areas-put =
         buffers-equal _ _ refl (back-own (b .labels) k (w .lattice .n) la lb hl ls el) (back-own (b .greyLabels) k (w .lattice .n) ga gb hg gs eg)
         (back-own (b .counts) k (w .lattice .n + 1) ca cb hc cs ec) (back-own (b .sizes) k 4 za zb hz zs ez)
@@ -107,7 +99,7 @@ module _ (w : Sweep) (k : ℕ) (b : Buffers) {la lb ga gb ca cb za zb : ℕ} (hl
         (back-other (b .sizes) k 4 za zb hz zs ez 0 j ne)
 
     grey-still :
-        (r : Answer) → Answers (taskCall w k) (taskChoices w k) lentAreas r (lent xs ls gs cs zs) → takesGreys (common w) ≡ false
+        (r : Answer) → Answers (taskCall w k) (taskChoices w k) lentAreas r (buffersOf xs ls gs cs zs) → takesGreys (common w) ≡ false
         → gs ≡ take (gb - ga) (drop ga (b .greyLabels))
     grey-still (Refused n) a e = ap (λ (z : Buffers). z .greyLabels) (a .kept)
     grey-still Idle a e = a .seen .grey-kept e
@@ -117,7 +109,7 @@ module _ (w : Sweep) (k : ℕ) (b : Buffers) {la lb ga gb ca cb za zb : ℕ} (hl
     steps-put = record {
       answers = rw (areas-lent, areas-put) h;
       lengths = record {
-        spins = length-after (taskCall w k) (taskChoices w k) lentAreas (lent xs ls gs cs zs) r h;
+        spins = length-after (taskCall w k) (taskChoices w k) lentAreas (buffersOf xs ls gs cs zs) r h;
         labels = back-length (b .labels) k (w .lattice .n) la lb hl ls el;
         counts = back-length (b .counts) k (w .lattice .n + 1) ca cb hc cs ec;
         sizes = back-length (b .sizes) k 4 za zb hz zs ez;

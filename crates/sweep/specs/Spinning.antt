@@ -2,47 +2,36 @@
 use Prim.Native.Nat.{ℕ, _+_, _*_, _/_, _%_, _<_}
 use mathlib.Core.Path.{_≡_, ap}
 use mathlib.Core.Logic.{_⊎_, inl, inr, _≢_}
-use mathlib.Core.Bool.{Bool, true, false, cond, _&&_}
+use mathlib.Core.Bool.{true}
 use native.Mathlib.Omega.{arith}
 use native.Mathlib.Nat.{div-add-mod', mod-lt}
 use lib.ListN.{length}
 use Rattle.paper.specs.declared.Answer.{Answer}
 use Rattle.paper.specs.declared.Answer.the-variants.{Refused, Idle, Moved}
 use Rattle.paper.specs.Panel.Input.{graph, Call, Choices, Buffers, spin, size, system}
-use Rattle.paper.specs.Panel.Takes.{moves, takesGreys}
+use Rattle.paper.specs.Panel.Takes.{moves}
 use Rattle.paper.specs.Site.Bonds.{holds}
 use Rattle.paper.specs.Component.Sizes.{labelOf}
-use Rattle.paper.specs.Move.Moving.{greyBit, greyAt, flipSome, reached, after, final}
+use Rattle.paper.specs.Move.Moving.{final}
 use Rattle.paper.specs.Refusal.Rules.{Spin, Spins}
 use Rattle.paper.specs.Refusal.Kept.{Valid, valid-of}
 use Rattle.paper.specs.Answer.Move.{Answers, Goes, Accepted, Accepted.idle, Accepted.moved}
-use Rattle.paper.specs.Law.Patterns.{flip-spin}
 use Rattle.paper.specs.Law.Unique.{Placed, place, label-lt}
 use Rattle.paper.specs.Demand3.Step.{rows}
 use Rattle.moves.specs.Ready.{ready}
-use Rattle.moves.specs.Moved.{Rows, after-spin}
+use Rattle.moves.specs.Moved.{Rows}
+use Rattle.moves.specs.Finish.{final-spin}
 
 -- ---- every spin is +1 or -1 after a task
 module _ (c : Call) (p : Choices) (b b′ : Buffers) (w : Goes c p b b′) where
-  after-is : (i k : ℕ) → i < c .lattice .n → k < size c → Spin (after c p (b .spins) (b′ .labels) i k)
-  after-is i k hi hk = after-spin c p (b .spins) (b′ .labels) (ready c p b (v .sound)) (v .fit .chosen .reference) perms i hi k hk
+  final-is : (i k : ℕ) → i < c .lattice .n → k < size c → Spin (final c p (b .spins) (b′ .labels) (b′ .greyLabels) i k)
+  final-is = final-spin c p (b .spins) (b′ .labels) (b′ .greyLabels) (ready c p b (v .sound)) (v .fit .chosen .reference) perms
     where
       v : Valid c p b
       v = valid-of c p b (w .valid)
 
       perms : moves (c .form) ≡ true → Rows c p (b′ .labels)
       perms e q i hi = rows c p b (w .valid) (rw (e, q)) (labelOf (b′ .labels) i) (label-lt (graph c) (holds c (b .spins)) (b′ .labels) (w .seen .labels) i hi)
-
-  final-is : (i k : ℕ) → i < c .lattice .n → k < size c → Spin (final c p (b .spins) (b′ .labels) (b′ .greyLabels) i k)
-  unfolding final
-  final-is i k hi hk = go (takesGreys c && reached c (b .spins) (b′ .greyLabels) i)
-    where
-      flips : ℕ → Bool
-      flips = greyBit (greyAt (c .form) (p .greys) (labelOf (b′ .greyLabels) i))
-
-      go : (t : Bool) → Spin (cond t (flipSome flips (after c p (b .spins) (b′ .labels) i) k) (after c p (b .spins) (b′ .labels) i k))
-      go true = flip-spin (flips k) (after c p (b .spins) (b′ .labels) i k) (after-is i k hi hk)
-      go false = after-is i k hi hk
 
   moved-spins : Spins (b′ .spins)
   moved-spins x l =

@@ -11,26 +11,27 @@ use Rattle.paper.specs.Refusal.Rule.{Kept}
 use Rattle.paper.specs.Refusal.Kept.{Valid}
 use Rattle.paper.specs.Answer.Task.{Sweep, tasks, masked, taskCall, taskChoices, areas}
 use Rattle.paper.specs.Answer.Sweep.{sweepRules}
-use Rattle.tasks.specs.Plan.{Placing, planOf}
-use Rattle.sweep.specs.declared.run.Tally.{Tally}
+use Rattle.paper.specs.Answer.Made.{planOf}
+use Rattle.tasks.specs.Plan.{Placing}
+use Rattle.sweep.specs.declared.run.Outcomes.{Outcomes}
 use Rattle.sweep.specs.Ascending.{Ran, Steps, isIdle, isMoved, idleBy, movedBy, ran-masked, ran-more}
 
 -- the counts can grow
-pub record Room (t : Tally) : Type 0 where
+pub record Room (t : Outcomes) : Type 0 where
   pub idle : t .idle ≤ 64
   pub moved : t .moved ≤ 64
 
-pub record Added (t : Tally) (a : Answer) (t′ : Tally) : Type 0 where
+pub record Added (t : Outcomes) (a : Answer) (t′ : Outcomes) : Type 0 where
   pub idle : t′ .idle ≡ t .idle + idleBy a
   pub moved : t′ .moved ≡ t .moved + movedBy a
 
-pub record Turn (w : Sweep) (k : ℕ) (t : Tally) (b : Buffers) : Type 0 where
+pub record Turn (w : Sweep) (k : ℕ) (t : Outcomes) (b : Buffers) : Type 0 where
   pub placing : Placing (planOf w) k (w .order)
   pub room : Room t
   pub valid : masked w k ≡ false → Valid (taskCall w k) (taskChoices w k) (areas w b (b .spins) k)
 
 -- a turn takes a sweep in which the first k tasks have run to one in which k + 1 have
-pub record Turned (w : Sweep) (k : ℕ) (t : Tally) (b : Buffers) (t′ : Tally) (b′ : Buffers) : Type 0 where
+pub record Turned (w : Sweep) (k : ℕ) (t : Outcomes) (b : Buffers) (t′ : Outcomes) (b′ : Buffers) : Type 0 where
   pub further : (b₀ : Buffers) → Kept (sweepRules w b₀) → k < tasks w → Ran w b₀ k (t .idle) (t .moved) b → Ran w b₀ (k + 1) (t′ .idle) (t′ .moved) b′
 
 -- the masks do not matter to a task that runs
@@ -56,11 +57,11 @@ remasked w masks = record {
 pub remask : (w : Sweep) (masks : List ℕ) {k : ℕ} {b : Buffers} {a : Answer} {b′ : Buffers} → Steps w k b a b′ → Steps (remasked w masks) k b a b′
 remask w masks s = record { answers = s .answers; lengths = s .lengths; apart = s .apart; grey-kept = s .grey-kept }
 
-pub turned-masked : (w : Sweep) (k : ℕ) (t : Tally) (b : Buffers) → masked w k ≡ true → Turned w k t b t b
+pub turned-masked : (w : Sweep) (k : ℕ) (t : Outcomes) (b : Buffers) → masked w k ≡ true → Turned w k t b t b
 turned-masked w k t b e = record { further = λ b₀ v l h. ran-masked w b₀ v k (t .idle) (t .moved) b l h e }
 
 pub turned-one :
-    (w : Sweep) (k : ℕ) (t : Tally) (b : Buffers) (a : Answer) (t′ : Tally) (b′ : Buffers) → masked w k ≡ false → Steps w k b a b′ → Added t a t′
+    (w : Sweep) (k : ℕ) (t : Outcomes) (b : Buffers) (a : Answer) (t′ : Outcomes) (b′ : Buffers) → masked w k ≡ false → Steps w k b a b′ → Added t a t′
     → Turned w k t b t′ b′
 turned-one w k t b a t′ b′ e s d = record { further = λ b₀ v l h. rw (d .idle, d .moved) (ran-more w b₀ v k (t .idle) (t .moved) b l h e a b′ s) }
 
@@ -74,7 +75,7 @@ count-most f (suc m) = more (f m) (count-most f m)
     more true h = omega arith
     more false h = omega arith
 
-pub room-of : (w : Sweep) (b : Buffers) (k : ℕ) (t : Tally) (b′ : Buffers) → tasks w ≤ 64 → Ran w b k (t .idle) (t .moved) b′ → Room t
+pub room-of : (w : Sweep) (b : Buffers) (k : ℕ) (t : Outcomes) (b′ : Buffers) → tasks w ≤ 64 → Ran w b k (t .idle) (t .moved) b′ → Room t
 room-of w b k t b′ few h = record {
   idle = omega (arith, h .reached, h .idles, count-most (isIdle w (b .spins)) k);
   moved = omega (arith, h .reached, h .moveds, count-most (isMoved w (b .spins)) k);

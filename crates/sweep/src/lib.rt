@@ -1,97 +1,16 @@
 // A sweep: tasks over temperatures and groups.
 mod run;
 
-use paper::Form;
-use paper::Mode;
+use paper::Plan;
 use paper::SweepAnswer;
-use tasks::Plan;
+ghost use Rattle.paper.specs.Panel.Made.{buffersOf};
+ghost use Rattle.paper.specs.Answer.Made.{sweepOf};
 ghost use Rattle.paper.specs.Answer.Sweep.{SweepAnswers};
-ghost use Rattle.tasks.specs.Plan.{sweepOf, lent};
-ghost use Rattle.sweep.specs.Updating.{sweepFor};
 
-// Everything is tested before anything is written.
-fn update(
-    plan: Plan,
-    spins: &mut [i8],
-    fwd: &[u32],
-    bwd: &[u32],
-    couplings: &[i32],
-    order: &[u32],
-    masks: &[u8],
-    temperatures: &[f32],
-    cuts: &[f32],
-    references: &[u32],
-    seeds: &[u32],
-    flips: &[u8],
-    perms: &[u8],
-    greys: &[u8],
-    labels: &mut [u32],
-    greyed: &mut [u32],
-    counts: &mut [u32],
-    sizes: &mut [u32],
-) -> SweepAnswer
-    ensures { λ r. ⌜ SweepAnswers
-        (sweepOf plan (now (fwd .entry)) (now (bwd .entry)) (now (couplings .entry)) (now (order .entry)) (now (masks .entry))
-        (now (temperatures .entry)) (now (cuts .entry)) (now (references .entry)) (now (seeds .entry))
-        (now (flips .entry)) (now (perms .entry)) (now (greys .entry)))
-        (lent (now (spins .entry)) (now (labels .entry)) (now (greyed .entry)) (now (counts .entry)) (now (sizes .entry))) r
-        (lent (now (spins .exit)) (now (labels .exit)) (now (greyed .exit)) (now (counts .exit)) (now (sizes .exit))) ⌝ }
-{
-    let fault = sweep_tests::test_sweep(
-        plan,
-        spins,
-        fwd,
-        bwd,
-        couplings,
-        order,
-        masks,
-        temperatures,
-        cuts,
-        references,
-        seeds,
-        flips,
-        perms,
-        greys,
-        labels,
-        greyed,
-        counts,
-        sizes,
-    );
-    if fault != 0 {
-        return SweepAnswer::Fault(fault);
-    }
-    run::run_tasks(
-        plan,
-        spins,
-        fwd,
-        bwd,
-        couplings,
-        order,
-        masks,
-        temperatures,
-        cuts,
-        references,
-        seeds,
-        flips,
-        perms,
-        greys,
-        labels,
-        greyed,
-        counts,
-        sizes,
-    )
-}
-
-// A sweep over t temperatures of r replicas in groups of `members`: see crates/paper/specs/Answer/Sweep.antt.
+// A sweep over t temperatures of r replicas in groups of `members`: see crates/paper/specs/Answer/Sweep.antt. Everything is tested before
+// anything is written.
 pub fn overlap_update(
-    mode: Mode,
-    form: Form,
-    n: usize,
-    d: usize,
-    s: usize,
-    t: usize,
-    r: usize,
-    members: usize,
+    plan: Plan,
     spins: &mut [i8],
     fwd: &[u32],
     bwd: &[u32],
@@ -110,24 +29,37 @@ pub fn overlap_update(
     counts: &mut [u32],
     sizes: &mut [u32],
 ) -> SweepAnswer
-    ensures { λ a. ⌜ SweepAnswers
-        (sweepFor mode form n d s t r members (now (fwd .entry)) (now (bwd .entry)) (now (couplings .entry)) (now (order .entry)) (now (masks .entry))
+    ensures { λ r. ⌜ SweepAnswers
+        (sweepOf plan (now (fwd .entry)) (now (bwd .entry)) (now (couplings .entry)) (now (order .entry)) (now (masks .entry))
         (now (temperatures .entry)) (now (cuts .entry)) (now (references .entry)) (now (seeds .entry))
         (now (flips .entry)) (now (perms .entry)) (now (greys .entry)))
-        (lent (now (spins .entry)) (now (labels .entry)) (now («grey_labels» .entry)) (now (counts .entry)) (now (sizes .entry))) a
-        (lent (now (spins .exit)) (now (labels .exit)) (now («grey_labels» .exit)) (now (counts .exit)) (now (sizes .exit))) ⌝ }
+        (buffersOf (now (spins .entry)) (now (labels .entry)) (now («grey_labels» .entry)) (now (counts .entry)) (now (sizes .entry))) r
+        (buffersOf (now (spins .exit)) (now (labels .exit)) (now («grey_labels» .exit)) (now (counts .exit)) (now (sizes .exit))) ⌝ }
 {
-    let plan = Plan {
-        mode,
-        form,
-        n,
-        d,
-        s,
-        t,
-        r,
-        members,
-    };
-    update(
+    let fault = sweep_tests::test_sweep(
+        plan,
+        spins,
+        fwd,
+        bwd,
+        couplings,
+        order,
+        masks,
+        temperatures,
+        cuts,
+        references,
+        seeds,
+        flips,
+        perms,
+        greys,
+        labels,
+        grey_labels,
+        counts,
+        sizes,
+    );
+    if fault != 0 {
+        return SweepAnswer::Fault(fault);
+    }
+    run::run_tasks(
         plan,
         spins,
         fwd,

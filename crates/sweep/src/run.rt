@@ -1,11 +1,16 @@
 // The tasks of a sweep that has been tested, in ascending order.
 use paper::Answer;
+use paper::Form;
+use paper::Group;
+use paper::Mode;
+use paper::Plan;
 use paper::SweepAnswer;
-use tasks::Plan;
+use paper::Task;
 ghost use mathlib.Core.List.{[]};
 ghost use Rattle.paper.specs.Refusal.Rule.{Kept};
 ghost use Rattle.paper.specs.Answer.Sweep.{sweepRules, SweepAnswers};
-ghost use Rattle.tasks.specs.Plan.{sweepOf, lent};
+ghost use Rattle.paper.specs.Panel.Made.{buffersOf};
+ghost use Rattle.paper.specs.Answer.Made.{sweepOf};
 ghost use Rattle.sweep.specs.Running.{Ready, ReadyIn, TaskAnswers};
 ghost use Rattle.sweep.specs.Turning.{Room, Added, Turn, Turned};
 ghost use Rattle.sweep.specs.Ascending.{Steps};
@@ -27,43 +32,34 @@ fn run_parts(
     perms: &[u8],
     greys: &[u8],
     labels: &mut [u32],
-    greyed: &mut [u32],
+    grey_labels: &mut [u32],
     counts: &mut [u32],
     sizes: &mut [u32],
 ) -> Answer
     requires { ⌜ Ready
         (sweepOf plan (now fwd) (now bwd) (now couplings) (now order) [] (now temperatures) (now cuts)
         (now references) (now seeds) (now flips) (now perms) (now greys))
-        k (lent (now spins) (now labels) (now greyed) (now counts) (now sizes)) ⌝ }
+        k (buffersOf (now spins) (now labels) (now «grey_labels») (now counts) (now sizes)) ⌝ }
     ensures { λ r. ⌜ TaskAnswers
         (sweepOf plan (now (fwd .entry)) (now (bwd .entry)) (now (couplings .entry)) (now (order .entry)) []
         (now (temperatures .entry)) (now (cuts .entry)) (now (references .entry)) (now (seeds .entry))
         (now (flips .entry)) (now (perms .entry)) (now (greys .entry)))
-        k (lent (now (spins .entry)) (now (labels .entry)) (now (greyed .entry)) (now (counts .entry)) (now (sizes .entry))) r
-        (lent (now (spins .exit)) (now (labels .exit)) (now (greyed .exit)) (now (counts .exit)) (now (sizes .exit))) ⌝ }
+        k (buffersOf (now (spins .entry)) (now (labels .entry)) (now («grey_labels» .entry)) (now (counts .entry)) (now (sizes .entry))) r
+        (buffersOf (now (spins .exit)) (now (labels .exit)) (now («grey_labels» .exit)) (now (counts .exit)) (now (sizes .exit))) ⌝ }
 {
-    let mode = plan.mode;
-    let form = plan.form;
+    let t = tasks::task_of(plan, order, temperatures, references, seeds, k);
     moves::run_task(
-        mode,
-        form,
-        plan.n,
-        plan.d,
-        plan.s,
+        t,
         spins,
         fwd,
         bwd,
         couplings,
-        tasks::task_group(plan, order, k),
-        tasks::task_temperature(plan, temperatures, k),
         tasks::task_cuts(plan, cuts, k),
-        tasks::word_at(references, k),
-        tasks::word_at(seeds, k),
         tasks::task_flips(plan, flips, k),
         tasks::task_perms(plan, perms, k),
         tasks::task_greys(plan, greys, k),
         labels,
-        greyed,
+        grey_labels,
         counts,
         sizes,
     )
@@ -86,26 +82,26 @@ fn run_one(
     perms: &[u8],
     greys: &[u8],
     labels: &mut [u32],
-    greyed: &mut [u32],
+    grey_labels: &mut [u32],
     counts: &mut [u32],
     sizes: &mut [u32],
 ) -> Answer
     requires { ⌜ ReadyIn
         (sweepOf plan (now fwd) (now bwd) (now couplings) (now order) [] (now temperatures) (now cuts)
         (now references) (now seeds) (now flips) (now perms) (now greys))
-        k (lent (now spins) (now labels) (now greyed) (now counts) (now sizes)) ⌝ }
+        k (buffersOf (now spins) (now labels) (now «grey_labels») (now counts) (now sizes)) ⌝ }
     ensures { λ r. ⌜ Steps
         (sweepOf plan (now (fwd .entry)) (now (bwd .entry)) (now (couplings .entry)) (now (order .entry)) []
         (now (temperatures .entry)) (now (cuts .entry)) (now (references .entry)) (now (seeds .entry))
         (now (flips .entry)) (now (perms .entry)) (now (greys .entry)))
-        k (lent (now (spins .entry)) (now (labels .entry)) (now (greyed .entry)) (now (counts .entry)) (now (sizes .entry))) r
-        (lent (now (spins .exit)) (now (labels .exit)) (now (greyed .exit)) (now (counts .exit)) (now (sizes .exit))) ⌝ }
+        k (buffersOf (now (spins .entry)) (now (labels .entry)) (now («grey_labels» .entry)) (now (counts .entry)) (now (sizes .entry))) r
+        (buffersOf (now (spins .exit)) (now (labels .exit)) (now («grey_labels» .exit)) (now (counts .exit)) (now (sizes .exit))) ⌝ }
 {
     let n = plan.n;
     let label = tasks::bounds(labels.len(), k, n);
     let a = label.start;
     let b = label.end;
-    let grey = tasks::bounds(greyed.len(), k, n);
+    let grey = tasks::bounds(grey_labels.len(), k, n);
     let c = grey.start;
     let d = grey.end;
     let count = tasks::bounds(counts.len(), k, n + 1);
@@ -130,38 +126,38 @@ fn run_one(
         perms,
         greys,
         &mut labels[a..b],
-        &mut greyed[c..d],
+        &mut grey_labels[c..d],
         &mut counts[e..f],
         &mut sizes[g..h],
     )
 }
 
-// The two counts so far.
-struct Tally {
+// How many tasks were idle so far, and how many moved.
+struct Outcomes {
     idle: u32,
     moved: u32,
 }
 
-fn add(tally: Tally, answer: Answer) -> Tally
-    requires { ⌜ Room tally ⌝ }
-    ensures { λ r. ⌜ Added tally answer r ⌝ }
+fn add(outcomes: Outcomes, answer: Answer) -> Outcomes
+    requires { ⌜ Room outcomes ⌝ }
+    ensures { λ r. ⌜ Added outcomes answer r ⌝ }
 {
     match answer {
-        Answer::Refused(_) => tally,
-        Answer::Idle => Tally {
-            idle: tally.idle + 1,
-            moved: tally.moved,
+        Answer::Refused(_) => outcomes,
+        Answer::Idle => Outcomes {
+            idle: outcomes.idle + 1,
+            moved: outcomes.moved,
         },
-        Answer::Moved => Tally {
-            idle: tally.idle,
-            moved: tally.moved + 1,
+        Answer::Moved => Outcomes {
+            idle: outcomes.idle,
+            moved: outcomes.moved + 1,
         },
     }
 }
 
 // The task k, unless it is masked.
 fn step(
-    tally: Tally,
+    outcomes: Outcomes,
     plan: Plan,
     k: usize,
     spins: &mut [i8],
@@ -178,23 +174,23 @@ fn step(
     perms: &[u8],
     greys: &[u8],
     labels: &mut [u32],
-    greyed: &mut [u32],
+    grey_labels: &mut [u32],
     counts: &mut [u32],
     sizes: &mut [u32],
-) -> Tally
+) -> Outcomes
     requires { ⌜ Turn
         (sweepOf plan (now fwd) (now bwd) (now couplings) (now order) (now masks) (now temperatures) (now cuts)
         (now references) (now seeds) (now flips) (now perms) (now greys))
-        k tally (lent (now spins) (now labels) (now greyed) (now counts) (now sizes)) ⌝ }
+        k outcomes (buffersOf (now spins) (now labels) (now «grey_labels») (now counts) (now sizes)) ⌝ }
     ensures { λ r. ⌜ Turned
         (sweepOf plan (now (fwd .entry)) (now (bwd .entry)) (now (couplings .entry)) (now (order .entry)) (now (masks .entry))
         (now (temperatures .entry)) (now (cuts .entry)) (now (references .entry)) (now (seeds .entry))
         (now (flips .entry)) (now (perms .entry)) (now (greys .entry)))
-        k tally (lent (now (spins .entry)) (now (labels .entry)) (now (greyed .entry)) (now (counts .entry)) (now (sizes .entry))) r
-        (lent (now (spins .exit)) (now (labels .exit)) (now (greyed .exit)) (now (counts .exit)) (now (sizes .exit))) ⌝ }
+        k outcomes (buffersOf (now (spins .entry)) (now (labels .entry)) (now («grey_labels» .entry)) (now (counts .entry)) (now (sizes .entry))) r
+        (buffersOf (now (spins .exit)) (now (labels .exit)) (now («grey_labels» .exit)) (now (counts .exit)) (now (sizes .exit))) ⌝ }
 {
     if tasks::masked(plan, masks, k) {
-        return tally;
+        return outcomes;
     }
     let answer = run_one(
         plan,
@@ -212,11 +208,11 @@ fn step(
         perms,
         greys,
         labels,
-        greyed,
+        grey_labels,
         counts,
         sizes,
     );
-    add(tally, answer)
+    add(outcomes, answer)
 }
 
 // All tasks of a sweep that has been tested.
@@ -236,27 +232,27 @@ pub fn run_tasks(
     perms: &[u8],
     greys: &[u8],
     labels: &mut [u32],
-    greyed: &mut [u32],
+    grey_labels: &mut [u32],
     counts: &mut [u32],
     sizes: &mut [u32],
 ) -> SweepAnswer
     requires { ⌜ Kept (sweepRules
         (sweepOf plan (now fwd) (now bwd) (now couplings) (now order) (now masks) (now temperatures) (now cuts)
         (now references) (now seeds) (now flips) (now perms) (now greys))
-        (lent (now spins) (now labels) (now greyed) (now counts) (now sizes))) ⌝ }
+        (buffersOf (now spins) (now labels) (now «grey_labels») (now counts) (now sizes))) ⌝ }
     ensures { λ r. ⌜ SweepAnswers
         (sweepOf plan (now (fwd .entry)) (now (bwd .entry)) (now (couplings .entry)) (now (order .entry)) (now (masks .entry))
         (now (temperatures .entry)) (now (cuts .entry)) (now (references .entry)) (now (seeds .entry))
         (now (flips .entry)) (now (perms .entry)) (now (greys .entry)))
-        (lent (now (spins .entry)) (now (labels .entry)) (now (greyed .entry)) (now (counts .entry)) (now (sizes .entry))) r
-        (lent (now (spins .exit)) (now (labels .exit)) (now (greyed .exit)) (now (counts .exit)) (now (sizes .exit))) ⌝ }
+        (buffersOf (now (spins .entry)) (now (labels .entry)) (now («grey_labels» .entry)) (now (counts .entry)) (now (sizes .entry))) r
+        (buffersOf (now (spins .exit)) (now (labels .exit)) (now («grey_labels» .exit)) (now (counts .exit)) (now (sizes .exit))) ⌝ }
 {
     let count = tasks::task_count(plan);
-    let mut tally = Tally { idle: 0, moved: 0 };
+    let mut outcomes = Outcomes { idle: 0, moved: 0 };
     let mut k: usize = 0;
     while k < count {
-        tally = step(
-            tally,
+        outcomes = step(
+            outcomes,
             plan,
             k,
             spins,
@@ -273,11 +269,11 @@ pub fn run_tasks(
             perms,
             greys,
             labels,
-            greyed,
+            grey_labels,
             counts,
             sizes,
         );
         k += 1;
     }
-    SweepAnswer::Swept(tally.idle, tally.moved)
+    SweepAnswer::Swept(outcomes.idle, outcomes.moved)
 }

@@ -1,4 +1,4 @@
--- Tests 1 to 7 and the mask bytes, over the whole sweep.
+-- Tests 3 to 7 and the mask bytes, over the whole sweep.
 use Prim.Native.Nat.{ℕ, zero, suc, _*_, _≤_, _<_}
 use mathlib.Core.Path.{_≡_, refl}
 use mathlib.Core.List.{List, [], _∷_, _++_}
@@ -12,10 +12,9 @@ use Rattle.paper.specs.Refusal.Rule.{Rule, rule, Kept}
 use Rattle.paper.specs.Refusal.Rules.{When, Spins, Inverse, Permutes, SmallCouplings, Warm}
 use Rattle.paper.specs.Refusal.Verdict.{Verdict, broken-first}
 use Rattle.paper.specs.Answer.Task.{Sweep}
-use Rattle.tasks.specs.declared.Plan.{Plan}
-use Rattle.tasks.specs.Plan.{planOf}
-use Rattle.sweep_sizes.specs.declared.SweepLengths.{SweepLengths}
-use Rattle.sweep_sizes.specs.Lengths.{sizeRules}
+use Rattle.paper.specs.declared.Plan.{Plan}
+use Rattle.paper.specs.declared.Lengths.{Lengths}
+use Rattle.sweep_tests.specs.declared.SweepLengths.{SweepLengths}
 
 -- what the tests on the panel and on the temperatures lean on
 pub record PanelLong (q : Plan) (fwd bwd order : List ℕ) : Type 0 where
@@ -46,32 +45,30 @@ heatRules q couplings temperatures masks =
     ∷ []
 
 -- the lengths of all that is lent
-abbrev pub lengthsAll : Sweep → Buffers → SweepLengths
-lengthsAll w b = record {
+abbrev pub lengthsOf : Sweep → Buffers → Lengths
+lengthsOf w b = record {
   spins = length (b .spins);
   fwd = length (w .lattice .fwd);
   bwd = length (w .lattice .bwd);
   couplings = length (w .lattice .couplings);
-  order = length (w .order);
-  masks = length (w .masks);
-  temperatures = length (w .temperatures);
   cuts = length (w .cuts);
-  references = length (w .references);
-  seeds = length (w .seeds);
   flips = length (w .flips);
   perms = length (w .perms);
   greys = length (w .greys);
   labels = length (b .labels);
-  greyed = length (b .greyLabels);
+  «grey_labels» = length (b .greyLabels);
   counts = length (b .counts);
   sizes = length (b .sizes);
 }
 
-abbrev pub firstRules : Sweep → Buffers → List Rule
-firstRules w b =
-    sizeRules (planOf w) (lengthsAll w b)
-    ++ (panelRules (planOf w) (b .spins) (w .lattice .fwd) (w .lattice .bwd) (w .order)
-    ++ heatRules (planOf w) (w .lattice .couplings) (w .temperatures) (w .masks))
+abbrev pub ownLengths : Sweep → SweepLengths
+ownLengths w = record {
+  order = length (w .order);
+  masks = length (w .masks);
+  temperatures = length (w .temperatures);
+  references = length (w .references);
+  seeds = length (w .seeds);
+}
 
 -- ---- a list of rules after another
 pub first-broken : (rs qs : List Rule) (r : ℕ) → (r ≡ 0 → ⊥) → Verdict rs r → Verdict (rs ++ qs) r

@@ -1,3 +1,4 @@
+pub mod Lengths
 pub mod First
 pub mod Tasks
 pub mod Whole

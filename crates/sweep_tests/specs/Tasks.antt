@@ -1,18 +1,17 @@
 -- Tests 8, 9 and 10 of unmasked tasks in ascending order.
-use Prim.Native.Nat.{ℕ, zero, suc, _+_, _*_, _/_, _≤_, _<_}
+use Prim.Native.Nat.{ℕ, zero, suc, _+_, _*_, _<_}
 use mathlib.Core.Path.{_≡_, refl, _∙_}
 use mathlib.Core.Logic.{_⊎_, inl, inr}
 use mathlib.Core.Bool.{true, false, cond}
 use mathlib.Core.List.{List, []}
 use native.Mathlib.Omega.{arith}
 use native.Mathlib.Numerals.{add-one}
-use native.Mathlib.Nat.{mul-le-mul-right, suc-mul, eq-or-lt-of-le, le-of-suc-le-suc}
+use native.Mathlib.Nat.{eq-or-lt-of-le, le-of-suc-le-suc}
 use borrow.Author.Tests.{lt-ltb}
 use lib.Dec.{ltb}
 use lib.ListN.{length, getD}
 use lib.IntN.{ℤ}
-use lib.Ieee.{Float, nan}
-use Rattle.paper.specs.declared.Group.{Group}
+use lib.Ieee.{Float}
 use Rattle.paper.specs.Panel.Input.{Buffers, member}
 use Rattle.paper.specs.Panel.Takes.{drawsBonds, flipsBy, permsBy, greysBy, entries}
 use Rattle.paper.specs.Refusal.Rule.{Rule, Kept, Broken}
@@ -21,11 +20,12 @@ use Rattle.paper.specs.Refusal.Verdict.{Verdict, kept-both, broken-first, broke
 use Rattle.paper.specs.Answer.Task.{Sweep, orderAt, masked, part, taskCall, taskChoices}
 use Rattle.paper.specs.Answer.Sweep.{taskRules}
 use Rattle.paper.specs.Law.SweepTasks.{table-at, part-length}
-use Rattle.columns.specs.Column.{Inside}
-use Rattle.moves.specs.Task.{choicesOf}
-use Rattle.checks.specs.Choices.{Tested, EveryCall}
-use Rattle.tasks.specs.declared.Plan.{Plan}
-use Rattle.tasks.specs.Plan.{Planned, tasksOf, groupAt, maskedAt, ordered, sweepOf, lent, entry-lt}
+use Rattle.paper.specs.declared.Plan.{Plan}
+use Rattle.paper.specs.declared.Task.{Task}
+use Rattle.paper.specs.Panel.Made.{choicesOf, buffersOf}
+use Rattle.paper.specs.Answer.Made.{sweepOf}
+use Rattle.tests.specs.Choices.{Tested, EveryCall, rows-inside, rows-spins}
+use Rattle.tasks.specs.Plan.{Planned, tasksOf, groupAt, maskedAt, taskAt, ordered, entry-lt}
 
 -- what the first tests have shown
 pub record SweepTested (q : Plan) (spins : List ℤ) (order : List ℕ) (cuts : List Float) (flips perms greys : List ℕ) : Type 0 where
@@ -57,21 +57,17 @@ module _ {q : Plan} {k : ℕ} {spins : List ℤ} {order : List ℕ} {cuts : List
   member-lt : (x : ℕ) → x < q .members → member (groupAt q order k) x < q .s
   member-lt x l = rw (member-is x l) (h .tested .permuted .within _ (entry-lt q (h .tested .planned) k (h .below) x l))
 
-  inside : Inside (q .n) (groupAt q order k) spins
-  inside x l =
-      let z : suc (member (groupAt q order k) x) ≤ q .s = member-lt x l in
-      omega (arith, mul-le-mul-right (q .n) z, suc-mul (member (groupAt q order k) x) (q .n), h .tested .spins-long)
-
   pub task-tested :
-      Tested (q .mode) (q .form) (q .n) (groupAt q order k) spins (part k (q .n) flips) (part k (entries (q .form) (q .n) * q .members) perms)
+      (temperatures : List Float) (references seeds : List ℕ)
+      → Tested (taskAt q order temperatures references seeds k) spins (part k (q .n) flips) (part k (entries (q .form) (q .n) * q .members) perms)
       (part k (entries (q .form) (q .n)) greys)
-  task-tested = record {
+  task-tested temperatures references seeds = record {
     n-low = ranged .lattice .n-low;
     n-high = ranged .lattice .n-high;
     size-low = ranged .size-low;
     size-high = ranged .size-high;
-    inside = inside;
-    spins = λ i x hi hx. h .tested .spinning (member (groupAt q order k) x * q .n + i) (omega (arith, inside x hx));
+    inside = rows-inside (q .n) (q .s) (groupAt q order k) spins (h .tested .spins-long) member-lt;
+    spins = rows-spins (q .n) (q .s) (groupAt q order k) spins (h .tested .spins-long) member-lt (h .tested .spinning);
     flips-long = λ t. part-length (tasksOf q) (q .n) k flips (h .below) (h .tested .flips-long t);
     perms-long = λ t. part-length (tasksOf q) (entries (q .form) (q .n) * q .members) k perms (h .below) (h .tested .perms-long t);
     greys-long = λ t. part-length (tasksOf q) (entries (q .form) (q .n)) k greys (h .below) (h .tested .greys-long t);
@@ -81,35 +77,37 @@ module _ {q : Plan} {k : ℕ} {spins : List ℤ} {order : List ℕ} {cuts : List
 abbrev pub oneTask : Sweep → List ℤ → ℕ → List Rule
 oneTask w xs k = cond (masked w k) [] (choiceRules (taskCall w k) (taskChoices w k) xs)
 
--- r is the verdict on the task k, whatever the panel's tables, couplings and temperatures are
-pub record TaskTold (q : Plan) (k : ℕ) (spins : List ℤ) (order masks : List ℕ) (cuts : List Float) (references seeds flips perms greys : List ℕ) (r : ℕ) :
-    Type 0 where
-  pub is :
-      (fwd bwd : List ℕ) (couplings : List ℤ) (temperatures : List Float)
-      → Verdict (oneTask (sweepOf q fwd bwd couplings order masks temperatures cuts references seeds flips perms greys) spins k) r
+-- r is the verdict on the task k, whatever the panel's tables and couplings are
+pub record TaskTold
+    (q : Plan) (k : ℕ) (spins : List ℤ) (order masks : List ℕ) (temperatures cuts : List Float) (references seeds flips perms greys : List ℕ) (r : ℕ) : Type 0
+  where
+    pub is :
+        (fwd bwd : List ℕ) (couplings : List ℤ)
+        → Verdict (oneTask (sweepOf q fwd bwd couplings order masks temperatures cuts references seeds flips perms greys) spins k) r
 
 -- and on the tasks below K, whatever the outputs hold
-pub record TasksTold (q : Plan) (K : ℕ) (spins : List ℤ) (order masks : List ℕ) (cuts : List Float) (references seeds flips perms greys : List ℕ) (r : ℕ) :
-    Type 0 where
-  pub is :
-      (fwd bwd : List ℕ) (couplings : List ℤ) (temperatures : List Float) (labels greyLabels counts sizes : List ℕ)
-      → Verdict
-      (taskRules (sweepOf q fwd bwd couplings order masks temperatures cuts references seeds flips perms greys) (lent spins labels greyLabels counts sizes) K)
-      r
+pub record TasksTold
+    (q : Plan) (K : ℕ) (spins : List ℤ) (order masks : List ℕ) (temperatures cuts : List Float) (references seeds flips perms greys : List ℕ) (r : ℕ) : Type 0
+  where
+    pub is :
+        (fwd bwd : List ℕ) (couplings : List ℤ) (labels greyLabels counts sizes : List ℕ)
+        → Verdict
+        (taskRules (sweepOf q fwd bwd couplings order masks temperatures cuts references seeds flips perms greys)
+        (buffersOf spins labels greyLabels counts sizes) K)
+        r
 
 -- a masked task keeps its rules; an unmasked one has the verdict on its parts
-module _ {q : Plan} {k : ℕ} {spins : List ℤ} {order masks : List ℕ} {cuts : List Float} {references seeds flips perms greys : List ℕ} where
-  pub told-masked : maskedAt q masks k ≡ true → TaskTold q k spins order masks cuts references seeds flips perms greys 0
-  told-masked e = record { is = λ fwd bwd js ts. rw e tt }
+module _ {q : Plan} {k : ℕ} {spins : List ℤ} {order masks : List ℕ} {ts cuts : List Float} {references seeds flips perms greys : List ℕ} where
+  pub told-masked : maskedAt q masks k ≡ true → TaskTold q k spins order masks ts cuts references seeds flips perms greys 0
+  told-masked e = record { is = λ fwd bwd js. rw e tt }
 
   pub told-parts :
-      {g : Group} {cs : List Float} {a b : ℕ} {fs ps gs : List ℕ} {r : ℕ} → maskedAt q masks k ≡ false
-      → g ≡ groupAt q order k → cs ≡ part k (q .n * q .d) cuts → a ≡ getD references k 0 → b ≡ getD seeds k 0
+      {t : Task} {cs : List Float} {fs ps gs : List ℕ} {r : ℕ} → maskedAt q masks k ≡ false
+      → t ≡ taskAt q order ts references seeds k → cs ≡ part k (q .n * q .d) cuts
       → fs ≡ part k (q .n) flips → ps ≡ part k (entries (q .form) (q .n) * q .members) perms → gs ≡ part k (entries (q .form) (q .n)) greys
-      → EveryCall (q .mode) (q .form) (q .n) g cs a b (λ c. Verdict (choiceRules c (choicesOf fs ps gs) spins) r)
-      → TaskTold q k spins order masks cuts references seeds flips perms greys r
-  told-parts {g} {cs} {a} {b} {fs} {ps} {gs} {r} e e₁ e₂ e₃ e₄ e₅ e₆ e₇ h =
-      record { is = λ fwd bwd js ts. rw e (rw (e₁, e₂, e₃, e₄, e₅, e₆, e₇) at (h (q .d) (q .s) fwd bwd js (getD ts (k / (q .r / q .members)) nan))) }
+      → EveryCall t cs (λ c. Verdict (choiceRules c (choicesOf fs ps gs) spins) r)
+      → TaskTold q k spins order masks ts cuts references seeds flips perms greys r
+  told-parts e e₁ e₂ e₃ e₄ e₅ h = record { is = λ fwd bwd js. rw e (rw (e₁, e₂, e₃, e₄, e₅) at (h fwd bwd js)) }
 
 -- ---- one task more
 more-kept : (w : Sweep) (b : Buffers) (K : ℕ) → Kept (taskRules w b K) → Kept (oneTask w (b .spins) K) → Kept (taskRules w b (K + 1))
@@ -123,27 +121,27 @@ more-broken w b K (suc M) r l h f = go (eq-or-lt-of-le (le-of-suc-le-suc l)) (λ
     go (inl e) ih = rw (← e) (broken-later (taskRules w b K) (oneTask w (b .spins) K) r h f)
     go (inr e) ih = broken-first (taskRules w b M) (oneTask w (b .spins) M) r (ih e)
 
-module _ {q : Plan} {spins : List ℤ} {order masks : List ℕ} {cuts : List Float} {references seeds flips perms greys : List ℕ} where
-  pub told-none : TasksTold q 0 spins order masks cuts references seeds flips perms greys 0
-  told-none = record { is = λ fwd bwd js ts labels greyed counts sizes. tt }
+module _ {q : Plan} {spins : List ℤ} {order masks : List ℕ} {ts cuts : List Float} {references seeds flips perms greys : List ℕ} where
+  pub told-none : TasksTold q 0 spins order masks ts cuts references seeds flips perms greys 0
+  told-none = record { is = λ fwd bwd js labels greyLabels counts sizes. tt }
 
   pub told-more :
-      {K r : ℕ} → TasksTold q K spins order masks cuts references seeds flips perms greys 0 → r ≡ 0
-      → TaskTold q K spins order masks cuts references seeds flips perms greys r
-      → TasksTold q (K + 1) spins order masks cuts references seeds flips perms greys 0
+      {K r : ℕ} → TasksTold q K spins order masks ts cuts references seeds flips perms greys 0 → r ≡ 0
+      → TaskTold q K spins order masks ts cuts references seeds flips perms greys r
+      → TasksTold q (K + 1) spins order masks ts cuts references seeds flips perms greys 0
   told-more {K} {r} h e t = record {
-    is = λ fwd bwd js ts labels greyed counts sizes.
-        more-kept (sweepOf q fwd bwd js order masks ts cuts references seeds flips perms greys) (lent spins labels greyed counts sizes) K
-        (h .is fwd bwd js ts labels greyed counts sizes) (rw e at (t .is fwd bwd js ts));
+    is = λ fwd bwd js labels greyLabels counts sizes.
+        more-kept (sweepOf q fwd bwd js order masks ts cuts references seeds flips perms greys) (buffersOf spins labels greyLabels counts sizes) K
+        (h .is fwd bwd js labels greyLabels counts sizes) (rw e at (t .is fwd bwd js));
   }
 
   pub told-broken :
-      {K M r : ℕ} → K < M → TasksTold q K spins order masks cuts references seeds flips perms greys 0 → (r ≡ 0 → ⊥)
-      → TaskTold q K spins order masks cuts references seeds flips perms greys r
-      → TasksTold q M spins order masks cuts references seeds flips perms greys r
+      {K M r : ℕ} → K < M → TasksTold q K spins order masks ts cuts references seeds flips perms greys 0 → (r ≡ 0 → ⊥)
+      → TaskTold q K spins order masks ts cuts references seeds flips perms greys r
+      → TasksTold q M spins order masks ts cuts references seeds flips perms greys r
   told-broken {K} {M} {r = zero} l h ne t = absurd (ne refl)
   told-broken {K} {M} {r = suc r} l h ne t = record {
-    is = λ fwd bwd js ts labels greyed counts sizes.
-        more-broken (sweepOf q fwd bwd js order masks ts cuts references seeds flips perms greys) (lent spins labels greyed counts sizes) K M (suc r) l
-        (h .is fwd bwd js ts labels greyed counts sizes) (t .is fwd bwd js ts);
+    is = λ fwd bwd js labels greyLabels counts sizes.
+        more-broken (sweepOf q fwd bwd js order masks ts cuts references seeds flips perms greys) (buffersOf spins labels greyLabels counts sizes)
+        K M (suc r) l (h .is fwd bwd js labels greyLabels counts sizes) (t .is fwd bwd js);
   }

@@ -1,14 +1,66 @@
 // The tests of a sweep, all made before anything is written.
-use sweep_sizes::SweepLengths;
-use tasks::Plan;
+use paper::Form;
+use paper::Lengths;
+use paper::Mode;
+use paper::Plan;
 ghost use lib.ListN.{length};
 ghost use Rattle.paper.specs.Component.Marks.{Tells};
 ghost use Rattle.paper.specs.Refusal.Rules.{When};
 ghost use Rattle.paper.specs.Refusal.Verdict.{Verdict};
+ghost use Rattle.paper.specs.Panel.Made.{buffersOf};
+ghost use Rattle.paper.specs.Answer.Made.{sweepOf};
 ghost use Rattle.paper.specs.Answer.Sweep.{sweepRules};
-ghost use Rattle.tasks.specs.Plan.{tasksOf, sweepOf, lent};
-ghost use Rattle.sweep_tests.specs.First.{PanelLong, HeatLong, AllWarm, panelRules, heatRules, firstRules};
+ghost use Rattle.tasks.specs.Plan.{Planned, tasksOf};
+ghost use Rattle.sweep_tests.specs.Lengths.{Fitting};
+ghost use Rattle.sweep_tests.specs.First.{PanelLong, HeatLong, AllWarm, panelRules, heatRules};
 ghost use Rattle.sweep_tests.specs.Tasks.{SweepTested, TaskTested, TaskTold, TasksTold};
+
+// How many elements the inputs have that a sweep takes beside its tasks'.
+pub struct SweepLengths {
+    pub order: usize,
+    pub masks: usize,
+    pub temperatures: usize,
+    pub references: usize,
+    pub seeds: usize,
+}
+
+// Test 1. The product is asked for once it cannot wrap.
+pub fn plan_ok(plan: Plan) -> bool
+    ensures { λ r. ⌜ Tells r (Planned plan) ⌝ }
+{
+    let mode = plan.mode;
+    if !lattice::ranged(plan.n, plan.d, plan.s, mode, plan.members) {
+        return false;
+    }
+    let s = plan.s;
+    let t = plan.t;
+    let r = plan.r;
+    if (s < t) | (s < r) {
+        return false;
+    }
+    (t * r == s) & (plan.members <= r)
+}
+
+// Test 2.
+fn lengths_ok(plan: Plan, l: Lengths, o: SweepLengths) -> bool
+    requires { ⌜ Planned plan ⌝ }
+    ensures { λ r. ⌜ Tells r (Fitting plan l o) ⌝ }
+{
+    let mode = plan.mode;
+    let form = plan.form;
+    let n = plan.n;
+    let d = plan.d;
+    let s = plan.s;
+    let t = plan.t;
+    let m = plan.members;
+    let count = tasks::task_count(plan);
+    tests::panel::lengths_ok(mode, form, n, d, s, m, count, l)
+        & (o.order == s)
+        & (o.masks == t)
+        & lattice::fits(mode.is_drawn(), o.temperatures, t)
+        & lattice::fits(mode.is_gperm(), o.references, count)
+        & lattice::fits(form.is_wolff(), o.seeds, count)
+}
 
 fn test_panel(plan: Plan, spins: &[i8], fwd: &[u32], bwd: &[u32], order: &[u32]) -> u8
     requires { ⌜ PanelLong plan (now fwd) (now bwd) (now order) ⌝ }
@@ -57,13 +109,11 @@ fn test_heat(plan: Plan, couplings: &[i32], temperatures: &[f32], masks: &[u8]) 
     }
 }
 
-// Tests 1 to 7 and the mask bytes, over the whole sweep.
-fn test_first(
+// Tests 8, 9 and 10 of the task k; a masked task's areas are not read.
+fn test_task(
     plan: Plan,
+    k: usize,
     spins: &[i8],
-    fwd: &[u32],
-    bwd: &[u32],
-    couplings: &[i32],
     order: &[u32],
     masks: &[u8],
     temperatures: &[f32],
@@ -73,79 +123,18 @@ fn test_first(
     flips: &[u8],
     perms: &[u8],
     greys: &[u8],
-    labels: &[u32],
-    greyed: &[u32],
-    counts: &[u32],
-    sizes: &[u32],
-) -> u8
-    ensures { λ r. ⌜ Verdict (firstRules
-        (sweepOf plan (now (fwd .entry)) (now (bwd .entry)) (now (couplings .entry)) (now (order .entry)) (now (masks .entry))
-        (now (temperatures .entry)) (now (cuts .entry)) (now (references .entry)) (now (seeds .entry))
-        (now (flips .entry)) (now (perms .entry)) (now (greys .entry)))
-        (lent (now (spins .entry)) (now (labels .entry)) (now (greyed .entry)) (now (counts .entry)) (now (sizes .entry)))) r ⌝ }
-{
-    let l = SweepLengths {
-        spins: spins.len(),
-        fwd: fwd.len(),
-        bwd: bwd.len(),
-        couplings: couplings.len(),
-        order: order.len(),
-        masks: masks.len(),
-        temperatures: temperatures.len(),
-        cuts: cuts.len(),
-        references: references.len(),
-        seeds: seeds.len(),
-        flips: flips.len(),
-        perms: perms.len(),
-        greys: greys.len(),
-        labels: labels.len(),
-        greyed: greyed.len(),
-        counts: counts.len(),
-        sizes: sizes.len(),
-    };
-    let size = sweep_sizes::test_sizes(plan, l);
-    if size != 0 {
-        return size;
-    }
-    let panel = test_panel(plan, spins, fwd, bwd, order);
-    if panel != 0 {
-        return panel;
-    }
-    test_heat(plan, couplings, temperatures, masks)
-}
-
-// Tests 8, 9 and 10 of the task k; a masked task's areas are not read.
-fn test_task(
-    plan: Plan,
-    k: usize,
-    spins: &[i8],
-    order: &[u32],
-    masks: &[u8],
-    cuts: &[f32],
-    references: &[u32],
-    seeds: &[u32],
-    flips: &[u8],
-    perms: &[u8],
-    greys: &[u8],
 ) -> u8
     requires { ⌜ TaskTested plan k (now spins) (now order) (now cuts) (now flips) (now perms) (now greys) ⌝ }
-    ensures { λ r. ⌜ TaskTold plan k (now (spins .entry)) (now (order .entry)) (now (masks .entry)) (now (cuts .entry))
-        (now (references .entry)) (now (seeds .entry)) (now (flips .entry)) (now (perms .entry)) (now (greys .entry)) r ⌝ }
+    ensures { λ r. ⌜ TaskTold plan k (now (spins .entry)) (now (order .entry)) (now (masks .entry)) (now (temperatures .entry))
+        (now (cuts .entry)) (now (references .entry)) (now (seeds .entry)) (now (flips .entry)) (now (perms .entry)) (now (greys .entry)) r ⌝ }
 {
     if tasks::masked(plan, masks, k) {
         return 0;
     }
-    let mode = plan.mode;
-    let form = plan.form;
-    checks::test_choices(
-        mode,
-        form,
-        plan.n,
+    tests::choices::test_choices(
+        tasks::task_of(plan, order, temperatures, references, seeds, k),
         spins,
-        tasks::task_group(plan, order, k),
         tasks::task_cuts(plan, cuts, k),
-        tasks::word_at(references, k),
-        tasks::word_at(seeds, k),
         tasks::task_flips(plan, flips, k),
         tasks::task_perms(plan, perms, k),
         tasks::task_greys(plan, greys, k),
@@ -158,6 +147,7 @@ fn test_tasks(
     spins: &[i8],
     order: &[u32],
     masks: &[u8],
+    temperatures: &[f32],
     cuts: &[f32],
     references: &[u32],
     seeds: &[u32],
@@ -166,8 +156,8 @@ fn test_tasks(
     greys: &[u8],
 ) -> u8
     requires { ⌜ SweepTested plan (now spins) (now order) (now cuts) (now flips) (now perms) (now greys) ⌝ }
-    ensures { λ r. ⌜ TasksTold plan (tasksOf plan) (now (spins .entry)) (now (order .entry)) (now (masks .entry)) (now (cuts .entry))
-        (now (references .entry)) (now (seeds .entry)) (now (flips .entry)) (now (perms .entry)) (now (greys .entry)) r ⌝ }
+    ensures { λ r. ⌜ TasksTold plan (tasksOf plan) (now (spins .entry)) (now (order .entry)) (now (masks .entry)) (now (temperatures .entry))
+        (now (cuts .entry)) (now (references .entry)) (now (seeds .entry)) (now (flips .entry)) (now (perms .entry)) (now (greys .entry)) r ⌝ }
 {
     let count = tasks::task_count(plan);
     let mut k: usize = 0;
@@ -178,6 +168,7 @@ fn test_tasks(
             spins,
             order,
             masks,
+            temperatures,
             cuts,
             references,
             seeds,
@@ -210,7 +201,7 @@ pub fn test_sweep(
     perms: &[u8],
     greys: &[u8],
     labels: &[u32],
-    greyed: &[u32],
+    grey_labels: &[u32],
     counts: &[u32],
     sizes: &[u32],
 ) -> u8
@@ -218,36 +209,49 @@ pub fn test_sweep(
         (sweepOf plan (now (fwd .entry)) (now (bwd .entry)) (now (couplings .entry)) (now (order .entry)) (now (masks .entry))
         (now (temperatures .entry)) (now (cuts .entry)) (now (references .entry)) (now (seeds .entry))
         (now (flips .entry)) (now (perms .entry)) (now (greys .entry)))
-        (lent (now (spins .entry)) (now (labels .entry)) (now (greyed .entry)) (now (counts .entry)) (now (sizes .entry)))) r ⌝ }
+        (buffersOf (now (spins .entry)) (now (labels .entry)) (now («grey_labels» .entry)) (now (counts .entry)) (now (sizes .entry)))) r ⌝ }
 {
-    let fault = test_first(
-        plan,
-        spins,
-        fwd,
-        bwd,
-        couplings,
-        order,
-        masks,
-        temperatures,
-        cuts,
-        references,
-        seeds,
-        flips,
-        perms,
-        greys,
-        labels,
-        greyed,
-        counts,
-        sizes,
-    );
-    if fault != 0 {
-        return fault;
+    if !plan_ok(plan) {
+        return 1;
+    }
+    let l = Lengths {
+        spins: spins.len(),
+        fwd: fwd.len(),
+        bwd: bwd.len(),
+        couplings: couplings.len(),
+        cuts: cuts.len(),
+        flips: flips.len(),
+        perms: perms.len(),
+        greys: greys.len(),
+        labels: labels.len(),
+        grey_labels: grey_labels.len(),
+        counts: counts.len(),
+        sizes: sizes.len(),
+    };
+    let o = SweepLengths {
+        order: order.len(),
+        masks: masks.len(),
+        temperatures: temperatures.len(),
+        references: references.len(),
+        seeds: seeds.len(),
+    };
+    if !lengths_ok(plan, l, o) {
+        return 2;
+    }
+    let panel = test_panel(plan, spins, fwd, bwd, order);
+    if panel != 0 {
+        return panel;
+    }
+    let heat = test_heat(plan, couplings, temperatures, masks);
+    if heat != 0 {
+        return heat;
     }
     test_tasks(
         plan,
         spins,
         order,
         masks,
+        temperatures,
         cuts,
         references,
         seeds,

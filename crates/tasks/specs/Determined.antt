@@ -9,9 +9,10 @@ use Rattle.paper.specs.declared.Group.{Group}
 use Rattle.paper.specs.Panel.Takes.{entries}
 use Rattle.paper.specs.Answer.Task.{part}
 use Rattle.paper.specs.Law.TypesDetermined.{one-value}
-use Rattle.tasks.specs.declared.Plan.{Plan}
+use Rattle.paper.specs.declared.Plan.{Plan}
+use Rattle.paper.specs.declared.Task.{Task}
 use Rattle.tasks.specs.declared.Span.{Span}
-use Rattle.tasks.specs.Plan.{Bounding, tasksOf, groupAt, maskedAt}
+use Rattle.tasks.specs.Plan.{Bounding, tasksOf, groupAt, maskedAt, taskAt}
 
 abbrev span : ℕ → ℕ → Span
 span a e = record { start = a; end = e }
@@ -52,3 +53,8 @@ masked-determined q masks k x y = one-value
 
 pub task-group-determined : (q : Plan) (order : List ℕ) (k : ℕ) (x y : Group) → x ≡ groupAt q order k → y ≡ groupAt q order k → x ≡ y
 task-group-determined q order k x y = one-value
+
+pub task-of-determined :
+    (q : Plan) (order : List ℕ) (ts : List Float) (references seeds : List ℕ) (k : ℕ) (x y : Task)
+    → x ≡ taskAt q order ts references seeds k → y ≡ taskAt q order ts references seeds k → x ≡ y
+task-of-determined q order ts references seeds k x y = one-value

@@ -5,17 +5,17 @@ use mathlib.Core.Bool.{Bool}
 use mathlib.Core.List.{List, []}
 use native.Mathlib.Omega.{arith}
 use native.Mathlib.Nat.{mul-le-mul, mul-le-mul-left, mul-le-mul-right, suc-mul, div-add-mod', mod-lt, div-le-self, div-lt-iff-lt-mul, le-div-iff-mul-le}
-use lib.ListN.{length}
-use lib.IntN.{ℤ}
-use lib.Ieee.{Float}
+use lib.ListN.{length, getD}
+use lib.Ieee.{Float, nan}
 use Rattle.paper.specs.declared.Group.{Group}
+use Rattle.paper.specs.declared.Plan.{Plan}
+use Rattle.paper.specs.declared.Task.{Task}
 use Rattle.paper.specs.declared.Form.{Form}
 use Rattle.paper.specs.declared.Form.the-variants.{Sw, Wolff, Observe}
-use Rattle.paper.specs.Panel.Input.{Buffers}
 use Rattle.paper.specs.Panel.Takes.{entries}
 use Rattle.paper.specs.Refusal.Rules.{Ranged}
 use Rattle.paper.specs.Answer.Task.{Sweep, tasks, masked, groupOf}
-use Rattle.tasks.specs.declared.Plan.{Plan}
+use Rattle.paper.specs.Answer.Made.{sweepOf}
 
 -- a part's number and its elements, few enough for their product
 pub record Few (k m : ℕ) : Type 0 where
@@ -25,33 +25,6 @@ pub record Few (k m : ℕ) : Type 0 where
 pub record Bounding (len k m start end : ℕ) : Type 0 where
   pub starts : start ≡ min (k * m) len
   pub ends : end ≡ min (k * m + m) len
-
--- the paper's sweep
-abbrev pub sweepOf : Plan → List ℕ → List ℕ → List ℤ → List ℕ → List ℕ → List Float → List Float → List ℕ → List ℕ → List ℕ → List ℕ → List ℕ → Sweep
-sweepOf q fwd bwd couplings order masks temperatures cuts references seeds flips perms greys = record {
-  mode = q .mode;
-  form = q .form;
-  lattice = record { n = q .n; d = q .d; s = q .s; fwd = fwd; bwd = bwd; couplings = couplings };
-  t = q .t;
-  r = q .r;
-  members = q .members;
-  order = order;
-  masks = masks;
-  temperatures = temperatures;
-  cuts = cuts;
-  references = references;
-  seeds = seeds;
-  flips = flips;
-  perms = perms;
-  greys = greys;
-}
-
--- and its numbers
-abbrev pub planOf : Sweep → Plan
-planOf w = record { mode = w .mode; form = w .form; n = w .lattice .n; d = w .lattice .d; s = w .lattice .s; t = w .t; r = w .r; members = w .members }
-
-abbrev pub lent : List ℤ → List ℕ → List ℕ → List ℕ → List ℕ → Buffers
-lent spins labels greyLabels counts sizes = record { spins = spins; labels = labels; greyLabels = greyLabels; counts = counts; sizes = sizes }
 
 -- where only the order or the masks are looked at
 abbrev pub ordered : Plan → List ℕ → List ℕ → Sweep
@@ -65,6 +38,20 @@ maskedAt q masks k = masked (ordered q [] masks) k
 
 abbrev pub tasksOf : Plan → ℕ
 tasksOf q = tasks (ordered q [] [])
+
+-- the numbers of the task k
+abbrev pub taskAt : Plan → List ℕ → List Float → List ℕ → List ℕ → ℕ → Task
+taskAt q order temperatures references seeds k = record {
+  mode = q .mode;
+  form = q .form;
+  n = q .n;
+  d = q .d;
+  s = q .s;
+  group = groupAt q order k;
+  temperature = getD temperatures (k / (q .r / q .members)) nan;
+  reference = getD references k 0;
+  seed = getD seeds k 0;
+}
 
 -- test 1 is kept
 pub record Planned (q : Plan) : Type 0 where

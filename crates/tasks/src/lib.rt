@@ -2,25 +2,15 @@
 use paper::Form;
 use paper::Group;
 use paper::Mode;
+use paper::Plan;
+use paper::Task;
 ghost use mathlib.Core.Path.{_≡_};
 ghost use Prim.Native.Nat.{min, _+_, _*_, _/_};
 ghost use lib.ListN.{getD};
 ghost use lib.Ieee.{nan};
 ghost use Rattle.paper.specs.Panel.Takes.{entries};
 ghost use Rattle.paper.specs.Answer.Task.{part};
-ghost use Rattle.tasks.specs.Plan.{Few, Planned, TaskOf, Placing, Bounding, tasksOf, groupAt, maskedAt};
-
-// The numbers of a sweep.
-pub struct Plan {
-    pub mode: Mode,
-    pub form: Form,
-    pub n: usize,
-    pub d: usize,
-    pub s: usize,
-    pub t: usize,
-    pub r: usize,
-    pub members: usize,
-}
+ghost use Rattle.tasks.specs.Plan.{Few, Planned, TaskOf, Placing, Bounding, tasksOf, groupAt, maskedAt, taskAt};
 
 // Where a part stands in a buffer.
 pub struct Span {
@@ -136,6 +126,37 @@ pub fn task_group(plan: Plan, order: &[u32], k: usize) -> Group
     Group {
         len: members,
         systems,
+    }
+}
+
+// The task's numbers. What the mode and form do not take may be missing.
+pub fn task_of(
+    plan: Plan,
+    order: &[u32],
+    temperatures: &[f32],
+    references: &[u32],
+    seeds: &[u32],
+    k: usize,
+) -> Task
+    requires { ⌜ Placing plan k (now order) ⌝ }
+    ensures { λ r. ⌜ r ≡ taskAt plan (now (order .entry)) (now (temperatures .entry)) (now (references .entry)) (now (seeds .entry)) k ⌝ }
+{
+    let mode = plan.mode;
+    let form = plan.form;
+    let group = task_group(plan, order, k);
+    let temperature = task_temperature(plan, temperatures, k);
+    let reference = word_at(references, k);
+    let seed = word_at(seeds, k);
+    Task {
+        mode,
+        form,
+        n: plan.n,
+        d: plan.d,
+        s: plan.s,
+        group,
+        temperature,
+        reference,
+        seed,
     }
 }
 

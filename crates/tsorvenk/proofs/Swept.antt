@@ -13,30 +13,13 @@ use Rattle.paper.specs.declared.SweepAnswer.{SweepAnswer}
 use Rattle.paper.specs.declared.SweepAnswer.the-variants.{Fault, Swept}
 use Rattle.paper.specs.Panel.Input.{Buffers}
 use Rattle.paper.specs.Refusal.Rule.{Broken}
-use Rattle.paper.specs.Refusal.Verdict.{Verdict}
 use Rattle.paper.specs.Answer.Number.{sweepNumber, sweepValues}
 use Rattle.paper.specs.Answer.Task.{Sweep}
 use Rattle.paper.specs.Answer.Sweep.{SweepRanged, sweepRules, SweepAnswers}
-use Rattle.tasks.specs.declared.Plan.{Plan}
-use Rattle.tasks.specs.Plan.{Planned, planOf}
-use Rattle.sweep_sizes.specs.declared.SweepLengths.{SweepLengths}
-use Rattle.sweep_sizes.specs.Lengths.{sizeRules}
-use Rattle.sweep.specs.Updating.{sweepFor}
+use Rattle.paper.specs.Answer.Made.{sweepOf, planOf}
+use Rattle.tasks.specs.Plan.{Planned}
 use Rattle.tsorvenk.specs.Number.{Coded, Returned, valuesTo}
-use Rattle.tsorvenk.specs.Sweep.{Tallied, tallied, tallyRules, TallyAnswers, SweepNumbers, Roomless, Told}
-
--- ---- test 1, told by the verdict on sizes
-module _ (q : Plan) (l : SweepLengths) where
-  pub plan-kept : (r : ℕ) → (r ≡ 1 → ⊥) → Verdict (sizeRules q l) r → Planned q
-  plan-kept zero ne v = v .0
-  plan-kept (suc r) ne (inl v) = absurd (ne (sym (v .1)))
-  plan-kept (suc r) ne (inr v) = v .0
-
-  pub plan-broken : (r : ℕ) → r ≡ 1 → Verdict (sizeRules q l) r → Planned q → ⊥
-  plan-broken zero e v p = omega arith
-  plan-broken (suc r) e (inl v) p = v .0 p
-  plan-broken (suc r) e (inr (k, inl v)) p = omega (arith, v .1)
-  plan-broken (suc r) e (inr (k, inr v)) p = v .1
+use Rattle.tsorvenk.specs.Sweep.{planFor, WithOutcomes, withOutcomes, outcomeRules, OutcomeAnswers, SweepNumbers, Roomless, Told}
 
 -- ---- the counts, written one after the other
 two-set : (ts : List ℕ) (i m : ℕ) → length ts ≡ 2 → set (set ts 0 i) 1 m ≡ i ∷ m ∷ []
@@ -56,17 +39,17 @@ ranged-of : (w : Sweep) → Planned (planOf w) → SweepRanged w
 ranged-of w p = record { ranged = p .ranged; all = p .all; enough = p .enough }
 
 module _ (w : Sweep) (b : Buffers) (ts : List ℕ) where
-  roomed : (r : ℕ) → length ts ≡ 2 → Broken (sweepRules w b) r → Broken (tallyRules w (tallied b ts)) r
+  roomed : (r : ℕ) → length ts ≡ 2 → Broken (sweepRules w b) r → Broken (outcomeRules w (withOutcomes b ts)) r
   roomed r l (inl v) = inl v
   roomed r l (inr v) = inr (v .0, inr (l, inr v))
 
   told-at : (a : SweepAnswer) (b′ : Buffers) (ts′ : List ℕ) → length ts ≡ 2 → SweepAnswers w b a b′ → ts′ ≡ valuesTo (sweepValues a) ts
-      → TallyAnswers w (tallied b ts) a (tallied b′ ts′)
+      → OutcomeAnswers w (withOutcomes b ts) a (withOutcomes b′ ts′)
   told-at (Fault r) b′ ts′ l h e = record { why = roomed r l (h .why); kept = h .kept; uncounted = e }
   told-at (Swept idle moved) b′ ts′ l h e = record { room = l; counted = e; answers = h }
 
   -- without room for the counts
-  roomless-at : (r : ℕ) → (length ts ≡ 2 → ⊥) → Roomless (planOf w) r → Returned sweepNumber (λ a. TallyAnswers w (tallied b ts) a (tallied b ts)) r
+  roomless-at : (r : ℕ) → (length ts ≡ 2 → ⊥) → Roomless (planOf w) r → Returned sweepNumber (λ a. OutcomeAnswers w (withOutcomes b ts) a (withOutcomes b ts)) r
   roomless-at r n (inl v) = record {
     answer = Fault 1;
     allowed = record { why = inl ((λ k. v .0 (planned-of w k)), refl); kept = refl; uncounted = refl };
@@ -82,19 +65,23 @@ module _ (w : Sweep) (b : Buffers) (ts : List ℕ) where
 module _ {n d s t r members : ℕ} {fwd bwd : List ℕ} {couplings : List ℤ} {order masks : List ℕ} {temperatures cuts : List Float}
     {references seeds flips perms greys : List ℕ} {m m′ : Mode} {f f′ : Form} where
   pub same-sweep : m ≡ m′ → f ≡ f′
-      → sweepFor m f n d s t r members fwd bwd couplings order masks temperatures cuts references seeds flips perms greys
-      ≡ sweepFor m′ f′ n d s t r members fwd bwd couplings order masks temperatures cuts references seeds flips perms greys
-  same-sweep em ef = λ i. sweepFor (em i) (ef i) n d s t r members fwd bwd couplings order masks temperatures cuts references seeds flips perms greys
+      → sweepOf (planFor m f n d s t r members) fwd bwd couplings order masks temperatures cuts references seeds flips perms greys
+      ≡ sweepOf (planFor m′ f′ n d s t r members) fwd bwd couplings order masks temperatures cuts references seeds flips perms greys
+  same-sweep em ef = λ i. sweepOf (planFor (em i) (ef i) n d s t r members) fwd bwd couplings order masks temperatures cuts references seeds flips perms greys
 
-pub uncoded-sweep : {mode form : ℕ} {w : Sweep} {l : Tallied} → (Coded mode form → ⊥) → SweepNumbers mode form w l 1 l
+pub uncoded-sweep : {mode form : ℕ} {w : Sweep} {l : WithOutcomes} → (Coded mode form → ⊥) → SweepNumbers mode form w l 1 l
 uncoded-sweep none = record { known = λ k. absurd (none k); unknown = λ _. record { number = refl; kept = refl } }
 
 module _ {mode form : ℕ} (w w′ : Sweep) (b : Buffers) (ts : List ℕ) (r : ℕ) where
-  pub roomless-sweep : Coded mode form → w ≡ w′ → (length ts ≡ 2 → ⊥) → Roomless (planOf w) r → SweepNumbers mode form w′ (tallied b ts) r (tallied b ts)
-  roomless-sweep d e n h = record { known = λ _. roomless-at w′ b ts r n (subst (λ (x : Sweep). Roomless (planOf x) r) e h); unknown = λ none. absurd (none d) }
+  pub roomless-sweep : Coded mode form → w ≡ w′ → (length ts ≡ 2 → ⊥) → Roomless (planOf w) r
+      → SweepNumbers mode form w′ (withOutcomes b ts) r (withOutcomes b ts)
+  roomless-sweep d e n h = record {
+    known = λ _. roomless-at w′ b ts r n (subst (λ (x : Sweep). Roomless (planOf x) r) e h);
+    unknown = λ none. absurd (none d);
+  }
 
   pub coded-sweep : (a : SweepAnswer) (b′ : Buffers) (ts′ : List ℕ) → Coded mode form → w ≡ w′ → length ts ≡ 2 → SweepAnswers w b a b′ → Told a ts r ts′
-      → SweepNumbers mode form w′ (tallied b ts) r (tallied b′ ts′)
+      → SweepNumbers mode form w′ (withOutcomes b ts) r (withOutcomes b′ ts′)
   coded-sweep a b′ ts′ d e l h k = record {
     known = λ _. record {
       answer = a;

@@ -25,7 +25,7 @@ use Rattle.tsorvenk.specs.Number.{Coded, coded, Returned, valuesTo}
 use Rattle.tsorvenk.specs.Step.{StepAnswers}
 use Rattle.tsorvenk.specs.Energy.{energyRules, Metered, EnergyAs, EnergyAnswers}
 use Rattle.tsorvenk.specs.Label.{LabelAnswers}
-use Rattle.tsorvenk.specs.Sweep.{Tallied, tallied, tallyRules, Sweeping, TallyAnswers, SweepNumbers}
+use Rattle.tsorvenk.specs.Sweep.{WithOutcomes, withOutcomes, outcomeRules, Sweeping, OutcomeAnswers, SweepNumbers}
 use Rattle.tsorvenk.specs.Frames.{Framed, framed, Ran, FramesNumbers}
 
 -- one answer, and one content of what was lent
@@ -85,27 +85,27 @@ tsorvenk-label-determined q b y z r r′ f g =
     same-returned f g (record { answer = s .answer; buffers = s .buffers })
 
 -- ---- a sweep
-module _ (w : Sweep) (l y z : Tallied) where
-  swept-kept : (i m : ℕ) (x : Tallied) → Sweeping w l i m x → Kept (tallyRules w l)
+module _ (w : Sweep) (l y z : WithOutcomes) where
+  swept-kept : (i m : ℕ) (x : WithOutcomes) → Sweeping w l i m x → Kept (outcomeRules w l)
   swept-kept i m x s = let v = s .answers .valid in (v .0, (s .room, v))
 
-  tally-same : (a a′ : SweepAnswer) → TallyAnswers w l a y → TallyAnswers w l a′ z → Same a a′ y z
-  tally-same (Fault r) (Fault s) f g = record {
-    answer = ap Fault (broken-unique (tallyRules w l) r s (f .why) (g .why));
-    buffers = λ j. tallied ((f .kept ∙ sym (g .kept)) j) ((f .uncounted ∙ sym (g .uncounted)) j);
+  outcomes-same : (a a′ : SweepAnswer) → OutcomeAnswers w l a y → OutcomeAnswers w l a′ z → Same a a′ y z
+  outcomes-same (Fault r) (Fault s) f g = record {
+    answer = ap Fault (broken-unique (outcomeRules w l) r s (f .why) (g .why));
+    buffers = λ j. withOutcomes ((f .kept ∙ sym (g .kept)) j) ((f .uncounted ∙ sym (g .uncounted)) j);
   }
-  tally-same (Fault r) (Swept i m) f g = absurd (broken-not-kept (tallyRules w l) r (f .why) (swept-kept i m z g))
-  tally-same (Swept i m) (Fault s) f g = absurd (broken-not-kept (tallyRules w l) s (g .why) (swept-kept i m y f))
-  tally-same (Swept i m) (Swept i′ m′) f g = record { answer = same .answer; buffers = λ j. tallied (same .buffers j) (counts j) }
+  outcomes-same (Fault r) (Swept i m) f g = absurd (broken-not-kept (outcomeRules w l) r (f .why) (swept-kept i m z g))
+  outcomes-same (Swept i m) (Fault s) f g = absurd (broken-not-kept (outcomeRules w l) s (g .why) (swept-kept i m y f))
+  outcomes-same (Swept i m) (Swept i′ m′) f g = record { answer = same .answer; buffers = λ j. withOutcomes (same .buffers j) (counts j) }
     where
       same : SameSweep (Swept i m) (y .buffers) (Swept i′ m′) (z .buffers)
       same = sweep-determined w (l .buffers) (y .buffers) (z .buffers) _ _ (f .answers) (g .answers)
 
-      counts : y .tally ≡ z .tally
-      counts = f .counted ∙ (ap (λ (a : SweepAnswer). valuesTo (sweepValues a) (l .tally)) (same .answer) ∙ sym (g .counted))
+      counts : y .outcomes ≡ z .outcomes
+      counts = f .counted ∙ (ap (λ (a : SweepAnswer). valuesTo (sweepValues a) (l .outcomes)) (same .answer) ∙ sym (g .counted))
 
 pub tsorvenk-sweep-determined :
-    (mode form : ℕ) (w : Sweep) (l y z : Tallied) (r r′ : ℕ)
+    (mode form : ℕ) (w : Sweep) (l y z : WithOutcomes) (r r′ : ℕ)
     → SweepNumbers mode form w l r y
     → SweepNumbers mode form w l r′ z
     → Same r r′ y z
@@ -115,7 +115,7 @@ tsorvenk-sweep-determined mode form w l y z r r′ f g = go (coded mode form)
     go (yes k) =
         let u = f .known k in
         let v = g .known k in
-        same-returned u v (tally-same w l y z (u .answer) (v .answer) (u .allowed) (v .allowed))
+        same-returned u v (outcomes-same w l y z (u .answer) (v .answer) (u .allowed) (v .allowed))
     go (no k) = record {
       answer = f .unknown k .number ∙ sym (g .unknown k .number);
       buffers = f .unknown k .kept ∙ sym (g .unknown k .kept);

@@ -11,47 +11,53 @@ use Rattle.paper.specs.Refusal.Rule.{Rule, rule, Broken}
 use Rattle.paper.specs.Answer.Number.{sweepNumber, sweepValues}
 use Rattle.paper.specs.Answer.Task.{Sweep}
 use Rattle.paper.specs.Answer.Sweep.{SweepRanged, sweepRules, SweepAnswers}
-use Rattle.tasks.specs.declared.Plan.{Plan}
+use Rattle.paper.specs.declared.Mode.{Mode}
+use Rattle.paper.specs.declared.Form.{Form}
+use Rattle.paper.specs.declared.Plan.{Plan}
 use Rattle.tasks.specs.Plan.{Planned}
 use Rattle.tsorvenk.specs.Number.{Coded, Returned, valuesTo}
 
--- what a sweep is lent to write to: the paper's buffers, and one for its two counts
-pub record Tallied : Type 0 where
-  pub buffers : Buffers
-  pub tally : List ℕ
+-- the sweep's numbers
+abbrev pub planFor : Mode → Form → ℕ → ℕ → ℕ → ℕ → ℕ → ℕ → Plan
+planFor mode form n d s t r members = record { mode = mode; form = form; n = n; d = d; s = s; t = t; r = r; members = members }
 
-abbrev pub tallied : Buffers → List ℕ → Tallied
-tallied b ts = record { buffers = b; tally = ts }
+-- what a sweep is lent to write to: the paper's buffers, and one for its two counts
+pub record WithOutcomes : Type 0 where
+  pub buffers : Buffers
+  pub outcomes : List ℕ
+
+abbrev pub withOutcomes : Buffers → List ℕ → WithOutcomes
+withOutcomes b ts = record { buffers = b; outcomes = ts }
 
 -- the sweep's rules, with the buffer of two counts as one more of test 2
-abbrev pub tallyRules : Sweep → Tallied → List Rule
-tallyRules w l = rule 1 (SweepRanged w) ∷ rule 2 (length (l .tally) ≡ 2) ∷ sweepRules w (l .buffers)
+abbrev pub outcomeRules : Sweep → WithOutcomes → List Rule
+outcomeRules w l = rule 1 (SweepRanged w) ∷ rule 2 (length (l .outcomes) ≡ 2) ∷ sweepRules w (l .buffers)
 
 -- swept, and the counts are written, idle tasks first
-pub record Sweeping (w : Sweep) (l : Tallied) (idle moved : ℕ) (l′ : Tallied) : Type 0 where
-  pub room : length (l .tally) ≡ 2
-  pub counted : l′ .tally ≡ valuesTo (sweepValues (Swept idle moved)) (l .tally)
+pub record Sweeping (w : Sweep) (l : WithOutcomes) (idle moved : ℕ) (l′ : WithOutcomes) : Type 0 where
+  pub room : length (l .outcomes) ≡ 2
+  pub counted : l′ .outcomes ≡ valuesTo (sweepValues (Swept idle moved)) (l .outcomes)
   pub answers : SweepAnswers w (l .buffers) (Swept idle moved) (l′ .buffers)
 
 -- refused with the number r: nothing is written
-pub record Unswept (w : Sweep) (l : Tallied) (r : ℕ) (l′ : Tallied) : Type 0 where
-  pub why : Broken (tallyRules w l) r
+pub record Unswept (w : Sweep) (l : WithOutcomes) (r : ℕ) (l′ : WithOutcomes) : Type 0 where
+  pub why : Broken (outcomeRules w l) r
   pub kept : l′ .buffers ≡ l .buffers
-  pub uncounted : l′ .tally ≡ valuesTo (sweepValues (Fault r)) (l .tally)
+  pub uncounted : l′ .outcomes ≡ valuesTo (sweepValues (Fault r)) (l .outcomes)
 
 -- the sweep's answer a may be given with the lent buffers l, which then hold l′
-abbrev pub TallyAnswers : Sweep → Tallied → SweepAnswer → Tallied → Type 0
-TallyAnswers w l (Fault r) l′ = Unswept w l (sweepNumber (Fault r)) l′
-TallyAnswers w l (Swept idle moved) l′ = Sweeping w l idle moved l′
+abbrev pub OutcomeAnswers : Sweep → WithOutcomes → SweepAnswer → WithOutcomes → Type 0
+OutcomeAnswers w l (Fault r) l′ = Unswept w l (sweepNumber (Fault r)) l′
+OutcomeAnswers w l (Swept idle moved) l′ = Sweeping w l idle moved l′
 
 -- a code that is none is refused with 1
-pub record Uncoded (r : ℕ) (l l′ : Tallied) : Type 0 where
+pub record Uncoded (r : ℕ) (l l′ : WithOutcomes) : Type 0 where
   pub number : r ≡ sweepNumber (Fault 1)
   pub kept : l′ ≡ l
 
 -- the number r is that of the answer to the sweep w, which has the mode and form of these codes
-pub record SweepNumbers (mode form : ℕ) (w : Sweep) (l : Tallied) (r : ℕ) (l′ : Tallied) : Type 0 where
-  pub known : Coded mode form → Returned sweepNumber (λ a. TallyAnswers w l a l′) r
+pub record SweepNumbers (mode form : ℕ) (w : Sweep) (l : WithOutcomes) (r : ℕ) (l′ : WithOutcomes) : Type 0 where
+  pub known : Coded mode form → Returned sweepNumber (λ a. OutcomeAnswers w l a l′) r
   pub unknown : (Coded mode form → ⊥) → Uncoded r l l′
 
 -- ---- what the parts of `tsorvenk_sweep` say

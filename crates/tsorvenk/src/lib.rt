@@ -8,12 +8,14 @@ use paper::Form;
 use paper::Group;
 use paper::MeterAnswer;
 use paper::Mode;
+use paper::Task;
 ghost use mathlib.Core.Path.{_≡_};
 ghost use Prim.Native.Nat.{_≤_};
 ghost use lib.ListN.{getD};
 ghost use Rattle.label.specs.Entry.{labellingNumber};
 ghost use Rattle.meter.specs.Part.{latticeOf};
-ghost use Rattle.moves.specs.Task.{callOf, choicesOf, buffersOf};
+ghost use Rattle.paper.specs.Panel.Made.{callOf, choicesOf, buffersOf};
+ghost use Rattle.steps.specs.Rule.{taskOf};
 ghost use Rattle.tsorvenk.specs.Number.{modeOf, formOf, groupOf, numberOf};
 ghost use Rattle.tsorvenk.specs.Step.{StepAnswers};
 ghost use Rattle.tsorvenk.specs.Energy.{EnergyAnswers};
@@ -111,8 +113,8 @@ pub extern "C" fn tsorvenk_step(
     sizes: &mut [u32],
 ) -> u8
     ensures { λ r. ⌜ StepAnswers mode form
-        (callOf (modeOf mode) (formOf form) n d s (now (fwd .entry)) (now (bwd .entry)) (now (couplings .entry)) (groupOf (now (group .entry))) temperature
-        (now (cuts .entry)) reference seed)
+        (callOf (taskOf (modeOf mode) (formOf form) n d s (groupOf (now (group .entry))) temperature reference seed)
+        (now (fwd .entry)) (now (bwd .entry)) (now (couplings .entry)) (now (cuts .entry)))
         (choicesOf (now (flips .entry)) (now (perms .entry)) (now (greys .entry)))
         (buffersOf (now (spins .entry)) (now (labels .entry)) (now («grey_labels» .entry)) (now (counts .entry)) (now (sizes .entry)))
         r
@@ -124,21 +126,24 @@ pub extern "C" fn tsorvenk_step(
     if 2 < form {
         return 1;
     }
-    let answer = steps::overlap_step(
-        mode_of(mode),
-        form_of(form),
+    let t = Task {
+        mode: mode_of(mode),
+        form: form_of(form),
         n,
         d,
         s,
+        group: group_of(group),
+        temperature,
+        reference,
+        seed,
+    };
+    let answer = steps::overlap_step(
+        t,
         spins,
         fwd,
         bwd,
         couplings,
-        group_of(group),
-        temperature,
         cuts,
-        reference,
-        seed,
         flips,
         perms,
         greys,

@@ -3,91 +3,41 @@ use super::form_of;
 use super::mode_of;
 use paper::Form;
 use paper::Mode;
+use paper::Plan;
 use paper::SweepAnswer;
-use sweep_sizes::SweepLengths;
-use tasks::Plan;
 ghost use mathlib.Core.Path.{_≡_};
 ghost use lib.ListN.{length};
-ghost use Rattle.paper.specs.Component.Marks.{Tells};
-ghost use Rattle.tasks.specs.Plan.{Planned, lent};
-ghost use Rattle.sweep.specs.Updating.{sweepFor};
+ghost use Rattle.paper.specs.Panel.Made.{buffersOf};
+ghost use Rattle.paper.specs.Answer.Made.{sweepOf};
 ghost use Rattle.tsorvenk.specs.Number.{modeOf, formOf};
-ghost use Rattle.tsorvenk.specs.Sweep.{Roomless, Told, tallied, SweepNumbers};
+ghost use Rattle.tsorvenk.specs.Sweep.{planFor, Roomless, Told, withOutcomes, SweepNumbers};
 
-// Test 1 of a sweep alone: no length has a say in whether it fails.
-fn planned(plan: Plan) -> bool
-    ensures { λ r. ⌜ Tells r (Planned plan) ⌝ }
+// What is refused for want of room for the two counts: test 1 comes first.
+fn roomless(plan: Plan) -> u8
+    ensures { λ r. ⌜ Roomless plan r ⌝ }
 {
-    let lengths = SweepLengths {
-        spins: 0,
-        fwd: 0,
-        bwd: 0,
-        couplings: 0,
-        order: 0,
-        masks: 0,
-        temperatures: 0,
-        cuts: 0,
-        references: 0,
-        seeds: 0,
-        flips: 0,
-        perms: 0,
-        greys: 0,
-        labels: 0,
-        greyed: 0,
-        counts: 0,
-        sizes: 0,
-    };
-    if sweep_sizes::test_sizes(plan, lengths) == 1 {
-        return false;
-    }
-    true
-}
-
-// What is refused for want of room for the two counts.
-fn roomless(
-    mode: Mode,
-    form: Form,
-    n: usize,
-    d: usize,
-    s: usize,
-    t: usize,
-    r: usize,
-    members: usize,
-) -> u8
-    ensures { λ k. ⌜ Roomless (record { mode = mode; form = form; n = n; d = d; s = s; t = t; r = r; members = members }) k ⌝ }
-{
-    let plan = Plan {
-        mode,
-        form,
-        n,
-        d,
-        s,
-        t,
-        r,
-        members,
-    };
-    if planned(plan) {
+    if sweep_tests::plan_ok(plan) {
         return 2;
     }
     1
 }
 
 // The answer as a number; the two counts of a sweep that was swept are written.
-fn tell(answer: SweepAnswer, tally: &mut [u32]) -> u8
-    requires { ⌜ length (now tally) ≡ 2 ⌝ }
-    ensures { λ r. ⌜ Told answer (now (tally .entry)) r (now (tally .exit)) ⌝ }
+fn tell(answer: SweepAnswer, outcomes: &mut [u32]) -> u8
+    requires { ⌜ length (now outcomes) ≡ 2 ⌝ }
+    ensures { λ r. ⌜ Told answer (now (outcomes .entry)) r (now (outcomes .exit)) ⌝ }
 {
     match answer {
         SweepAnswer::Fault(r) => r,
         SweepAnswer::Swept(idle, moved) => {
-            tally[0] = idle;
-            tally[1] = moved;
+            outcomes[0] = idle;
+            outcomes[1] = moved;
             0
         }
     }
 }
 
-// A sweep over t temperatures of r replicas in groups of `members`. `tally` gets the number of idle tasks, then of all others.
+// A sweep over t temperatures of r replicas in groups of `members`. `outcomes` gets the number of idle tasks, then of all others.
 #[no_mangle]
 pub extern "C" fn tsorvenk_sweep(
     mode: u8,
@@ -115,15 +65,17 @@ pub extern "C" fn tsorvenk_sweep(
     grey_labels: &mut [u32],
     counts: &mut [u32],
     sizes: &mut [u32],
-    tally: &mut [u32],
+    outcomes: &mut [u32],
 ) -> u8
     ensures { λ k. ⌜ SweepNumbers mode form
-        (sweepFor (modeOf mode) (formOf form) n d s t r members (now (fwd .entry)) (now (bwd .entry)) (now (couplings .entry)) (now (order .entry))
+        (sweepOf (planFor (modeOf mode) (formOf form) n d s t r members) (now (fwd .entry)) (now (bwd .entry)) (now (couplings .entry)) (now (order .entry))
         (now (masks .entry)) (now (temperatures .entry)) (now (cuts .entry)) (now (references .entry)) (now (seeds .entry))
         (now (flips .entry)) (now (perms .entry)) (now (greys .entry)))
-        (tallied (lent (now (spins .entry)) (now (labels .entry)) (now («grey_labels» .entry)) (now (counts .entry)) (now (sizes .entry))) (now (tally .entry)))
+        (withOutcomes (buffersOf (now (spins .entry)) (now (labels .entry)) (now («grey_labels» .entry)) (now (counts .entry)) (now (sizes .entry)))
+        (now (outcomes .entry)))
         k
-        (tallied (lent (now (spins .exit)) (now (labels .exit)) (now («grey_labels» .exit)) (now (counts .exit)) (now (sizes .exit))) (now (tally .exit))) ⌝ }
+        (withOutcomes (buffersOf (now (spins .exit)) (now (labels .exit)) (now («grey_labels» .exit)) (now (counts .exit)) (now (sizes .exit)))
+        (now (outcomes .exit))) ⌝ }
 {
     if 5 < mode {
         return 1;
@@ -131,20 +83,21 @@ pub extern "C" fn tsorvenk_sweep(
     if 2 < form {
         return 1;
     }
-    let moves = mode_of(mode);
-    let clusters = form_of(form);
-    if tally.len() != 2 {
-        return roomless(moves, clusters, n, d, s, t, r, members);
-    }
-    let answer = sweep::overlap_update(
-        moves,
-        clusters,
+    let plan = Plan {
+        mode: mode_of(mode),
+        form: form_of(form),
         n,
         d,
         s,
         t,
         r,
         members,
+    };
+    if outcomes.len() != 2 {
+        return roomless(plan);
+    }
+    let answer = sweep::overlap_update(
+        plan,
         spins,
         fwd,
         bwd,
@@ -163,5 +116,5 @@ pub extern "C" fn tsorvenk_sweep(
         counts,
         sizes,
     );
-    tell(answer, tally)
+    tell(answer, outcomes)
 }

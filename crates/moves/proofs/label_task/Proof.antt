@@ -1,5 +1,6 @@
 use borrow.Author.Needs.{needs}
 use native.Mathlib.Omega.{arith}
+use Rattle.moves.specs.Ready.{sighted}
 use Rattle.moves.specs.Held.{label-leaves}
 use Rattle.moves.proofs.label_task.Statement.{statement}
 use Rattle.moves.proofs.label_task.Tie as tie
@@ -17,16 +18,7 @@ look-requires : tie.Need-look-requires
 look-requires c κs =
     let p = c .before .before .before .before .before .before .before .before .before .before .before .before .before .pre in
     let r = p .tested in
-    record {
-      n-high = r .n-high;
-      size-low = omega (arith, r .size-low);
-      size-high = r .size-high;
-      inside = r .inside;
-      spins = r .spins;
-      reference = p .reference;
-      cols-long = p .lent .cols-long;
-      flags-long = p .lent .flags-long;
-    }
+    record { panel = sighted r (p .reference); cols-long = p .lent .cols-long; flags-long = p .lent .flags-long }
 
 hold-requires : tie.Need-hold-requires
 hold-requires c κs =

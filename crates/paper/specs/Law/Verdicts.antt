@@ -72,7 +72,7 @@ fits mode form n d s m l =
     (both (when (permsBy mode form) (eq (l .perms) (entries form n * m)))
     (both (when (greysBy mode form) (eq (l .greys) (entries form n)))
     (both (eq (l .labels) n)
-    (both (when (greysBy mode form) (eq (l .greyed) n))
+    (both (when (greysBy mode form) (eq (l .«grey_labels») n))
     (both (eq (l .counts) (n + 1))
     (eq (l .sizes) 4))))))))))))
 

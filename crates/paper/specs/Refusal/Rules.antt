@@ -49,7 +49,7 @@ pub record Fits (mode : Mode) (form : Form) (n d s m : ℕ) (l : Lengths) : Type
   pub perms : When (permsBy mode form) (l .perms ≡ entries form n * m)
   pub greys : When (greysBy mode form) (l .greys ≡ entries form n)
   pub labels : l .labels ≡ n
-  pub grey-labels : When (greysBy mode form) (l .greyed ≡ n)
+  pub grey-labels : When (greysBy mode form) (l .«grey_labels» ≡ n)
   pub counts : l .counts ≡ n + 1
   pub sizes : l .sizes ≡ 4
 
@@ -64,7 +64,7 @@ lengthsOf c p b = record {
   perms = length (p .perms);
   greys = length (p .greys);
   labels = length (b .labels);
-  greyed = length (b .greyLabels);
+  «grey_labels» = length (b .greyLabels);
   counts = length (b .counts);
   sizes = length (b .sizes);
 }

@@ -1,3 +1,4 @@
+-- `houdayer_step` meets its contract: it is `overlap_step` on empty couplings, cuts, grey numbers and grey labels.
 use borrow.Author.Needs.{needs}
 use mathlib.Core.Path.{_≡_, refl}
 use lib.Ieee.{binary32, ofBits, ofInt}
@@ -56,7 +57,8 @@ one = refl
 returns : tie.Need-returns
 returns c =
     let k = c .before .before .before .before .before .before .before .before in
-    let e = rw (empty (k .overlap-step .last .1 .1 .1 .1 .1 .1 .1 .1 .1 .1 .1 .1 .1 .1 .1 .1 .1 .1 .0) (k .overlap-step .kept .1 .1 .1 .1 .1 .1 .1 .1 .1 .1 .1 .1 .1 .1 .1 .1 .1 .1 .0)) at (k .overlap-step .ensures) in
+    let o = k .overlap-step in
+    let e = rw (empty (o .last .1 .1 .1 .1 .1 .1 .1 .1 .1 .1 .0) (o .kept .1 .1 .1 .1 .1 .1 .1 .1 .1 .1 .0)) at (o .ensures) in
     rw one at (rw (M k .mode-of .ensures) at e)
 
 pub houdayer-step-spec : {M : Type 1} → statement M

@@ -1,3 +1,4 @@
+-- `jorg_step` meets its contract: it is `overlap_step` on empty permutations, grey numbers and grey labels.
 use borrow.Author.Needs.{needs}
 use Rattle.steps.specs.Step.{empty}
 use Rattle.steps.proofs.jorg_step.Statement.{statement}
@@ -33,7 +34,8 @@ same-length-4 c = search needs
 returns : tie.Need-returns
 returns c =
     let k = c .before .before .before .before .before .before .before .before in
-    rw (empty (k .overlap-step .last .1 .1 .1 .1 .1 .1 .1 .1 .1 .1 .1 .1 .1 .1 .1 .1 .1 .1 .0) (k .overlap-step .kept .1 .1 .1 .1 .1 .1 .1 .1 .1 .1 .1 .1 .1 .1 .1 .1 .1 .1 .0)) at (k .overlap-step .ensures)
+    let o = k .overlap-step in
+    rw (empty (o .last .1 .1 .1 .1 .1 .1 .1 .1 .1 .1 .0) (o .kept .1 .1 .1 .1 .1 .1 .1 .1 .1 .1 .0)) at (o .ensures)
 
 pub jorg-step-spec : {M : Type 1} → statement M
 jorg-step-spec =

@@ -1,12 +1,12 @@
+-- `overlap_step` meets its contract: the two tests, then the task.
 use borrow.Author.Needs.{needs}
 use denote.Ref.{now}
 use Rattle.paper.specs.Panel.Input.{Call, Choices, Buffers}
 use Rattle.paper.specs.Refusal.Rule.{Kept}
 use Rattle.paper.specs.Refusal.Rules.{choiceRules}
 use Rattle.paper.specs.Refusal.Verdict.{Verdict}
-use Rattle.moves.specs.Task.{callOf, choicesOf, buffersOf}
-use Rattle.checks.specs.Choices.{tested-of}
-use Rattle.steps.specs.Step.{verdict-kept, verdict-broken, soundRules, sound-of, valid-by, refused-panel, refused-choices}
+use Rattle.paper.specs.Panel.Made.{callOf, choicesOf, buffersOf}
+use Rattle.steps.specs.Step.{verdict-kept, verdict-broken, soundRules, sound-of, tested-of, valid-by, refused-panel, refused-choices}
 use Rattle.steps.proofs.overlap_step.Statement.{statement}
 use Rattle.steps.proofs.overlap_step.Tie as tie
 
@@ -16,7 +16,7 @@ S k = k .before .before .before .before .before .before .before .before .before 
 abbrev callAt : tie.Start → Call
 callAt b =
     let a = b .args in
-    callOf (a .mode) (a .form) (a .n) (a .d) (a .s) (now (a .fwd)) (now (a .bwd)) (now (a .couplings)) (a .group) (a .temperature) (now (a .cuts)) (a .reference) (a .seed)
+    callOf (a .t) (now (a .fwd)) (now (a .bwd)) (now (a .couplings)) (now (a .cuts))
 
 abbrev choicesAt : tie.Start → Choices
 choicesAt b = choicesOf (now (b .args .flips)) (now (b .args .perms)) (now (b .args .greys))
@@ -30,10 +30,11 @@ sound e =
     let b = S (e .before) in
     verdict-kept (soundRules (callAt b) (choicesAt b) (lentAt b)) (e .before .test-panel .result) (e .if1 .left) (e .before .test-panel .ensures)
 
-verdict : (k : tie.After-test-choices) → let b = S (k .before .before .before) in Verdict (choiceRules (callAt b) (choicesAt b) (now (b .args .spins))) (k .test-choices .result)
+verdict : (k : tie.After-test-choices) → let b = S (k .before .before .before) in
+    Verdict (choiceRules (callAt b) (choicesAt b) (now (b .args .spins))) (k .test-choices .result)
 verdict k =
     let a = S (k .before .before .before) .args in
-    k .test-choices .ensures (a .d) (a .s) (now (a .fwd)) (now (a .bwd)) (now (a .couplings)) (a .temperature)
+    k .test-choices .ensures (now (a .fwd)) (now (a .bwd)) (now (a .couplings))
 
 test-panel-requires : tie.Need-test-panel-requires
 test-panel-requires c κs = search needs
@@ -66,7 +67,7 @@ returns-2 c =
 
 run-task-requires : tie.Need-run-task-requires
 run-task-requires c κs =
-    let m = c .before .before .before .before .before in
+    let m = c .before .before .before .before .before .before in
     let b = S (m .before .before .before .before) in
     valid-by (callAt b) (choicesAt b) (lentAt b) (sound (m .before .before .before))
     (verdict-kept (choiceRules (callAt b) (choicesAt b) (now (b .args .spins))) (m .before .test-choices .result) (m .if2 .left) (verdict (m .before)))

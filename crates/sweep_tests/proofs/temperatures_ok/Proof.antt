@@ -1,3 +1,4 @@
+-- `temperatures_ok` meets its contract: temperatures that are not taken are not tested.
 use borrow.Author.Needs.{needs}
 use denote.Ref.{now}
 use lib.ListN.{length}

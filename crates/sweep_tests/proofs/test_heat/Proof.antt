@@ -1,3 +1,4 @@
+-- `test_heat` meets its contract: each test is reached past those before it.
 use borrow.Author.Needs.{needs}
 use mathlib.Core.Path.{refl}
 use mathlib.Core.Logic.{inl, inr}

@@ -47,8 +47,8 @@ step-of c = c .before .before .before .before .before .before .before .before .b
 returns-3 : tie.Need-returns-3
 returns-3 c =
     let o = step-of c in
-    let g = o .before .before .before .before .before in
-    let f = g .before .before in
+    let g = o .before .before .before .before .before .before in
+    let f = g .before in
     let m = f .before in
     known-code (o .overlap-step .result) (c .number-of .ensures) (same-call (m .mode-of .ensures) (f .form-of .ensures) (g .group-of .ensures))
     (record { mode-known = m .before .before .if1 .left; form-known = m .before .if2 .left })

@@ -1,6 +1,6 @@
 -- `frame::panel::move_and_write` meets its contract: what an accepted move leaves, two bytes hold.
 use mathlib.Core.List.{[]}
-use Rattle.moves.specs.Task.{buffersOf}
+use Rattle.paper.specs.Panel.Made.{buffersOf}
 use Rattle.frame.specs.Run.{writable}
 use borrow.Author.Needs.{needs}
 use Rattle.frame.proofs.panel.move_and_write.Statement.{statement}

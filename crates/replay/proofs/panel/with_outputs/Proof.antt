@@ -38,11 +38,11 @@ array-borrow-prefix-labels c = search needs
 slice-aggregate-run-and-compare : tie.Need-slice-aggregate-run-and-compare
 slice-aggregate-run-and-compare c = sym (length-take-le _ _ (array-borrow-prefix-labels (c .before)))
 
-array-borrow-prefix-greyed : tie.Need-array-borrow-prefix-greyed
-array-borrow-prefix-greyed c = search needs
+array-borrow-prefix-grey-labels : tie.Need-array-borrow-prefix-grey-labels
+array-borrow-prefix-grey-labels c = search needs
 
 slice-aggregate-run-and-compare-2 : tie.Need-slice-aggregate-run-and-compare-2
-slice-aggregate-run-and-compare-2 c = sym (length-take-le _ _ (array-borrow-prefix-greyed (c .before)))
+slice-aggregate-run-and-compare-2 c = sym (length-take-le _ _ (array-borrow-prefix-grey-labels (c .before)))
 
 array-borrow-prefix-counts : tie.Need-array-borrow-prefix-counts
 array-borrow-prefix-counts c = search needs
@@ -80,7 +80,7 @@ with-outputs-spec =
     mul-four
     array-borrow-prefix-labels
     slice-aggregate-run-and-compare
-    array-borrow-prefix-greyed
+    array-borrow-prefix-grey-labels
     slice-aggregate-run-and-compare-2
     array-borrow-prefix-counts
     slice-aggregate-run-and-compare-3

@@ -1,3 +1,4 @@
+-- `add` meets its contract, a case for each answer.
 use borrow.Author.Needs.{needs}
 use native.Mathlib.Omega.{arith}
 use Rattle.sweep.proofs.run.add.Statement.{statement}

@@ -1,3 +1,4 @@
+-- `run_one` meets its contract: the task has its areas lent, and they are put back.
 use borrow.Author.Needs.{needs}
 use Prim.Native.Nat.{ℕ, _+_, _≤_}
 use mathlib.Core.List.{[]}
@@ -5,7 +6,9 @@ use native.Mathlib.Omega.{arith}
 use denote.Ref.{now}
 use Rattle.paper.specs.Panel.Input.{Buffers}
 use Rattle.paper.specs.Answer.Task.{Sweep}
-use Rattle.tasks.specs.Plan.{Few, few, sweepOf, lent}
+use Rattle.paper.specs.Panel.Made.{buffersOf}
+use Rattle.paper.specs.Answer.Made.{sweepOf}
+use Rattle.tasks.specs.Plan.{Few, few}
 use Rattle.tasks.specs.Parts.{Lendable, lendable}
 use Rattle.sweep.specs.Running.{areas-lent, steps-put}
 use Rattle.sweep.proofs.run.run_one.Statement.{statement}
@@ -24,7 +27,7 @@ W s =
     (now (a .references)) (now (a .seeds)) (now (a .flips)) (now (a .perms)) (now (a .greys))
 
 abbrev B : tie.Start → Buffers
-B s = let a = s .args in lent (now (a .spins)) (now (a .labels)) (now (a .greyed)) (now (a .counts)) (now (a .sizes))
+B s = let a = s .args in buffersOf (now (a .spins)) (now (a .labels)) (now (a .grey-labels)) (now (a .counts)) (now (a .sizes))
 
 -- a task's areas have few elements
 small : (s : tie.Start) (m : ℕ) → m ≤ 32768 → Few (s .args .k) m
@@ -43,8 +46,8 @@ fours s = small s 4 (omega arith)
 labels-lent : (t : tie.After-bounds4) → let r = t .before .before .before .bounds .result in Lendable (now (T t .args .labels)) (r .start) (r .end)
 labels-lent t = lendable (now (T t .args .labels)) (T t .args .k) (T t .args .plan .n) _ _ (t .before .before .before .bounds .ensures) (sites (T t))
 
-greyed-lent : (t : tie.After-bounds4) → let r = t .before .before .bounds2 .result in Lendable (now (T t .args .greyed)) (r .start) (r .end)
-greyed-lent t = lendable (now (T t .args .greyed)) (T t .args .k) (T t .args .plan .n) _ _ (t .before .before .bounds2 .ensures) (sites (T t))
+grey-labels-lent : (t : tie.After-bounds4) → let r = t .before .before .bounds2 .result in Lendable (now (T t .args .grey-labels)) (r .start) (r .end)
+grey-labels-lent t = lendable (now (T t .args .grey-labels)) (T t .args .k) (T t .args .plan .n) _ _ (t .before .before .bounds2 .ensures) (sites (T t))
 
 counts-lent : (t : tie.After-bounds4) → let r = t .before .bounds3 .result in Lendable (now (T t .args .counts)) (r .start) (r .end)
 counts-lent t = lendable (now (T t .args .counts)) (T t .args .k) (T t .args .plan .n + 1) _ _ (t .before .bounds3 .ensures) (counts (T t))
@@ -80,16 +83,16 @@ part-run-parts-end : tie.Need-part-run-parts-end
 part-run-parts-end c = labels-lent (c .before) .inside
 
 mul-run-parts-2 : tie.Need-mul-run-parts-2
-mul-run-parts-2 c = omega (arith, greyed-lent (c .before .before) .few)
+mul-run-parts-2 c = omega (arith, grey-labels-lent (c .before .before) .few)
 
 sub-run-parts-2 : tie.Need-sub-run-parts-2
-sub-run-parts-2 c = greyed-lent (c .before .before) .ordered
+sub-run-parts-2 c = grey-labels-lent (c .before .before) .ordered
 
 part-run-parts-start-2 : tie.Need-part-run-parts-start-2
-part-run-parts-start-2 c = greyed-lent (c .before .before) .ordered
+part-run-parts-start-2 c = grey-labels-lent (c .before .before) .ordered
 
 part-run-parts-end-2 : tie.Need-part-run-parts-end-2
-part-run-parts-end-2 c = greyed-lent (c .before .before) .inside
+part-run-parts-end-2 c = grey-labels-lent (c .before .before) .inside
 
 mul-run-parts-3 : tie.Need-mul-run-parts-3
 mul-run-parts-3 c = omega (arith, counts-lent (c .before .before .before) .few)

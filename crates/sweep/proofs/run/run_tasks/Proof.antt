@@ -7,21 +7,23 @@ use native.Mathlib.Omega.{arith}
 use denote.Ref.{now}
 use Rattle.paper.specs.Panel.Input.{Buffers}
 use Rattle.paper.specs.Answer.Task.{Sweep}
-use Rattle.tasks.specs.Plan.{Planned, tasksOf, few-tasks, sweepOf, lent}
+use Rattle.paper.specs.Panel.Made.{buffersOf}
+use Rattle.paper.specs.Answer.Made.{sweepOf}
+use Rattle.tasks.specs.Plan.{Planned, tasksOf, few-tasks}
 use Rattle.sweep.specs.Ascending.{Ran, ran-none, ran-valid, ran-all}
 use Rattle.sweep.specs.Turning.{room-of}
 use Rattle.sweep.proofs.run.run_tasks.Statement.{statement}
 use Rattle.sweep.proofs.run.run_tasks.Tie as tie
 
 abbrev Inv-loop : tie.InvT-loop
-Inv-loop plan spins₀ fwd bwd couplings order masks temperatures cuts references seeds flips perms greys labels₀ greyed₀ counts₀ sizes₀ count tally₀ k₀
-    spins labels greyed counts sizes tally k =
-    Ran (sweepOf plan fwd bwd couplings order masks temperatures cuts references seeds flips perms greys) (lent spins₀ labels₀ greyed₀ counts₀ sizes₀)
-    k (tally .idle) (tally .moved) (lent spins labels greyed counts sizes)
+Inv-loop plan spins₀ fwd bwd couplings order masks temperatures cuts references seeds flips perms greys labels₀ greyLabels₀ counts₀ sizes₀ count outcomes₀ k₀
+    spins labels greyLabels counts sizes outcomes k =
+    Ran (sweepOf plan fwd bwd couplings order masks temperatures cuts references seeds flips perms greys) (buffersOf spins₀ labels₀ greyLabels₀ counts₀ sizes₀)
+    k (outcomes .idle) (outcomes .moved) (buffersOf spins labels greyLabels counts sizes)
 
 abbrev μ-loop : tie.MeasureT-loop
-μ-loop plan spins₀ fwd bwd couplings order masks temperatures cuts references seeds flips perms greys labels₀ greyed₀ counts₀ sizes₀ count tally₀ k₀
-    spins labels greyed counts sizes tally k =
+μ-loop plan spins₀ fwd bwd couplings order masks temperatures cuts references seeds flips perms greys labels₀ greyLabels₀ counts₀ sizes₀ count outcomes₀ k₀
+    spins labels greyLabels counts sizes outcomes k =
     count - k
 
 abbrev S : tie.After-task-count Inv-loop μ-loop → tie.Start Inv-loop μ-loop
@@ -34,7 +36,7 @@ W s =
     (now (a .references)) (now (a .seeds)) (now (a .flips)) (now (a .perms)) (now (a .greys))
 
 abbrev B : tie.Start Inv-loop μ-loop → Buffers
-B s = let a = s .args in lent (now (a .spins)) (now (a .labels)) (now (a .greyed)) (now (a .counts)) (now (a .sizes))
+B s = let a = s .args in buffersOf (now (a .spins)) (now (a .labels)) (now (a .grey-labels)) (now (a .counts)) (now (a .sizes))
 
 planned : (s : tie.Start Inv-loop μ-loop) → Planned (s .args .plan)
 planned s = let r = s .pre .0 in record { ranged = r .ranged; all = r .all; enough = r .enough }
@@ -47,7 +49,7 @@ below : (l : tie.In-loop Inv-loop μ-loop) → l .before .loop .k < tasksOf (S (
 below l = rw (C l .task-count .ensures) at (l .loop-test .taken)
 
 abbrev now-at : tie.In-loop Inv-loop μ-loop → Buffers
-now-at l = let z = l .before .loop in lent (z .spins) (z .labels) (z .greyed) (z .counts) (z .sizes)
+now-at l = let z = l .before .loop in buffersOf (z .spins) (z .labels) (z .grey-labels) (z .counts) (z .sizes)
 
 task-count-requires : tie.Need-task-count-requires Inv-loop μ-loop
 task-count-requires c κs = planned (c .before .before .before .before .before .before .before .before .before .before .before .before .before .before .before)
@@ -62,8 +64,8 @@ step-requires c κs =
     let s = S (C l) in
     record {
       placing = record { task = record { planned = planned s; below = below l }; long = s .pre .1 .0 .order };
-      room = room-of (W s) (B s) (z .k) (z .tally) (now-at l) (few-tasks (s .args .plan) (planned s)) (z .inv);
-      valid = ran-valid (W s) (B s) (s .pre) (z .k) (z .tally .idle) (z .tally .moved) (now-at l) (below l) (z .inv);
+      room = room-of (W s) (B s) (z .k) (z .outcomes) (now-at l) (few-tasks (s .args .plan) (planned s)) (z .inv);
+      valid = ran-valid (W s) (B s) (s .pre) (z .k) (z .outcomes .idle) (z .outcomes .moved) (now-at l) (below l) (z .inv);
     }
 
 add-k : tie.Need-add-k Inv-loop μ-loop
@@ -105,7 +107,8 @@ returns c =
     let s = S t in
     let z = c .before .loop in
     let e : z .k ≡ tasksOf (s .args .plan) = le-antisymm (z .inv .reached) (rw (t .task-count .ensures) at (c .loop-test .left)) in
-    ran-all (W s) (B s) (s .pre) (z .tally .idle) (z .tally .moved) (lent (z .spins) (z .labels) (z .greyed) (z .counts) (z .sizes)) (rw e at (z .inv))
+    ran-all (W s) (B s) (s .pre) (z .outcomes .idle) (z .outcomes .moved)
+    (buffersOf (z .spins) (z .labels) (z .grey-labels) (z .counts) (z .sizes)) (rw e at (z .inv))
 
 pub run-tasks-spec : {M : Type 1} → statement M
 run-tasks-spec =

@@ -1,3 +1,4 @@
+-- `step` meets its contract: a masked task is passed over.
 use borrow.Author.Needs.{needs}
 use mathlib.Core.Path.{_≡_, sym, _∙_}
 use mathlib.Core.Bool.{false}
@@ -6,7 +7,9 @@ use Prim.Native.Nat.{ℕ}
 use denote.Ref.{now}
 use Rattle.paper.specs.Panel.Input.{Buffers}
 use Rattle.paper.specs.Answer.Task.{Sweep}
-use Rattle.tasks.specs.Plan.{sweepOf, maskedAt, lent}
+use Rattle.paper.specs.Panel.Made.{buffersOf}
+use Rattle.paper.specs.Answer.Made.{sweepOf}
+use Rattle.tasks.specs.Plan.{maskedAt}
 use Rattle.sweep.specs.Turning.{remask, turned-masked, turned-one}
 use Rattle.sweep.proofs.run.step.Statement.{statement}
 use Rattle.sweep.proofs.run.step.Tie as tie
@@ -21,7 +24,7 @@ W s masks =
     (now (a .references)) (now (a .seeds)) (now (a .flips)) (now (a .perms)) (now (a .greys))
 
 abbrev B : tie.Start → Buffers
-B s = let a = s .args in lent (now (a .spins)) (now (a .labels)) (now (a .greyed)) (now (a .counts)) (now (a .sizes))
+B s = let a = s .args in buffersOf (now (a .spins)) (now (a .labels)) (now (a .grey-labels)) (now (a .counts)) (now (a .sizes))
 
 unmasked : (e : tie.Else1) → let s = S (e .before) in maskedAt (s .args .plan) (now (s .args .masks)) (s .args .k) ≡ false
 unmasked e = sym (e .before .masked .ensures) ∙ e .if1 .left
@@ -34,7 +37,7 @@ masked-requires c κs =
 returns : tie.Need-returns
 returns c =
     let s = S (c .before) in
-    turned-masked (W s (now (s .args .masks))) (s .args .k) (s .args .tally) (B s) (sym (c .before .masked .ensures) ∙ c .if1 .taken)
+    turned-masked (W s (now (s .args .masks))) (s .args .k) (s .args .outcomes) (B s) (sym (c .before .masked .ensures) ∙ c .if1 .taken)
 
 run-one-requires : tie.Need-run-one-requires
 run-one-requires c κs =
@@ -67,7 +70,7 @@ returns-2 c =
     let r = c .before .before .before .before .before .before .before .before .before .before in
     let e = r .before .before .before .before .before .before in
     let s = S (e .before) in
-    turned-one (W s (now (s .args .masks))) (s .args .k) (s .args .tally) (B s) (r .run-one .result) (c .add .result) _ (unmasked e)
+    turned-one (W s (now (s .args .masks))) (s .args .k) (s .args .outcomes) (B s) (r .run-one .result) (c .add .result) _ (unmasked e)
     (remask (W s []) (now (s .args .masks)) (r .run-one .ensures)) (c .add .ensures)
 
 pub step-spec : {M : Type 1} → statement M

@@ -11,11 +11,11 @@ enum-known-answer c = search needs
 enum-known-answer-2 : tie.Need-enum-known-answer-2
 enum-known-answer-2 c = search needs
 
-slice-write-tally : tie.Need-slice-write-tally
-slice-write-tally c = search needs
+slice-write-outcomes : tie.Need-slice-write-outcomes
+slice-write-outcomes c = search needs
 
-slice-write-tally-2 : tie.Need-slice-write-tally-2
-slice-write-tally-2 c = search needs
+slice-write-outcomes-2 : tie.Need-slice-write-outcomes-2
+slice-write-outcomes-2 c = search needs
 
 returns : tie.Need-returns
 returns c = search needs
@@ -27,7 +27,7 @@ returns-2 : tie.Need-returns-2
 returns-2 c =
     let a = c .before .answer2 in
     let k = c .before .before .before in
-    counts-told (k .args .answer) (now (k .args .tally)) (a .given .0 .0) (a .given .0 .1 .0) (a .given .1) (k .pre)
+    counts-told (k .args .answer) (now (k .args .outcomes)) (a .given .0 .0) (a .given .0 .1 .0) (a .given .1) (k .pre)
 
 pub tell-spec : {M : Type 1} → statement M
 tell-spec =
@@ -35,8 +35,8 @@ tell-spec =
     (tie.spec
     enum-known-answer
     enum-known-answer-2
-    slice-write-tally
-    slice-write-tally-2
+    slice-write-outcomes
+    slice-write-outcomes-2
     returns
     same-length
     returns-2)

@@ -7,9 +7,10 @@ use Rattle.paper.specs.declared.Mode.{Mode}
 use Rattle.paper.specs.declared.Form.{Form}
 use Rattle.paper.specs.Panel.Input.{Buffers}
 use Rattle.paper.specs.Answer.Task.{Sweep}
-use Rattle.tasks.specs.Plan.{lent}
-use Rattle.sweep.specs.Updating.{sweepFor}
+use Rattle.paper.specs.Panel.Made.{buffersOf}
+use Rattle.paper.specs.Answer.Made.{sweepOf}
 use Rattle.tsorvenk.specs.Number.{Coded, modeOf, formOf}
+use Rattle.tsorvenk.specs.Sweep.{planFor}
 use Rattle.tsorvenk.proofs.Swept.{same-sweep, uncoded-sweep, roomless-sweep, coded-sweep}
 use Rattle.tsorvenk.proofs.sweeping.tsorvenk_sweep.Statement.{statement}
 use Rattle.tsorvenk.proofs.sweeping.tsorvenk_sweep.Tie as tie
@@ -25,11 +26,11 @@ F f = S (f .before .before .before .before)
 abbrev W : tie.Start → Mode → Form → Sweep
 W k m f =
     let a = k .args in
-    sweepFor m f (a .n) (a .d) (a .s) (a .t) (a .r) (a .members) (now (a .fwd)) (now (a .bwd)) (now (a .couplings)) (now (a .order)) (now (a .masks))
+    sweepOf (planFor m f (a .n) (a .d) (a .s) (a .t) (a .r) (a .members)) (now (a .fwd)) (now (a .bwd)) (now (a .couplings)) (now (a .order)) (now (a .masks))
     (now (a .temperatures)) (now (a .cuts)) (now (a .references)) (now (a .seeds)) (now (a .flips)) (now (a .perms)) (now (a .greys))
 
 abbrev B : tie.Start → Buffers
-B k = let a = k .args in lent (now (a .spins)) (now (a .labels)) (now (a .grey-labels)) (now (a .counts)) (now (a .sizes))
+B k = let a = k .args in buffersOf (now (a .spins)) (now (a .labels)) (now (a .grey-labels)) (now (a .counts)) (now (a .sizes))
 
 abbrev made : tie.After-form-of → Sweep
 made f = W (F f) (f .before .mode-of .result) (f .form-of .result)
@@ -59,7 +60,7 @@ returns-3 : tie.Need-returns-3
 returns-3 c =
     let e = c .before in
     let f = e .before in
-    roomless-sweep (made f) (meant f) (B (F f)) (now (F f .args .tally)) (c .roomless .result) (known f)
+    roomless-sweep (made f) (meant f) (B (F f)) (now (F f .args .outcomes)) (c .roomless .result) (known f)
     (same-sweep (f .before .mode-of .ensures) (f .form-of .ensures)) (e .if3 .taken) (c .roomless .ensures)
 
 overlap-update-requires : tie.Need-overlap-update-requires
@@ -92,7 +93,7 @@ returns-4 c =
     let o = t .before .before .before .before .before .before .before .before .before .before .before in
     let e = o .before .before .before .before .before .before in
     let f = e .before in
-    coded-sweep (made f) (meant f) (B (F f)) (now (F f .args .tally)) (t .tell .result) (o .overlap-update .result) _ _ (known f)
+    coded-sweep (made f) (meant f) (B (F f)) (now (F f .args .outcomes)) (t .tell .result) (o .overlap-update .result) _ _ (known f)
     (same-sweep (f .before .mode-of .ensures) (f .form-of .ensures)) (e .if3 .left) (o .overlap-update .ensures) (t .tell .ensures)
 
 pub tsorvenk-sweep-spec : {M : Type 1} → statement M

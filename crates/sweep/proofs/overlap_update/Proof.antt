@@ -1,0 +1,91 @@
+-- `overlap_update` meets its contract: the tests, then the tasks.
+use borrow.Author.Needs.{needs}
+use denote.Ref.{now}
+use Rattle.paper.specs.Panel.Input.{Buffers}
+use Rattle.paper.specs.Answer.Task.{Sweep}
+use Rattle.paper.specs.Answer.Sweep.{sweepRules}
+use Rattle.paper.specs.Panel.Made.{buffersOf}
+use Rattle.paper.specs.Answer.Made.{sweepOf}
+use Rattle.sweep_tests.specs.First.{kept-of}
+use Rattle.sweep.specs.Updating.{refused-sweep}
+use Rattle.sweep.proofs.overlap_update.Statement.{statement}
+use Rattle.sweep.proofs.overlap_update.Tie as tie
+
+abbrev S : tie.After-test-sweep → tie.Start
+S t =
+    t .before .before .before .before .before .before .before .before .before .before .before .before .before .before .before .before .before .before
+    .before .before .before
+
+abbrev W : tie.Start → Sweep
+W s =
+    let a = s .args in
+    sweepOf (a .plan) (now (a .fwd)) (now (a .bwd)) (now (a .couplings)) (now (a .order)) (now (a .masks)) (now (a .temperatures)) (now (a .cuts))
+    (now (a .references)) (now (a .seeds)) (now (a .flips)) (now (a .perms)) (now (a .greys))
+
+abbrev B : tie.Start → Buffers
+B s = let a = s .args in buffersOf (now (a .spins)) (now (a .labels)) (now (a .grey-labels)) (now (a .counts)) (now (a .sizes))
+
+test-sweep-requires : tie.Need-test-sweep-requires
+test-sweep-requires c κs = search needs
+
+same-length : tie.Need-same-length
+same-length c = search needs
+
+same-length-2 : tie.Need-same-length-2
+same-length-2 c = search needs
+
+same-length-3 : tie.Need-same-length-3
+same-length-3 c = search needs
+
+same-length-4 : tie.Need-same-length-4
+same-length-4 c = search needs
+
+same-length-5 : tie.Need-same-length-5
+same-length-5 c = search needs
+
+returns : tie.Need-returns
+returns c = let t = c .before in let s = S t in refused-sweep (W s) (B s) (t .test-sweep .result) (c .if1 .taken) (t .test-sweep .ensures)
+
+run-tasks-requires : tie.Need-run-tasks-requires
+run-tasks-requires c κs =
+    let e = c .before .before .before .before .before in
+    let t = e .before in
+    let s = S t in
+    kept-of (sweepRules (W s) (B s)) (t .test-sweep .result) (e .if1 .left) (t .test-sweep .ensures)
+
+same-length-6 : tie.Need-same-length-6
+same-length-6 c = search needs
+
+same-length-7 : tie.Need-same-length-7
+same-length-7 c = search needs
+
+same-length-8 : tie.Need-same-length-8
+same-length-8 c = search needs
+
+same-length-9 : tie.Need-same-length-9
+same-length-9 c = search needs
+
+same-length-10 : tie.Need-same-length-10
+same-length-10 c = search needs
+
+returns-2 : tie.Need-returns-2
+returns-2 c = c .before .before .before .before .before .before .before .before .before .run-tasks .ensures
+
+pub overlap-update-spec : {M : Type 1} → statement M
+overlap-update-spec =
+    tie.close
+    (tie.spec
+    test-sweep-requires
+    same-length
+    same-length-2
+    same-length-3
+    same-length-4
+    same-length-5
+    returns
+    run-tasks-requires
+    same-length-6
+    same-length-7
+    same-length-8
+    same-length-9
+    same-length-10
+    returns-2)

@@ -1,0 +1,40 @@
+-- Test 10 of every call of a task, in the order of its tests.
+use Prim.Native.Nat.{_≤_, _<_}
+use mathlib.Core.Path.{_≡_, sym, _∙_}
+use mathlib.Core.Bool.{Bool, true, false, not}
+use mathlib.Core.List.{List}
+use lib.IntN.{ℤ}
+use native.Mathlib.Omega.{arith}
+use Rattle.paper.specs.declared.Task.{Task}
+use Rattle.paper.specs.Panel.Takes.{isWolff}
+use Rattle.paper.specs.Site.Acting.{acts}
+use Rattle.paper.specs.Component.Marks.{Tells}
+use Rattle.paper.specs.Refusal.Rules.{Seeded}
+use Rattle.paper.specs.Law.ByTest.{never}
+use Rattle.rules.specs.Laws.{SomeSite}
+use Rattle.rules.specs.Sight.{actsAt, some-site, some-acts}
+use Rattle.tests.specs.Choices.{EveryCut}
+
+module _ (t : Task) (xs : List ℤ) where
+  -- no seed is taken
+  pub unseeded : isWolff (t .form) ≡ false → EveryCut t (λ c. Seeded c xs)
+  unseeded w cuts fwd bwd couplings = record { below = λ e. never (sym w ∙ e); acting = λ e. never (sym w ∙ e) }
+
+  -- it is no site
+  pub seed-past : isWolff (t .form) ≡ true → t .n ≤ t .seed → EveryCut t (λ c. Seeded c xs → ⊥)
+  seed-past w l cuts fwd bwd couplings h = let b = h .below w in omega arith
+
+  -- it acts
+  pub seed-acts : t .seed < t .n → actsAt (t .mode) (t .n) (t .group) (t .reference) xs (t .seed) ≡ true → EveryCut t (λ c. Seeded c xs)
+  unfolding acts
+  seed-acts l e cuts fwd bwd couplings = record { below = λ _. l; acting = λ _ _. e }
+
+  -- it does not: then no site may
+  pub seed-rests :
+      (r : Bool) → isWolff (t .form) ≡ true → t .seed < t .n
+      → actsAt (t .mode) (t .n) (t .group) (t .reference) xs (t .seed) ≡ false
+      → Tells r (SomeSite (t .n) (actsAt (t .mode) (t .n) (t .group) (t .reference) xs))
+      → EveryCut t (λ c. Tells (not r) (Seeded c xs))
+  unfolding acts
+  seed-rests true w l e some cuts fwd bwd couplings = λ s. never (sym e ∙ s .acting w (some-acts _ xs some))
+  seed-rests false w l e some cuts fwd bwd couplings = record { below = λ _. l; acting = λ _ o. absurd (some (some-site _ xs o)) }

@@ -1,0 +1,74 @@
+-- Tests 8, 9 and 10 of a task, as the functions are handed them.
+use Prim.Native.Nat.{ℕ, suc, _+_, _*_, _≤_, _<_}
+use mathlib.Core.Path.{_≡_}
+use mathlib.Core.Bool.{Bool}
+use mathlib.Core.List.{List}
+use native.Mathlib.Omega.{arith}
+use native.Mathlib.Nat.{mul-le-mul-right, suc-mul}
+use lib.ListN.{length, getD}
+use lib.IntN.{ℤ}
+use lib.Ieee.{Float}
+use Rattle.paper.specs.declared.Group.{Group}
+use Rattle.paper.specs.declared.Task.{Task}
+use Rattle.paper.specs.Panel.Input.{Call, member}
+use Rattle.paper.specs.Panel.Made.{callOf}
+use Rattle.paper.specs.Panel.Takes.{flipsBy, permsBy, greysBy, entries}
+use Rattle.paper.specs.Refusal.Rules.{When, Spins, Permutes, NotIdentity}
+use Rattle.columns.specs.Column.{Inside, Spinning}
+use Rattle.rules.specs.Sight.{Sighted}
+
+-- what tests 1 to 5 established and these lean on: ranges, the group's rows of spins, the lengths of the choices that are taken
+pub record Tested (t : Task) (xs : List ℤ) (flips perms greys : List ℕ) : Type 0 where
+  pub n-low : 1 ≤ t .n
+  pub n-high : t .n ≤ 4096
+  pub size-low : 2 ≤ t .group .len
+  pub size-high : t .group .len ≤ 8
+  pub inside : Inside (t .n) (t .group) xs
+  pub spins : Spinning (t .n) (t .group) xs
+  pub flips-long : When (flipsBy (t .mode) (t .form)) (length flips ≡ t .n)
+  pub perms-long : When (permsBy (t .mode) (t .form)) (length perms ≡ entries (t .form) (t .n) * t .group .len)
+  pub greys-long : When (greysBy (t .mode) (t .form)) (length greys ≡ entries (t .form) (t .n))
+
+-- the rows of a group's systems lie within those of all s, and hold spins
+module _ (n s : ℕ) (g : Group) (xs : List ℤ) (long : length xs ≡ s * n) (below : (k : ℕ) → k < g .len → member g k < s) where
+  pub rows-inside : Inside n g xs
+  rows-inside k h = let l : suc (member g k) ≤ s = below k h in omega (arith, long, mul-le-mul-right n l, suc-mul (member g k) n)
+
+  pub rows-spins : Spins xs → Spinning n g xs
+  rows-spins spins i k hi hk = spins (member g k * n + i) (omega (arith, rows-inside k hk))
+
+-- of every call of the task with these cuts: the tests look at no table and at no coupling
+abbrev pub EveryCall : Task → List Float → (Call → Type 0) → Type 0
+EveryCall t cuts P = (fwd bwd : List ℕ) (couplings : List ℤ) → P (callOf t fwd bwd couplings cuts)
+
+-- and 9 and 10 at no cut
+abbrev pub EveryCut : Task → (Call → Type 0) → Type 0
+EveryCut t P = (cuts : List Float) → EveryCall t cuts P
+
+-- ---- the choices
+pub record Long (t : Task) (flips perms greys : List ℕ) : Type 0 where
+  pub n-high : t .n ≤ 4096
+  pub size-high : t .group .len ≤ 8
+  pub flips-long : When (flipsBy (t .mode) (t .form)) (length flips ≡ t .n)
+  pub perms-long : When (permsBy (t .mode) (t .form)) (length perms ≡ entries (t .form) (t .n) * t .group .len)
+  pub greys-long : When (greysBy (t .mode) (t .form)) (length greys ≡ entries (t .form) (t .n))
+
+-- what is tested of a buffer: each byte at most `top`; rows of m bytes, each a permutation; one row that is not the identity
+abbrev pub AtMost : List ℕ → ℕ → Type 0
+AtMost xs top = (k : ℕ) → k < length xs → getD xs k 0 ≤ top
+
+abbrev pub PermRows : ℕ → ℕ → List ℕ → Type 0
+PermRows rows m perms = (r : ℕ) → r < rows → Permutes m (λ k. getD perms (r * m + k) 0)
+
+abbrev pub RowMoves : List ℕ → Type 0
+RowMoves row = NotIdentity (length row) (λ k. getD row k 0)
+
+-- permutations of m in rows, where they are taken
+pub record Permuted (taken : Bool) (rows m : ℕ) (perms : List ℕ) : Type 0 where
+  pub few : rows ≤ 4096
+  pub size-high : m ≤ 8
+  pub long : When taken (length perms ≡ rows * m)
+
+-- ---- the seed
+abbrev pub Seeing : Task → List ℤ → Type 0
+Seeing t xs = Sighted (t .mode) (t .n) (t .group) (t .reference) xs

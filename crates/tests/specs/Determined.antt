@@ -1,0 +1,35 @@
+-- Each test's verdict is the only one.
+use Prim.Native.Nat.{ℕ}
+use mathlib.Core.Path.{_≡_}
+use mathlib.Core.Bool.{Bool}
+use mathlib.Core.List.{List, []}
+use lib.IntN.{ℤ}
+use lib.Ieee.{Float}
+use Rattle.paper.specs.declared.Mode.{Mode}
+use Rattle.paper.specs.declared.Form.{Form}
+use Rattle.paper.specs.declared.Task.{Task}
+use Rattle.paper.specs.declared.Lengths.{Lengths}
+use Rattle.paper.specs.Component.Marks.{Tells}
+use Rattle.paper.specs.Panel.Made.{callOf, choicesOf}
+use Rattle.paper.specs.Refusal.Rules.{choiceRules}
+use Rattle.paper.specs.Refusal.Verdict.{Verdict, verdict-unique}
+use Rattle.lattice.specs.Telling.{tells-determined}
+use Rattle.tests.specs.Lengths.{FitsEach}
+use Rattle.tests.specs.Panel.{panelRules}
+use Rattle.tests.specs.Choices.{EveryCall}
+
+pub lengths-ok-determined : (mode : Mode) (form : Form) (n d s m count : ℕ) (l : Lengths) (a b : Bool)
+    → Tells a (FitsEach mode form n d s m count l) → Tells b (FitsEach mode form n d s m count l) → a ≡ b
+lengths-ok-determined mode form n d s m count l = tells-determined (FitsEach mode form n d s m count l)
+
+pub test-panel-determined : (t : Task) (spins : List ℤ) (fwd bwd : List ℕ) (couplings : List ℤ) (l : Lengths) (a b : ℕ)
+    → Verdict (panelRules t spins fwd bwd couplings l) a → Verdict (panelRules t spins fwd bwd couplings l) b → a ≡ b
+test-panel-determined t spins fwd bwd couplings l = verdict-unique (panelRules t spins fwd bwd couplings l)
+
+-- at any one choice of what the tests do not look at
+pub test-choices-determined : (t : Task) (spins : List ℤ) (cuts : List Float) (flips perms greys : List ℕ) (a b : ℕ)
+    → EveryCall t cuts (λ c. Verdict (choiceRules c (choicesOf flips perms greys) spins) a)
+    → EveryCall t cuts (λ c. Verdict (choiceRules c (choicesOf flips perms greys) spins) b)
+    → a ≡ b
+test-choices-determined t spins cuts flips perms greys a b p q =
+    verdict-unique (choiceRules (callOf t [] [] [] cuts) (choicesOf flips perms greys) spins) a b (p [] [] []) (q [] [] [])

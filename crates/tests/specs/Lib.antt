@@ -1,0 +1,4 @@
+pub mod Lengths
+pub mod Panel
+pub mod Choices
+pub mod Determined

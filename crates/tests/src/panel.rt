@@ -1,0 +1,86 @@
+// Tests 1 to 7 of a move.
+use paper::Form;
+use paper::Group;
+use paper::Lengths;
+use paper::Mode;
+use paper::Task;
+ghost use Rattle.paper.specs.Component.Marks.{Tells};
+ghost use Rattle.paper.specs.Refusal.Verdict.{Verdict};
+ghost use Rattle.tests.specs.Lengths.{Small, FitsEach};
+ghost use Rattle.tests.specs.Panel.{Measures, panelRules};
+
+// Test 2 of `count` tasks that share the panel: each has its own cuts, choices and outputs.
+pub fn lengths_ok(
+    mode: Mode,
+    form: Form,
+    n: usize,
+    d: usize,
+    s: usize,
+    m: usize,
+    count: usize,
+    l: Lengths,
+) -> bool
+    requires { ⌜ Small n d s m count ⌝ }
+    ensures { λ r. ⌜ Tells r (FitsEach mode form n d s m count l) ⌝ }
+{
+    let bonds = n * d;
+    let sites = count * n;
+    let rows = form.entries(n);
+    let drawn = mode.is_drawn();
+    let flips = mode.takes_flips(form);
+    let perms = mode.takes_perms(form);
+    let greys = mode.takes_greys(form);
+    (l.spins == s * n)
+        & (l.fwd == bonds)
+        & (l.bwd == bonds)
+        & (l.labels == sites)
+        & (l.counts == count * (n + 1))
+        & (l.sizes == count * 4)
+        & lattice::fits(drawn, l.couplings, bonds)
+        & lattice::fits(drawn, l.cuts, count * bonds)
+        & lattice::fits(flips, l.flips, sites)
+        & lattice::fits(perms, l.perms, count * (rows * m))
+        & lattice::fits(greys, l.greys, count * rows)
+        & lattice::fits(greys, l.grey_labels, sites)
+}
+
+// The number of the first test that fails, or 0.
+pub fn test_panel(
+    t: Task,
+    spins: &[i8],
+    fwd: &[u32],
+    bwd: &[u32],
+    couplings: &[i32],
+    l: Lengths,
+) -> u8
+    requires { ⌜ Measures (now spins) (now fwd) (now bwd) (now couplings) l ⌝ }
+    ensures { λ r. ⌜ Verdict (panelRules t (now (spins .entry)) (now (fwd .entry)) (now (bwd .entry)) (now (couplings .entry)) l) r ⌝ }
+{
+    let mode = t.mode;
+    let form = t.form;
+    let group = t.group;
+    let m = group.len;
+    if !lattice::ranged(t.n, t.d, t.s, mode, m) {
+        return 1;
+    }
+    if !lengths_ok(mode, form, t.n, t.d, t.s, m, 1, l) {
+        return 2;
+    }
+    if !lattice::spins_ok(spins) {
+        return 3;
+    }
+    if !lattice::tables_ok(t.n, t.d, fwd, bwd) {
+        return 4;
+    }
+    if !lattice::group_ok(t.s, group) {
+        return 5;
+    }
+    let drawn = mode.is_drawn();
+    if !lattice::couplings_fit(drawn, couplings) {
+        return 6;
+    }
+    if !(!drawn | lattice::temperature_ok(t.temperature)) {
+        return 7;
+    }
+    0
+}
