@@ -206,8 +206,7 @@ module _ {w v : Sweep} (same : SameSwept w v) where
   there b (Fault r) b′ q = record { why = matched-broken (sweepRules w b) (sweepRules (over w v) b) r (sweep-rules-same b) (q .why); kept = q .kept }
   there b (Swept i m) b′ q = record {
     valid = matched-kept (sweepRules w b) (sweepRules (over w v) b) (sweep-rules-same b) (q .valid);
-    idles = q .idles ∙ sym (idles-same (b .spins));
-    moveds = q .moveds ∙ sym (moveds-same (b .spins));
+    counts = q .counts ∙ cc (idles-same (b .spins), moveds-same (b .spins));
     lengths = q .lengths;
     each = λ k h e. done-there b b′ k h e (q .each k h e);
     skipped = q .skipped;
