@@ -1,3 +1,4 @@
+-- Laws for the loops over all sites: first the loop itself, then what a turn of each function reads and writes.
 pub mod Passed
 pub mod Tested
 pub mod Entries

@@ -1,3 +1,4 @@
+-- Columns, their bits, and buffers filled from the front; then the promises, what callers need of them, and how tight they are.
 pub mod Column
 pub mod Bits
 pub mod Filled

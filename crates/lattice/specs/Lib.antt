@@ -1,3 +1,4 @@
+-- How tests are told; what each test is about, and that it has one answer; then laws of signed numbers for every crate that adds.
 pub mod Telling
 pub mod Tables
 pub mod Groups

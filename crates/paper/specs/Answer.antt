@@ -1,3 +1,4 @@
+-- What is answered: the numbers of the cases, then a move, a sweep and its tasks, the meter, and the frame program.
 pub mod Number
 pub mod Move
 pub mod Task

@@ -1,3 +1,4 @@
+-- Components from the bottom up: what is linked, labels, sizes, and bytes that mark.
 pub mod Links
 pub mod Labels
 pub mod Sizes

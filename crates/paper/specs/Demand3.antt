@@ -1,3 +1,4 @@
+-- Demand 3: its statement, then one step of a move, then two steps, then composite choices, and last the theorem.
 pub mod Statement
 pub mod Reversible
 pub mod ActsKept

@@ -1,3 +1,4 @@
+-- Laws of the definitions: tests, sums and patterns, then moves and their answers, then sweeps, then frames.
 pub mod ByTest
 pub mod Unique
 pub mod Cells

@@ -1,3 +1,4 @@
+-- Document 01 from a call's input to its answer, and then what is proved of it: laws, demand 3 and the rows.
 pub mod Panel
 pub mod Site
 pub mod Component

@@ -1,1 +1,2 @@
+-- What a move does to the spins, in one file.
 pub mod Moving

@@ -1,3 +1,4 @@
+-- Document 01's rows: their inputs, their statement, the moves that they ask for and the proof; then worked cases that no row has.
 pub mod Cases
 pub mod Table
 pub mod Worked

@@ -1,3 +1,4 @@
+-- From one task outwards: spins stay spins, tasks in ascending order, one task, one turn of the loop, the whole, and its one answer.
 pub mod Spinning
 pub mod Ascending
 pub mod Running

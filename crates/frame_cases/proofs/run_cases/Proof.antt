@@ -7,7 +7,8 @@ use Rattle.frame_cases.proofs.run_cases.Statement.{statement}
 use Rattle.frame_cases.proofs.run_cases.Tie as tie
 
 abbrev Inv-loop : tie.InvT-loop
-Inv-loop text₀ want₀ agree₀ differ₀ turns₀ text want agree differ turns = (agree + differ + turns ≤ 1000000) × (length text ≡ length text₀) × (length want ≡ length want₀)
+Inv-loop text₀ want₀ agree₀ differ₀ turns₀ text want agree differ turns =
+    (agree + differ + turns ≤ 1000000) × (length text ≡ length text₀) × (length want ≡ length want₀)
 
 abbrev μ-loop : tie.MeasureT-loop
 μ-loop text₀ want₀ agree₀ differ₀ turns₀ text want agree differ turns = turns

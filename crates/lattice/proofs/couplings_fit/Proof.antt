@@ -1,3 +1,4 @@
+-- `couplings_fit` meets its contract: couplings that the mode does not take are not looked at.
 use borrow.Author.Needs.{needs}
 use denote.Ref.{now}
 use Rattle.paper.specs.Refusal.Rules.{SmallCouplings}

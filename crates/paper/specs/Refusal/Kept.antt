@@ -48,4 +48,6 @@ valid-of c p b k = record {
 }
 
 pub valid-kept : (c : Call) (p : Choices) (b : Buffers) → Valid c p b → Kept (rules c p b)
-valid-kept c p b v = let s = v .sound in (s .ranged, (s .exact, (s .spins, (s .inverse, (s .grouped, (s .couplings, (s .warm, fit-kept c p (b .spins) (v .fit))))))))
+valid-kept c p b v =
+    let s = v .sound in
+    (s .ranged, (s .exact, (s .spins, (s .inverse, (s .grouped, (s .couplings, (s .warm, fit-kept c p (b .spins) (v .fit))))))))

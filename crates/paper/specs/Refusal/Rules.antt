@@ -13,7 +13,8 @@ use Rattle.paper.specs.declared.Mode.{Mode}
 use Rattle.paper.specs.declared.Form.{Form}
 use Rattle.paper.specs.declared.Lengths.{Lengths}
 use Rattle.paper.specs.Panel.Input.{Call, Choices, Buffers, size, member}
-use Rattle.paper.specs.Panel.Takes.{isCmr, isWolff, drawsBonds, flipsBy, permsBy, greysBy, takesCuts, takesFlips, takesPerms, takesGreys, takesReference, takesSeed, entries}
+use Rattle.paper.specs.Panel.Takes.{isCmr, isWolff, drawsBonds, flipsBy, permsBy, greysBy, entries}
+use Rattle.paper.specs.Panel.Takes.{takesCuts, takesFlips, takesPerms, takesGreys, takesReference, takesSeed}
 use Rattle.paper.specs.Site.Acting.{acts, SomeActs}
 use Rattle.paper.specs.Site.Bonds.{whole}
 use Rattle.paper.specs.Refusal.Rule.{Rule, rule}

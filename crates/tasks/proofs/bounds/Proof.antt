@@ -1,3 +1,4 @@
+-- `bounds` meets its contract: the number and the size of a part are small, so that its ends do not wrap.
 use borrow.Author.Needs.{needs}
 use native.Mathlib.Nat.{mul-le-mul}
 use native.Mathlib.Omega.{arith}

@@ -1,3 +1,4 @@
+-- `float_at` meets its contract: past the end the code's 0/0 is what the definition reads there, not a number.
 use borrow.Author.Needs.{needs}
 use mathlib.Core.Path.{sym}
 use denote.Ref.{now}

@@ -1,3 +1,4 @@
+-- `masked` meets its contract: the byte of the task's temperature is read, and one that is missing does not mask.
 use borrow.Author.Needs.{needs}
 use Prim.Native.Nat.{ℕ, _≤_}
 use mathlib.Core.Path.{_≡_, refl, ap}

@@ -1,3 +1,4 @@
+-- `part_f32` meets its contract: the bounds of a part are in order and inside the buffer.
 use borrow.Author.Needs.{needs}
 use denote.Ref.{now}
 use Rattle.tasks.specs.Parts.{in-order, lent-part}

@@ -1,3 +1,4 @@
+-- `part_u8` meets its contract as `part_f32` does, for bytes.
 use borrow.Author.Needs.{needs}
 use denote.Ref.{now}
 use Rattle.tasks.specs.Parts.{in-order, lent-part}

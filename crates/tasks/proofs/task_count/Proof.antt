@@ -1,3 +1,4 @@
+-- `task_count` meets its contract: the divisor is not 0, as a group has members, and the product is at most 64.
 use borrow.Author.Needs.{needs}
 use native.Mathlib.Omega.{arith}
 use Rattle.tasks.specs.Plan.{some-members, few-tasks}

@@ -1,3 +1,4 @@
+-- `task_cuts` meets its contract: a task has a cut for each of its bonds, which are few.
 use borrow.Author.Needs.{needs}
 use Prim.Native.Nat.{_*_}
 use native.Mathlib.Omega.{arith}

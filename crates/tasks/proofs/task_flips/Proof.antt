@@ -1,3 +1,4 @@
+-- `task_flips` meets its contract: a task has a flip for each site, and the sites are few.
 use borrow.Author.Needs.{needs}
 use native.Mathlib.Omega.{arith}
 use Rattle.tasks.specs.Plan.{few}

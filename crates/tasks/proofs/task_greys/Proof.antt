@@ -1,3 +1,4 @@
+-- `task_greys` meets its contract: a task has a grey number for each entry of its form.
 use borrow.Author.Needs.{needs}
 use native.Mathlib.Omega.{arith}
 use Rattle.tasks.specs.Plan.{few, few-rows}

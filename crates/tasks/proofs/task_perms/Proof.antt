@@ -1,3 +1,4 @@
+-- `task_perms` meets its contract: a task has a row of places for each entry of its form.
 use borrow.Author.Needs.{needs}
 use native.Mathlib.Omega.{arith}
 use Rattle.tasks.specs.Plan.{few, few-places}

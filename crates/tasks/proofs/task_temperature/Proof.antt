@@ -1,3 +1,4 @@
+-- `task_temperature` meets its contract: it reads at the task's temperature, which `temperature_of` answers.
 use borrow.Author.Needs.{needs}
 use Rattle.tasks.proofs.task_temperature.Statement.{statement}
 use Rattle.tasks.proofs.task_temperature.Tie as tie

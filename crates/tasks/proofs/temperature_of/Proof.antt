@@ -1,3 +1,4 @@
+-- `temperature_of` meets its contract: neither divisor is 0, as a group has members and a temperature has groups.
 use borrow.Author.Needs.{needs}
 use Rattle.tasks.specs.Plan.{some-members, some-groups}
 use Rattle.tasks.proofs.temperature_of.Statement.{statement}

@@ -1,3 +1,4 @@
+-- `word_at` meets its contract: past the end it answers 0, as the definition reads there.
 use borrow.Author.Needs.{needs}
 use mathlib.Core.Path.{sym}
 use denote.Ref.{now}

@@ -1,3 +1,4 @@
+-- `takes_flips` meets its contract: SW takes flips, unless the mode permutes.
 use borrow.Author.Needs.{needs}
 use Rattle.paper.proofs.Mode.takes_flips.Statement.{statement}
 use Rattle.paper.proofs.Mode.takes_flips.Tie as tie

@@ -1,3 +1,4 @@
+-- `takes_greys` meets its contract: CMR takes grey numbers, in a form that moves.
 use borrow.Author.Needs.{needs}
 use Rattle.paper.proofs.Mode.takes_greys.Statement.{statement}
 use Rattle.paper.proofs.Mode.takes_greys.Tie as tie

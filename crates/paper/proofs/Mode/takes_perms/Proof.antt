@@ -1,3 +1,4 @@
+-- `takes_perms` meets its contract: a mode that permutes takes permutations, in a form that moves.
 use borrow.Author.Needs.{needs}
 use Rattle.paper.proofs.Mode.takes_perms.Statement.{statement}
 use Rattle.paper.proofs.Mode.takes_perms.Tie as tie

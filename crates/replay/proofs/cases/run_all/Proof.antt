@@ -7,7 +7,8 @@ use Rattle.replay.proofs.cases.run_all.Statement.{statement}
 use Rattle.replay.proofs.cases.run_all.Tie as tie
 
 abbrev Inv-loop : tie.InvT-loop
-Inv-loop list good₀ all₀ marks₀ cases at₀ i₀ good all marks at i = (length good ≡ length good₀) × (length all ≡ length all₀) × (length marks ≡ length marks₀) × (i ≤ cases)
+Inv-loop list good₀ all₀ marks₀ cases at₀ i₀ good all marks at i =
+    (length good ≡ length good₀) × (length all ≡ length all₀) × (length marks ≡ length marks₀) × (i ≤ cases)
 
 abbrev μ-loop : tie.MeasureT-loop
 μ-loop list good₀ all₀ marks₀ cases at₀ i₀ good all marks at i = cases - i
