@@ -1,3 +1,4 @@
+-- What tested input says; what the steps ask and leave; laws from columns, bonds and choices to the paper; the answers; that there is one.
 pub mod Ready
 pub mod Looked
 pub mod Moved

@@ -32,7 +32,9 @@ pub record Tested (mode : Mode) (n d : ℕ) (fwd : List ℕ) (g : Group) (xs : L
   pub distinct : Distinct (g .len) (member g)
 
 -- so the panel can be looked at
-pub sighted : {mode : Mode} {n d q : ℕ} {fwd : List ℕ} {g : Group} {xs : List ℤ} → Tested mode n d fwd g xs → (isGperm mode ≡ true → q < n) → Sighted mode n g q xs
+pub sighted :
+    {mode : Mode} {n d q : ℕ} {fwd : List ℕ} {g : Group} {xs : List ℤ}
+    → Tested mode n d fwd g xs → (isGperm mode ≡ true → q < n) → Sighted mode n g q xs
 sighted r e = record {
   n-high = r .n-high;
   size-low = omega (arith, r .size-low);

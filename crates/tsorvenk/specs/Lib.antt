@@ -1,3 +1,4 @@
+-- The numbers of the C interface first, then what each exported function promises, and that each promise allows one number.
 pub mod Number
 pub mod Step
 pub mod Energy

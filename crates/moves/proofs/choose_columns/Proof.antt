@@ -1,3 +1,4 @@
+-- `choose_columns` meets its contract: the sites that are reached get the column that their choice makes, by a row or by a flip.
 use borrow.Author.Needs.{needs}
 use mathlib.Core.Path.{_≡_, refl, sym, _∙_}
 use mathlib.Core.Bool.{true, false}

@@ -1,3 +1,4 @@
+-- `choose_task` meets its contract: the blue or only columns first; in CMR the tally is then that of the grey labels.
 use borrow.Author.Needs.{needs}
 use mathlib.Core.Path.{_≡_, refl, sym, _∙_}
 use mathlib.Core.Bool.{true, false}

@@ -1,3 +1,4 @@
+-- `hold` meets its contract by mode: drawn bonds by the sampler of the temperature, the others by their ends alone.
 use borrow.Author.Needs.{needs}
 use mathlib.Core.Path.{_≡_, sym, _∙_}
 use mathlib.Core.Bool.{true, false}

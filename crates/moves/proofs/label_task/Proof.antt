@@ -1,3 +1,4 @@
+-- `label_task` meets its contract: each step asks what the tests and the step before it have left.
 use borrow.Author.Needs.{needs}
 use native.Mathlib.Omega.{arith}
 use Rattle.moves.specs.Ready.{sighted}

@@ -1,3 +1,4 @@
+-- `write_task` meets its contract: the signs are those of the spins before the move.
 use borrow.Author.Needs.{needs}
 use Rattle.columns.specs.Laws.{signed-spins}
 use Rattle.moves.specs.Finish.{write-leaves}
