@@ -38,7 +38,10 @@ module _ {t : List ℕ} {p : Places} (k : Placed t p) where
   fwd-there = rw (k .sizes) (rw (k .fwd-at) at (k .spelling .fwd-line))
 
   pub group-there : Frame 0x13 (p .len) (drop (p .group) t)
-  group-there = record { spelt = rw (k .group-at) at (k .spelling .group-line); long = ap (λ (u : List ℕ). length (bytes u)) (sym (k .group-at)) ∙ sym (k .len) }
+  group-there = record {
+    spelt = rw (k .group-at) at (k .spelling .group-line);
+    long = ap (λ (u : List ℕ). length (bytes u)) (sym (k .group-at)) ∙ sym (k .len);
+  }
 
   pub perms-there : Frame 0x14 (p .sizes .n * p .len) (drop (p .perms) t)
   perms-there = rw (k .sizes, k .len) (rw (k .perms-at) at (k .spelling .perms-line))

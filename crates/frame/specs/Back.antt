@@ -15,5 +15,9 @@ reversed-of n d fwd true bwd t = record { right = λ b v. t .inverse }
 reversed-of n d fwd false bwd t = record { right = λ b v. absurd (t .none b v) }
 
 -- a text's table
-pub back-complete : (text bwd : List ℕ) → Reversed (frameLattice text [] .n) (frameLattice text [] .d) (frameLattice text [] .fwd) bwd → HasBack text → Inverse (frameLattice text [] .n) (frameLattice text [] .d) (frameLattice text [] .fwd) bwd
+pub back-complete :
+    (text bwd : List ℕ)
+    → Reversed (frameLattice text [] .n) (frameLattice text [] .d) (frameLattice text [] .fwd) bwd
+    → HasBack text
+    → Inverse (frameLattice text [] .n) (frameLattice text [] .d) (frameLattice text [] .fwd) bwd
 back-complete text bwd r h = r .right (h .bwd) (h .inverse)

@@ -56,10 +56,24 @@ module _ (text bwd : List ℕ) (s : Spelling text) (long : length bwd ≡ frameL
   }
 
   chosen-of : Chosen (frameCall text bwd) (frameChoices text) → Chosen (frameCall text []) (frameChoices text)
-  chosen-of h = record { perms = h .perms; not-identity = h .not-identity; flips = h .flips; greys = h .greys; grey-some = h .grey-some; reference = h .reference }
+  chosen-of h = record {
+    perms = h .perms;
+    not-identity = h .not-identity;
+    flips = h .flips;
+    greys = h .greys;
+    grey-some = h .grey-some;
+    reference = h .reference;
+  }
 
   of-chosen : Chosen (frameCall text []) (frameChoices text) → Chosen (frameCall text bwd) (frameChoices text)
-  of-chosen h = record { perms = h .perms; not-identity = h .not-identity; flips = h .flips; greys = h .greys; grey-some = h .grey-some; reference = h .reference }
+  of-chosen h = record {
+    perms = h .perms;
+    not-identity = h .not-identity;
+    flips = h .flips;
+    greys = h .greys;
+    grey-some = h .grey-some;
+    reference = h .reference;
+  }
 
   back-of : Inverse (frameLattice text [] .n) (frameLattice text [] .d) (frameLattice text [] .fwd) bwd → HasBack text
   back-of h = record { bwd = bwd; long = long; inverse = h }

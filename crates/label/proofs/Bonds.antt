@@ -54,7 +54,10 @@ module _ (d k : ℕ) (fwd list : List ℕ) where
       split x y h = go (ℕ-discrete (h .among .place) t)
         where
           go : Dec (h .among .place ≡ t) → Listed d k fwd list t x y ⊎ Only a b x y
-          go (no ne) = inl (record { among = record { place = h .among .place; within = lt-of-ne (h .among .within) ne; is = h .among .is }; leads = h .leads })
+          go (no ne) = inl (record {
+            among = record { place = h .among .place; within = lt-of-ne (h .among .within) ne; is = h .among .is };
+            leads = h .leads;
+          })
           go (yes e) = inr (site, sym (h .leads) ∙ (ap (λ (z : ℕ). getD fwd (z * d + k) 0) site ∙ sym eb))
             where
               site : x ≡ a

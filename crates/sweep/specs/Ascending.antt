@@ -204,7 +204,8 @@ module _ (w : Sweep) (b : Buffers) (v : Kept (sweepRules w b)) where
           d = done-now
 
           acc : Accepted (d .answer)
-          acc = accept (taskCall w K) (taskChoices w K) (areas w b (b .spins) K) (areas w b″ (d .spins) K) (d .answer) (task-valid w b v K below e) (d .answers)
+          acc = accept (taskCall w K) (taskChoices w K) (areas w b (b .spins) K) (areas w b″ (d .spins) K) (d .answer) (task-valid w b v K below e)
+              (d .answers)
 
           there : Rows (taskCall w K) (b′ .spins) (d .spins) (b″ .spins)
           there = record { long = s .lengths .spins; group = λ i hi x hx. d .rows i x hi hx; others = out }

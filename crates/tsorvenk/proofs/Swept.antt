@@ -49,7 +49,8 @@ module _ (w : Sweep) (b : Buffers) (ts : List ℕ) where
   told-at (Swept idle moved) b′ ts′ l h e = record { room = l; counted = e; answers = h }
 
   -- without room for the counts
-  roomless-at : (r : ℕ) → (length ts ≡ 2 → ⊥) → Roomless (planOf w) r → Returned sweepNumber (λ a. OutcomeAnswers w (withOutcomes b ts) a (withOutcomes b ts)) r
+  roomless-at : (r : ℕ) → (length ts ≡ 2 → ⊥) → Roomless (planOf w) r → Returned sweepNumber
+      (λ a. OutcomeAnswers w (withOutcomes b ts) a (withOutcomes b ts)) r
   roomless-at r n (inl v) = record {
     answer = Fault 1;
     allowed = record { why = inl ((λ k. v .0 (planned-of w k)), refl); kept = refl; uncounted = refl };

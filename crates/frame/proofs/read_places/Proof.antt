@@ -53,7 +53,10 @@ same-length-3 c = search needs
 returns : tie.Need-returns
 returns c =
     let s = G (c .before) in
-    readout (s .pre .placed) _ _ _ (c .read-group .ensures) (c .before .before .before .before .before .before .before .before .before .before .before .before .fill-spins .ensures) (c .before .before .before .before .before .before .before .before .fill-words .ensures) (c .before .before .before .fill-bytes .ensures)
+    let b = c .before .before .before in
+    let w = b .before .before .before .before .before in
+    readout (s .pre .placed) _ _ _ (c .read-group .ensures) (w .before .before .before .before .fill-spins .ensures) (w .fill-words .ensures)
+    (b .fill-bytes .ensures)
 
 pub read-places-spec : {M : Type 1} → statement M
 read-places-spec =

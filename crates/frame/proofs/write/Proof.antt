@@ -24,7 +24,8 @@ add-words-2 : tie.Need-add-words-2
 add-words-2 c = search needs
 
 total : (s : tie.Start)
-    → length (resultOf (now (s .args .labels)) (now (s .args .counts)) (now (s .args .spins))) ≡ 4 * length (now (s .args .labels)) + 4 * length (now (s .args .counts)) + 2 * length (now (s .args .spins)) + 9
+    → length (resultOf (now (s .args .labels)) (now (s .args .counts)) (now (s .args .spins))) ≡ 4 * length (now (s .args .labels)) + 4 * length
+    (now (s .args .counts)) + 2 * length (now (s .args .spins)) + 9
 total s = result-length (now (s .args .labels)) (now (s .args .counts)) (now (s .args .spins))
 
 abbrev S : tie.Else3 → tie.Start
@@ -55,7 +56,8 @@ second : (c : tie.After-put-words2)
 second c = c .put-words2 .ensures
 
 both : (c : tie.After-put-words2)
-    → Put (line 0x20 (twoBytes (L (E (F c)))) ++ line 0x21 (twoBytes (C (E (F c))))) (now (S (E (F c)) .args .out)) 0 (c .put-words2 .result) (c .put-words2 .last .1 .1 .0)
+    → Put (line 0x20 (twoBytes (L (E (F c)))) ++ line 0x21 (twoBytes (C (E (F c))))) (now (S (E (F c)) .args .out)) 0 (c .put-words2 .result)
+    (c .put-words2 .last .1 .1 .0)
 both c = put-both _ _ _ _ _ _ _ _ (first (F c)) (second c)
 
 returns : tie.Need-returns
@@ -88,8 +90,16 @@ put-spins-requires c κs =
     let b = c .before .before .before in
     let e = E (F b) in
     record {
-      fits = omega
-          (arith, enough e, first (F b) .next, second b .next, put-long _ _ _ _ _ (both b), words-line-length 0x20 (L e), words-line-length 0x21 (C e), spins-line-length 0x22 (now (S e .args .spins)));
+      fits = omega (
+        arith,
+        enough e,
+        first (F b) .next,
+        second b .next,
+        put-long _ _ _ _ _ (both b),
+        words-line-length 0x20 (L e),
+        words-line-length 0x21 (C e),
+        spins-line-length 0x22 (now (S e .args .spins)),
+      );
     }
 
 same-length : tie.Need-same-length
@@ -100,7 +110,8 @@ returns-4 c =
     let d = c .before .before in
     let b = d .before .before .before .before in
     let s = S (E (F b)) in
-    put-fitted _ _ _ _ (omega (arith, total s, enough (E (F b)))) (put-both _ _ _ _ _ _ _ _ (first (F b)) (put-both _ _ _ _ _ _ _ _ (second b) (d .put-spins .ensures)))
+    put-fitted _ _ _ _ (omega (arith, total s, enough (E (F b)))) (put-both _ _ _ _ _ _ _ _ (first (F b))
+    (put-both _ _ _ _ _ _ _ _ (second b) (d .put-spins .ensures)))
 
 pub write-spec : {M : Type 1} → statement M
 write-spec =

@@ -10,7 +10,9 @@ use Rattle.rules.specs.Sight.{seenBy, seen-spin}
 use Rattle.rules.proofs.look.Statement.{statement}
 use Rattle.rules.proofs.look.Tie as tie
 
-spinning : (s : tie.Start) → let a = s .args in (i : ℕ) → i < a .n → (k : ℕ) → k < a .group .len → Spin (seenBy (a .mode) (a .n) (a .group) (a .reference) (now (a .spins)) i k)
+spinning :
+    (s : tie.Start)
+    → let a = s .args in (i : ℕ) → i < a .n → (k : ℕ) → k < a .group .len → Spin (seenBy (a .mode) (a .n) (a .group) (a .reference) (now (a .spins)) i k)
 spinning s i h k l =
     let a = s .args in
     seen-spin (a .mode) (a .n) (a .group) (a .reference) (now (a .spins)) (s .pre .panel .spins) (s .pre .panel .reference) i k h l

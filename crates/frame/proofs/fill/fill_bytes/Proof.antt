@@ -32,7 +32,8 @@ fits c = line-fits 0x14 _ _ _ (omega arith) (S c .pre .frame)
 
 entry : (c : tie.After-byte-at Inv-loop μ-loop) → c .byte-at .result ≡ getD (X (S (c .before))) (c .before .before .loop .k) 0
 entry c =
-    let s = S (c .before) in c .byte-at .ensures ∙ sym (line-byte 0x14 (s .args .count) (now (s .args .text)) (s .args .at) (omega arith) (s .pre .frame) _ (c .before .loop-test .taken))
+    let s = S (c .before) in c .byte-at .ensures ∙ sym (line-byte 0x14 (s .args .count) (now (s .args .text)) (s .args .at) (omega arith) (s .pre .frame) _
+    (c .before .loop-test .taken))
 
 loop-holds : tie.Need-loop-holds Inv-loop μ-loop
 loop-holds c = filling-none (X (c .before .before)) _ _ (long (c .before .before))

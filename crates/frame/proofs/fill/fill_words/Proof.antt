@@ -33,7 +33,8 @@ fits c = line-fits 0x12 _ _ _ (omega arith) (S c .pre .frame)
 
 entry : (c : tie.After-word-at Inv-loop μ-loop) → c .word-at .result ≡ getD (X (S (c .before))) (c .before .before .loop .k) 0
 entry c =
-    let s = S (c .before) in c .word-at .ensures ∙ word-entry 0x12 (s .args .count) (now (s .args .text)) (s .args .at) (omega arith) (s .pre .frame) _ (c .before .loop-test .taken)
+    let s = S (c .before) in c .word-at .ensures ∙ word-entry 0x12 (s .args .count) (now (s .args .text)) (s .args .at) (omega arith) (s .pre .frame) _
+    (c .before .loop-test .taken)
 
 loop-holds : tie.Need-loop-holds Inv-loop μ-loop
 loop-holds c = filling-none (X (c .before .before)) _ _ (long (c .before .before))

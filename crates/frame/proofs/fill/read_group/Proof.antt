@@ -33,7 +33,8 @@ fits c = line-fits 0x13 _ _ _ (omega arith) (S c .pre .frame)
 
 entry : (c : tie.After-byte-at Inv-loop μ-loop) → c .byte-at .result ≡ getD (X (S (c .before))) (c .before .before .loop .k) 0
 entry c =
-    let s = S (c .before) in c .byte-at .ensures ∙ sym (line-byte 0x13 (s .args .len) (now (s .args .text)) (s .args .at) (omega arith) (s .pre .frame) _ (c .before .loop-test .taken))
+    let s = S (c .before) in c .byte-at .ensures ∙ sym (line-byte 0x13 (s .args .len) (now (s .args .text)) (s .args .at) (omega arith) (s .pre .frame) _
+    (c .before .loop-test .taken))
 
 loop-holds : tie.Need-loop-holds Inv-loop μ-loop
 loop-holds c = filling-none (X (c .before)) _ _ (long (c .before))
@@ -72,7 +73,8 @@ loop-again c =
 returns : tie.Need-returns Inv-loop μ-loop
 returns c =
     let s = c .before .before .before in
-    let e : c .before .loop .systems ≡ table 8 (λ k. getD (X s) k 0) = filled (X s) _ _ (long s) _ _ (c .before .loop .inv) (c .loop-test .left) ∙ rw (← long s) (padded (X s) 8 (omega (arith, long s, s .pre .fits))) in
+    let e : c .before .loop .systems ≡ table 8 (λ k. getD (X s) k 0) = filled (X s) _ _ (long s) _ _ (c .before .loop .inv) (c .loop-test .left) ∙ rw
+    (← long s) (padded (X s) 8 (omega (arith, long s, s .pre .fits))) in
     λ i. record { len = sym (long s) i; systems = e i }
 
 pub read-group-spec : {M : Type 1} → statement M

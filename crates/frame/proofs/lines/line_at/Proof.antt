@@ -66,7 +66,8 @@ add-t6 c = omega arith
 
 returns-6 : tie.Need-returns-6
 returns-6 c =
-    passed-line _ _ _ _ _ (search needs) (E2 (c .before .before .before .before) .digits-end .ensures) (omega arith) (c .before .before .before .before .if2 .left) (omega arith) (sym (c .before .byte-at .ensures) ∙ c .if5 .left)
+    passed-line _ _ _ _ _ (search needs) (E2 (c .before .before .before .before) .digits-end .ensures) (omega arith)
+    (c .before .before .before .before .if2 .left) (omega arith) (sym (c .before .byte-at .ensures) ∙ c .if5 .left)
 
 pub line-at-spec : {M : Type 1} → statement M
 line-at-spec =

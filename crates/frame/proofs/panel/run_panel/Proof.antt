@@ -88,7 +88,16 @@ slice-aggregate-move-and-write-6 : tie.Need-slice-aggregate-move-and-write-6
 slice-aggregate-move-and-write-6 c = sym (counts-part (S (c .before .before .before .before .before .before)))
 
 move-and-write-requires : tie.Need-move-and-write-requires
-move-and-write-requires c κs = let s = S (c .before .before .before .before .before .before .before .before) in record { n-low = s .pre .n-low; n-high = omega (arith, s .pre .n-high); d-low = s .pre .d-low; d-high = s .pre .d-high; fwd-long = fwd-part s; bwd-long = bwd-part s }
+move-and-write-requires c κs =
+    let s = S (c .before .before .before .before .before .before .before .before) in
+    record {
+      n-low = s .pre .n-low;
+      n-high = omega (arith, s .pre .n-high);
+      d-low = s .pre .d-low;
+      d-high = s .pre .d-high;
+      fwd-long = fwd-part s;
+      bwd-long = bwd-part s;
+    }
 
 same-length : tie.Need-same-length
 same-length c = search needs

@@ -39,7 +39,8 @@ enough s = omega (arith, s .pre .fits, line-length (s .args .tag) (map spinByte 
 -- at the loop's head: the buffer's length, the room, and the numbers that are passed
 long : (c : tie.At-loop Inv-loop μ-loop) → length (c .loop .out) ≡ length (now (S (P c) .args .out))
 long c =
-    let p = P c in c .loop .inv .long ∙ (ap (length {A = ℕ}) (p .put-byte .ensures) ∙ length-sets (now (S p .args .out)) (S p .args .at) (hex (S p .args .tag ∷ [])))
+    let p = P c in c .loop .inv .long ∙ (ap (length {A = ℕ}) (p .put-byte .ensures) ∙ length-sets (now (S p .args .out)) (S p .args .at)
+    (hex (S p .args .tag ∷ [])))
 
 room : (c : tie.At-loop Inv-loop μ-loop) → S (P c) .args .at + 2 * length (X c) + 3 ≤ length (c .loop .out)
 room c = omega (arith, enough (S (P c)), long c)
@@ -50,7 +51,8 @@ passed c = omega (arith, c .loop .inv .within, length-map (X c) spinByte)
 byte : (c : tie.After-spin-byte Inv-loop μ-loop) → c .spin-byte .result ≡ getD (map spinByte (X (A c))) (A c .loop .k) 0
 byte c =
     c .spin-byte .ensures ∙ (ap spinByte (toZ-ofZ {w =
-    w8} {z = getD (X (A c)) (A c .loop .k) (pos 0)} (record { sfits = c .before .spin-byte-arg .given })) ∙ sym (List·getD-map spinByte (X (A c)) (A c .loop .k) (pos 0)))
+    w8} {z = getD (X (A c)) (A c .loop .k) (pos 0)} (record { sfits = c .before .spin-byte-arg .given })) ∙ sym
+    (List·getD-map spinByte (X (A c)) (A c .loop .k) (pos 0)))
 
 put-byte-requires : tie.Need-put-byte-requires Inv-loop μ-loop
 put-byte-requires c κs = omega (arith, enough (c .before .before))
@@ -85,7 +87,8 @@ loop-less c = search needs
 loop-again : tie.Need-loop-again Inv-loop μ-loop
 loop-again c =
     let b = c .before .before .before .before in
-    hexing-more (map spinByte (X (A b))) _ _ _ _ _ _ _ (A b .loop .inv) (omega (arith, length-map (X (A b)) spinByte)) (omega arith) (byte b) (c .before .before .put-byte2 .ensures)
+    hexing-more (map spinByte (X (A b))) _ _ _ _ _ _ _ (A b .loop .inv) (omega (arith, length-map (X (A b)) spinByte)) (omega arith) (byte b)
+    (c .before .before .put-byte2 .ensures)
 
 mul-end : tie.Need-mul-end Inv-loop μ-loop
 mul-end c = omega (arith, room (c .before))
@@ -109,7 +112,8 @@ returns : tie.Need-returns Inv-loop μ-loop
 returns c =
     let a = c .before in
     let k : a .loop .k ≡ length (X a) = omega (arith, passed a) in
-    put-line (S (P a) .args .tag) (map spinByte (X a)) _ _ _ _ _ (P a .put-byte .ensures) (hexed (map spinByte (X a)) _ _ _ _ _ (a .loop .inv) (omega (arith, length-map (X a) spinByte)) (omega arith))
+    put-line (S (P a) .args .tag) (map spinByte (X a)) _ _ _ _ _ (P a .put-byte .ensures)
+    (hexed (map spinByte (X a)) _ _ _ _ _ (a .loop .inv) (omega (arith, length-map (X a) spinByte)) (omega arith))
 
 pub put-spins-spec : {M : Type 1} → statement M
 put-spins-spec =

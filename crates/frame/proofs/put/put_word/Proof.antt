@@ -27,7 +27,8 @@ same-length c = search needs
 returns : tie.Need-returns
 returns c =
     let s = c .before .before .before .before .before .before .before .before .before in
-    four-digits (now (s .args .out)) (s .args .at) (s .args .x / 256) (s .args .x % 256) _ _ (c .before .before .before .before .before .before .put-byte .ensures) (c .before .before .put-byte2 .ensures)
+    four-digits (now (s .args .out)) (s .args .at) (s .args .x / 256) (s .args .x % 256) _ _
+    (c .before .before .before .before .before .before .put-byte .ensures) (c .before .before .put-byte2 .ensures)
 
 pub put-word-spec : {M : Type 1} → statement M
 put-word-spec =

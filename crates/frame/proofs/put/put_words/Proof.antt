@@ -34,7 +34,8 @@ enough s = omega (arith, s .pre .fits, line-length (s .args .tag) (twoBytes (now
 -- at the loop's head: the buffer's length, the room, and the numbers that are passed
 long : (c : tie.At-loop Inv-loop μ-loop) → length (c .loop .out) ≡ length (now (S (P c) .args .out))
 long c =
-    let p = P c in c .loop .inv .long ∙ (ap (length {A = ℕ}) (p .put-byte .ensures) ∙ length-sets (now (S p .args .out)) (S p .args .at) (hex (S p .args .tag ∷ [])))
+    let p = P c in c .loop .inv .long ∙ (ap (length {A = ℕ}) (p .put-byte .ensures) ∙ length-sets (now (S p .args .out)) (S p .args .at)
+    (hex (S p .args .tag ∷ [])))
 
 room : (c : tie.At-loop Inv-loop μ-loop) → S (P c) .args .at + 4 * length (X c) + 3 ≤ length (c .loop .out)
 room c = omega (arith, enough (S (P c)), long c)
@@ -81,7 +82,8 @@ loop-again c =
     let l = c .before .before .before .before .before .loop-test .taken in
     let e : 2 * (a .loop .k + 1) ≡ 2 * a .loop .k + 2 = omega arith in
     rw e
-    (hexing-two (twoBytes (X a)) _ _ _ _ _ _ _ _ (a .loop .inv) (omega (arith, twoBytes-length (X a))) (omega arith) (sym (twoBytes-high (X a) _ l)) (sym (twoBytes-low (X a) _ l)) (c .before .before .put-word .ensures))
+    (hexing-two (twoBytes (X a)) _ _ _ _ _ _ _ _ (a .loop .inv) (omega (arith, twoBytes-length (X a))) (omega arith) (sym (twoBytes-high (X a) _ l))
+    (sym (twoBytes-low (X a) _ l)) (c .before .before .put-word .ensures))
 
 mul-end : tie.Need-mul-end Inv-loop μ-loop
 mul-end c = omega (arith, room (c .before))
@@ -105,7 +107,8 @@ returns : tie.Need-returns Inv-loop μ-loop
 returns c =
     let a = c .before in
     let k : a .loop .k ≡ length (X a) = omega (arith, passed a) in
-    put-line (S (P a) .args .tag) (twoBytes (X a)) _ _ _ _ _ (P a .put-byte .ensures) (hexed (twoBytes (X a)) _ _ _ _ _ (a .loop .inv) (omega (arith, twoBytes-length (X a))) (omega arith))
+    put-line (S (P a) .args .tag) (twoBytes (X a)) _ _ _ _ _ (P a .put-byte .ensures)
+    (hexed (twoBytes (X a)) _ _ _ _ _ (a .loop .inv) (omega (arith, twoBytes-length (X a))) (omega arith))
 
 pub put-words-spec : {M : Type 1} → statement M
 put-words-spec =

@@ -27,7 +27,8 @@ size : (c : tie.After-struct-known) → GroupSize (E c .before .len .given .0 .0
 size c = passed (c .before .before .group-size .result) (c .before .if1 .left) (c .before .before .group-size .ensures)
 
 k2 : (c : tie.After-known-told2)
-    → Passed 0x14 (S (E (D c)) .args .sizes .n * E (D c) .before .len .given .0 .0) (now (S (E (D c)) .args .text)) (E (D c) .before .len .given .0 .1 .0) (c .before .end .given .0 .0)
+    → Passed 0x14 (S (E (D c)) .args .sizes .n * E (D c) .before .len .given .0 .0) (now (S (E (D c)) .args .text)) (E (D c) .before .len .given .0 .1 .0)
+    (c .before .end .given .0 .0)
 k2 c = subst (AfterAs _ _ _ _) (c .before .end .given .1) (c .before .before .before .after .ensures)
 
 line-at-requires : tie.Need-line-at-requires
@@ -47,7 +48,8 @@ group-size-requires c κs = search needs
 
 returns-2 : tie.Need-returns-2
 returns-2 c =
-    no-group-size (S (c .before .before) .pre) (k1 (c .before .before)) (refused (c .before .group-size .result) (c .if1 .taken) (c .before .group-size .ensures))
+    no-group-size (S (c .before .before) .pre) (k1 (c .before .before))
+    (refused (c .before .group-size .result) (c .if1 .taken) (c .before .group-size .ensures))
 
 mul-after : tie.Need-mul-after
 mul-after c = omega (arith, perms-small (S (E c) .pre) (k1 (E c)) (size c))
@@ -63,7 +65,8 @@ enum-told-2 c = search needs
 
 returns-3 : tie.Need-returns-3
 returns-3 c =
-    let b = c .before .before .before in no-perms (S (E b) .pre) (k1 (E b)) (size b) (subst (AfterAs _ _ _ _) (c .enum-told2 .given .1) (c .before .before .after .ensures))
+    let b = c .before .before .before in no-perms (S (E b) .pre) (k1 (E b)) (size b)
+    (subst (AfterAs _ _ _ _) (c .enum-told2 .given .1) (c .before .before .after .ensures))
 
 returns-4 : tie.Need-returns-4
 returns-4 c = let b = D (c .before) in no-end (S (E b) .pre) (k1 (E b)) (size b) (k2 (c .before)) (c .if2 .taken)

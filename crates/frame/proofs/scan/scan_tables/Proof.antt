@@ -51,7 +51,8 @@ enum-told-2 c = search needs
 
 returns-2 : tie.Need-returns-2
 returns-2 c =
-    no-fwd (S (c .before .before .before .before) .pre) (k1 (c .before .before .before .before)) (subst (AfterAs _ _ _ _) (c .enum-told2 .given .1) (c .before .before .after2 .ensures))
+    no-fwd (S (c .before .before .before .before) .pre) (k1 (c .before .before .before .before))
+    (subst (AfterAs _ _ _ _) (c .enum-told2 .given .1) (c .before .before .after2 .ensures))
 
 scan-group-requires : tie.Need-scan-group-requires
 scan-group-requires c κs = tabled (S (E c) .pre) (k1 (E c)) (subst (AfterAs _ _ _ _) (c .before .group .given .1) (c .before .before .before .after2 .ensures))
