@@ -6,7 +6,7 @@
 COUNT is 300 and SEED 1 where they are not given: the same two numbers draw the same texts. The program is proved and built first, unless
 --program names a built one. --library names a shared object of this machine with the exported tsorvenk_frames, which is asked in its place:
 
-    cc -shared -o libtsorvenk.so -Wl,--whole-archive "$(./build-library | tail -1)"
+    cc -shared -o libtsorvenk.so -Wl,--whole-archive "$(./build-library | tail -1)" -Wl,--no-whole-archive
 
 Writes how many texts got each answer, as they were drawn, and the shortest text on which the two differ; exit status 1 if there is one.
 """

@@ -19,7 +19,7 @@ use Rattle.paper.specs.Answer.Move.{Answers, Seen, Accepted, accepted-zero}
 use Rattle.paper.specs.Answer.Frame.{bytes, signed, frameLattice, frameCall, frameChoices, frameBuffers, HasBack, frameRules, refusal, FrameAnswers}
 use Rattle.frame.specs.declared.Sizes.{Sizes}
 use Rattle.frame.specs.Spelling.{line2, line3, spellingRules, valueRules, Spelling, spelling-of, misspelt, misvalued, all-kept}
-use Rattle.frame.specs.Digits.{Below}
+use Rattle.frame_text.specs.Digits.{Below}
 use Rattle.frame.specs.Words.{words-length}
 use Rattle.frame.specs.Reading.{Held, Readout}
 use Rattle.frame.specs.Writing.{resultOf, TwoByte, Fitted, fitted-take}

@@ -1,5 +1,4 @@
 pub mod Number
-pub mod Digits
 pub mod Words
 pub mod Lines
 pub mod Spelling

@@ -1,14 +1,14 @@
 -- A frame by its places in the text: a line of m bytes after its tag takes 2m + 3 characters.
 use Prim.Native.Nat.{ℕ, zero, suc, _+_, _-_, _*_, _≤_, _<_}
 use mathlib.Core.Path.{_≡_, refl, sym, _∙_, ap, subst}
-use mathlib.Core.Logic.{inl, inr}
 use mathlib.Core.List.{List, [], _∷_, _++_}
 use native.Mathlib.Omega.{arith}
 use native.Mathlib.Decide.{decLt}
 use lib.ListN.{length, getD, take, drop, length-append, length-drop, take-append-drop, List·getD-append}
 use lib.Seq.{drop-drop, getD-drop, getD-take, drop-cons, getD-at, length-take-le}
-use Rattle.paper.specs.Answer.Frame.{digitValue, hex, unhex, firstLine, next, bytes, Spelt, Frame}
-use Rattle.frame.specs.Digits.{Digit, Digits, Below, not-feed, hex-length, hex-digits, unhex-hex, hex-unhex, unhex-small, unhex-length, unhex-at}
+use Rattle.paper.specs.Answer.Frame.{digitValue, hex, unhex, next, bytes, Spelt, Frame}
+use Rattle.frame_text.specs.Digits.{Digit, Digits, Below, feed-no-digit, hex-length, hex-digits, unhex-hex, unhex-at}
+use Rattle.frame_text.specs.Line.{DigitsEnd, frame-of}
 
 -- the byte whose two digits stand at p
 abbrev pub byteAt : List ℕ → ℕ → ℕ
@@ -26,53 +26,6 @@ pub record TwoDigits (t : List ℕ) (p : ℕ) : Type 0 where
 pub record FourDigits (t : List ℕ) (p : ℕ) : Type 0 where
   pub first : TwoDigits t p
   pub second : TwoDigits t (p + 2)
-
--- from the place a to e there are digits; and they end at e
-pub record DigitsTo (t : List ℕ) (a e : ℕ) : Type 0 where
-  pub from : a ≤ e
-  pub to : e ≤ length t
-  pub digits : (k : ℕ) → a ≤ k → k < e → Digit (getD t k 0)
-
-pub record DigitsEnd (t : List ℕ) (a e : ℕ) : Type 0 where
-  pub run : DigitsTo t a e
-  pub stop : e < length t → Digit (getD t e 0) → ⊥
-
-pub one-more : {t : List ℕ} {a e : ℕ} → DigitsTo t a e → e < length t → Digit (getD t e 0) → DigitsTo t a (e + 1)
-one-more {t} {a} {e} d l h = record { from = omega arith; to = omega arith; digits = λ k low high. at k low (decLt k e) high }
-  where
-    at : (k : ℕ) → a ≤ k → Dec (k < e) → k < e + 1 → Digit (getD t k 0)
-    at k low (yes q) high = d .digits k low q
-    at k low (no q) high = let same : k ≡ e = omega arith in rw same h
-
--- ---- a text that begins with digits and a line feed
-pub first-line : (ds r : List ℕ) → Digits ds → firstLine (ds ++ (10 ∷ r)) ≡ ds
-unfolding firstLine
-first-line [] r h = refl
-first-line (a ∷ ds) r h = rw (not-feed a (h 0 (omega arith))) (ap (λ (q : List ℕ). a ∷ q) (first-line ds r (λ k l. h (suc k) (omega arith))))
-
-pub next-line : (ds r : List ℕ) → Digits ds → next (ds ++ (10 ∷ r)) ≡ r
-unfolding next
-next-line [] r h = refl
-next-line (a ∷ ds) r h = rw (not-feed a (h 0 (omega arith))) (next-line ds r (λ k l. h (suc k) (omega arith)))
-
-headed : (xs : List ℕ) (tag m : ℕ) → length xs ≡ suc m → getD xs 0 0 ≡ tag → xs ≡ tag ∷ drop 1 xs
-headed [] tag m l e = absurd (omega arith)
-headed (x ∷ xs) tag m l e = ap (λ (y : ℕ). y ∷ xs) e
-
-frame-of : (tag m : ℕ) (ds r : List ℕ) → length ds ≡ 2 * suc m → Digits ds → getD (unhex ds) 0 0 ≡ tag → Frame tag m (ds ++ (10 ∷ r))
-frame-of tag m ds r l h e = record {
-  spelt = record {
-    is = rw (first-line ds r h, next-line ds r h, ← headed (unhex ds) tag m count e, hex-unhex ds (suc m) l h) refl;
-    small = rw (first-line ds r h) (λ k q. small k q);
-  };
-  long = rw (first-line ds r h, length-drop 1 (unhex ds)) (omega (arith, count));
-}
-  where
-    count : length (unhex ds) ≡ suc m
-    count = unhex-length ds (suc m) l
-
-    small : (k : ℕ) → k < length (drop 1 (unhex ds)) → getD (drop 1 (unhex ds)) k 0 < 256
-    small k q = rw (getD-drop 1 (unhex ds) k 0) (unhex-small ds h (1 + k) (omega (arith, length-drop 1 (unhex ds))))
 
 -- ---- what a frame says of the text's characters
 after-feed : (ds r : List ℕ) (w : ℕ) → length ds ≡ w → r ≡ drop (w + 1) (ds ++ (10 ∷ r))
@@ -143,10 +96,6 @@ byte-dropped a t k p e = rw (← e, getD-drop a t k 0, getD-drop a t (k + 1) 0, 
   where
     one : a + (k + 1) ≡ a + k + 1
     one = omega arith
-
-feed-no-digit : Digit 10 → ⊥
-feed-no-digit (inl h) = omega arith
-feed-no-digit (inr h) = omega arith
 
 module _ (tag m : ℕ) (t : List ℕ) (a : ℕ) (small : tag < 256) (f : Frame tag m (drop a t)) where
   pub line-fits : a + 2 * m + 3 ≤ length t

@@ -9,9 +9,9 @@ use lib.IntN.{ℤ, pos}
 use lib.Signed.{mag}
 use Rattle.paper.specs.Refusal.Rules.{Spin, Spins}
 use Rattle.paper.specs.Answer.Frame.{hex, next, bytes, words, signed, twoBytes, spinByte, line}
-use Rattle.frame.specs.Digits.{Below, Digits, hex-digits, unhex-hex}
+use Rattle.frame_text.specs.Digits.{Below, hex-digits, unhex-hex}
+use Rattle.frame_text.specs.Line.{Clean, digits-clean, first-line, next-line}
 use Rattle.frame.specs.Words.{twoBytes-small, words-twoBytes, spinByte-small, signed-spinByte}
-use Rattle.frame.specs.Lines.{first-line, next-line}
 use Rattle.frame.specs.Writing.{resultOf, TwoByte}
 
 -- a line's bytes, and what is behind it
@@ -21,16 +21,16 @@ pub record LineBack (bs rest text : List ℕ) : Type 0 where
 
 pub line-back : (tag : ℕ) (bs rest : List ℕ) → tag < 256 → Below 256 bs → LineBack bs rest (line tag bs ++ rest)
 line-back tag bs rest small h = rw (append-assoc (hex (tag ∷ bs)) (10 ∷ []) rest) (record {
-  bytes-are = rw (first-line (hex (tag ∷ bs)) rest digits, unhex-hex (tag ∷ bs) all) refl;
-  next-is = next-line (hex (tag ∷ bs)) rest digits;
+  bytes-are = rw (first-line (hex (tag ∷ bs)) rest clean, unhex-hex (tag ∷ bs) all) refl;
+  next-is = next-line (hex (tag ∷ bs)) rest clean;
 })
   where
     all : Below 256 (tag ∷ bs)
     all zero l = small
     all (suc k) l = h k (omega arith)
 
-    digits : Digits (hex (tag ∷ bs))
-    digits = hex-digits (tag ∷ bs) all
+    clean : Clean (hex (tag ∷ bs))
+    clean = digits-clean (hex (tag ∷ bs)) (hex-digits (tag ∷ bs) all)
 
 -- signed bytes
 abbrev pub SignedBytes : List ℤ → Type 0

@@ -9,7 +9,8 @@ use Rattle.paper.specs.Panel.Input.{Lattice}
 use Rattle.paper.specs.Refusal.Rule.{Broken}
 use Rattle.paper.specs.Answer.Task.{table}
 use Rattle.paper.specs.Answer.Frame.{next, Spelt, Frame, FrameSizes, groupBytes, frameLattice}
-use Rattle.frame.specs.Lines.{byteAt, DigitsEnd, line-of, line-next}
+use Rattle.frame_text.specs.Line.{DigitsEnd}
+use Rattle.frame.specs.Lines.{byteAt, line-of, line-next}
 use Rattle.frame.specs.Spelling.{line2, line3, line4, line5, Spelling, spellingRules}
 use Rattle.frame.specs.declared.Sizes.{Sizes}
 use Rattle.frame.specs.declared.Places.{Places}

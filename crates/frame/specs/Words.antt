@@ -8,7 +8,7 @@ use lib.ListN.{length, getD}
 use lib.IntN.{ℤ, pos, negsuc}
 use lib.Signed.{mag}
 use Rattle.paper.specs.Answer.Frame.{words, twoBytes, signed, spinByte}
-use Rattle.frame.specs.Digits.{Below}
+use Rattle.frame_text.specs.Digits.{Below}
 
 twice : (k : ℕ) → 2 * suc k ≡ suc (suc (2 * k))
 twice k = omega arith

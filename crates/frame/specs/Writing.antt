@@ -10,11 +10,11 @@ use lib.Seq.{sets, sets-eq, length-sets, take-at, drop-at, take-suc, take-all, l
 use lib.IntN.{ℤ}
 use Rattle.paper.specs.Refusal.Rule.{Rule, rule}
 use Rattle.paper.specs.Refusal.Verdict.{Verdict}
-use Rattle.paper.specs.Answer.Frame.{digit, hex, line, result, twoBytes, spinByte}
+use Rattle.paper.specs.Answer.Frame.{digit, hex, line, result, refusal, twoBytes, spinByte}
 use Rattle.frame.specs.declared.Written.{Written}
 use Rattle.frame.specs.declared.Written.the-variants.{Wrote, NoRoom}
 use Rattle.frame.specs.Number.{writtenNumber, writtenValues}
-use Rattle.frame.specs.Digits.{Below, hex-length}
+use Rattle.frame_text.specs.Digits.{Below, hex-length}
 use Rattle.frame.specs.Words.{twoBytes-length}
 
 -- the answer of a move that left these labels, counts and spins
@@ -54,6 +54,15 @@ shorter bs before after s = go (s .short)
     go : Verdict (roomRules bs before) 65 → length before < length bs
     go (inl w) = omega (arith, w .0)
     go (inr w) = absurd (w .1)
+
+-- a refusal's line has a number of two decimal digits; a larger one is not written
+pub record Unwritten (before : List ℕ) (w : Written) (after : List ℕ) : Type 0 where
+  pub answer : w ≡ NoRoom
+  pub kept : after ≡ before
+
+pub record RefusalAs (r : ℕ) (before : List ℕ) (w : Written) (after : List ℕ) : Type 0 where
+  pub two : r < 100 → WrittenAs (refusal r) before w after
+  pub larger : 100 ≤ r → Unwritten before w after
 
 -- what is written, and what is kept
 pub count : {bs before : List ℕ} {m : ℕ} {after : List ℕ} → Fitted bs before m after → m ≡ length bs

@@ -1,32 +1,13 @@
 // The text's characters and lines.
 use super::Line;
 use super::Next;
+use frame_text::digits_end;
 ghost use mathlib.Core.Path.{_≡_};
 ghost use Prim.Native.Nat.{_≤_};
 ghost use lib.ListN.{length};
-ghost use Rattle.paper.specs.Component.Marks.{Tells};
-ghost use Rattle.frame.specs.Digits.{Digit, Valued};
-ghost use Rattle.frame.specs.Lines.{byteAt, wordAt, TwoDigits, FourDigits, DigitsEnd};
+ghost use Rattle.frame_text.specs.Digits.{Digit, Valued};
+ghost use Rattle.frame.specs.Lines.{byteAt, wordAt, TwoDigits, FourDigits};
 ghost use Rattle.frame.specs.Scan.{LineAt, AfterAs};
-
-// 0 to 9 are the codes 48 to 57, a to f the codes 97 to 102.
-fn is_digit(a: u8) -> bool
-    ensures { λ r. ⌜ Tells r (Digit a) ⌝ }
-{
-    if a < 48 {
-        return false;
-    }
-    if a < 58 {
-        return true;
-    }
-    if a < 97 {
-        return false;
-    }
-    if a < 103 {
-        return true;
-    }
-    false
-}
 
 fn value(a: u8) -> u8
     requires { ⌜ Digit a ⌝ }
@@ -49,21 +30,6 @@ pub(crate) fn word_at(text: &[u8], p: usize) -> u32
     let high = byte_at(text, p);
     let low = byte_at(text, p + 2);
     256 * (high as u32) + (low as u32)
-}
-
-// Where the digits that begin at a place end.
-fn digits_end(text: &[u8], at: usize) -> usize
-    requires { ⌜ at ≤ length (now text) ⌝ }
-    ensures { λ r. ⌜ DigitsEnd (now (text .entry)) at r ⌝ }
-{
-    let mut e = at;
-    while e < text.len() {
-        if !is_digit(text[e]) {
-            return e;
-        }
-        e += 1;
-    }
-    e
 }
 
 pub(crate) fn line_at(text: &[u8], at: usize, tag: u8) -> Line

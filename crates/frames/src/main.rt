@@ -1,7 +1,6 @@
 // Reads the frames on standard input, runs their move and writes the answer's frames to standard output.
-mod long;
-
 use frame::Written;
+use frame_text::Part;
 use libc::STDIN_FILENO;
 use libc::STDOUT_FILENO;
 
@@ -14,13 +13,24 @@ fn answer(text: &[u8]) {
     }
 }
 
+// Reads on behind what is kept of the text until that is enough. Every turn reads more than 32,000 bytes: no input outlasts the count of turns, which
+// makes the loop end.
 fn main() {
     let mut text = io::large_buffer();
-    let n = io::read_full(STDIN_FILENO, &mut text);
-    if n == 65536 {
-        let m = long::shorten(&mut text);
-        answer(&text[..m]);
-        return;
+    let mut len = 0;
+    let mut turn: u64 = 0;
+    while turn < 1000000000000 {
+        let n = io::read_full(STDIN_FILENO, &mut text[len..]);
+        let part = frame_text::cut(&text, len + n);
+        match part {
+            Part::Enough(m) => {
+                answer(&text[..m]);
+                return;
+            }
+            Part::More(m) => {
+                len = m;
+            }
+        }
+        turn += 1;
     }
-    answer(&text[..n]);
 }

@@ -2,7 +2,7 @@
 use mathlib.Core.Path.{sym}
 use native.Mathlib.Omega.{arith}
 use borrow.Author.Tests.{lt-ltb, le-ltb}
-use Rattle.frame.specs.Digits.{digit-low, letter-low, digit-high}
+use Rattle.frame_text.specs.Digits.{digit-low, letter-low, digit-high}
 use Rattle.frame.proofs.lines.value.Statement.{statement}
 use Rattle.frame.proofs.lines.value.Tie as tie
 

@@ -1,19 +1,22 @@
 -- Lower-case hexadecimal both ways: what is written reads back, and what is read was so written.
 use Prim.Native.Nat.{ℕ, zero, suc, _+_, _-_, _*_, _/_, _%_, _≤_, _<_}
 use mathlib.Core.Path.{_≡_, refl, ap}
-use mathlib.Core.Logic.{_⊎_, inl, inr}
-use mathlib.Core.Bool.{false}
+use mathlib.Core.Logic.{_⊎_, inl, inr, ⊎-elim}
+use mathlib.Core.Bool.{Bool, true, false}
 use mathlib.Core.List.{List, [], _∷_}
 use native.Mathlib.Omega.{arith}
 use native.Mathlib.Decide.{decLt}
-use borrow.Author.Tests.{lt-ltb, le-ltb, ne-eqb}
-use lib.Dec.{eqb}
+use borrow.Author.Tests.{lt-ltb, le-ltb}
 use lib.ListN.{length, getD}
+use Rattle.paper.specs.Component.Marks.{Tells}
 use Rattle.paper.specs.Answer.Frame.{digit, digitValue, hex, unhex}
 
--- 0 to 9 or a to f
+-- a to f; 0 to 9 or a to f
+abbrev pub Letter : ℕ → Type 0
+Letter a = (97 ≤ a) × (a < 103)
+
 abbrev pub Digit : ℕ → Type 0
-Digit a = ((48 ≤ a) × (a < 58)) ⊎ ((97 ≤ a) × (a < 103))
+Digit a = ((48 ≤ a) × (a < 58)) ⊎ Letter a
 
 -- a digit's value
 pub record Valued (a r : ℕ) : Type 0 where
@@ -31,13 +34,10 @@ pub below-digits : {a : ℕ} → a < 48 → Digit a → ⊥
 below-digits h (inl d) = omega arith
 below-digits h (inr d) = omega arith
 
-pub between-digits : {a : ℕ} → 58 ≤ a → a < 97 → Digit a → ⊥
-between-digits l h (inl d) = omega arith
-between-digits l h (inr d) = omega arith
-
-pub above-digits : {a : ℕ} → 103 ≤ a → Digit a → ⊥
-above-digits h (inl d) = omega arith
-above-digits h (inr d) = omega arith
+-- from 58 on a digit is a letter
+pub letter-tells : {a : ℕ} (r : Bool) → 58 ≤ a → Tells r (Letter a) → Tells r (Digit a)
+letter-tells true l t = inr t
+letter-tells false l t = λ d. ⊎-elim (λ w. omega arith) t d
 
 pub digit-low : {a : ℕ} → Digit a → 48 ≤ a
 digit-low (inl h) = h .0
@@ -75,9 +75,9 @@ value-back x h = at (decLt x 10)
     at (yes l) = rw (lt-ltb x 10 l, lt-ltb (48 + x) 58 (omega arith)) (omega arith)
     at (no l) = rw (le-ltb x 10 (omega arith), le-ltb (87 + x) 58 (omega arith)) (omega arith)
 
-pub not-feed : (a : ℕ) → Digit a → eqb a 10 ≡ false
-not-feed a (inl h) = ne-eqb a 10 (omega arith)
-not-feed a (inr h) = ne-eqb a 10 (omega arith)
+pub feed-no-digit : Digit 10 → ⊥
+feed-no-digit (inl h) = omega arith
+feed-no-digit (inr h) = omega arith
 
 -- ---- whole lists
 pub hex-length : (bs : List ℕ) → length (hex bs) ≡ 2 * length bs

@@ -1,12 +1,12 @@
--- `frame::lines::digits_end` meets its contract: what was passed are digits.
+-- `frame_text::digits_end` meets its contract: what was passed are digits.
 use Prim.Native.Nat.{_-_}
 use native.Mathlib.Omega.{arith}
 use lib.ListN.{length}
 use Rattle.paper.specs.Component.Marks.{passed, refused}
-use Rattle.frame.specs.Lines.{DigitsTo, one-more}
+use Rattle.frame_text.specs.Line.{DigitsTo, one-more}
 use borrow.Author.Needs.{needs}
-use Rattle.frame.proofs.lines.digits_end.Statement.{statement}
-use Rattle.frame.proofs.lines.digits_end.Tie as tie
+use Rattle.frame_text.proofs.digits_end.Statement.{statement}
+use Rattle.frame_text.proofs.digits_end.Tie as tie
 
 abbrev Inv-loop : tie.InvT-loop
 Inv-loop text at e₀ e = DigitsTo text at e
@@ -24,7 +24,10 @@ is-digit-requires : tie.Need-is-digit-requires Inv-loop μ-loop
 is-digit-requires c κs = search needs
 
 returns : tie.Need-returns Inv-loop μ-loop
-returns c = record { run = c .before .before .before .before .loop .inv; stop = λ _. refused (c .before .is-digit .result) (c .if1 .taken) (c .before .is-digit .ensures) }
+returns c = record {
+  run = c .before .before .before .before .loop .inv;
+  stop = λ _. refused (c .before .is-digit .result) (c .if1 .taken) (c .before .is-digit .ensures);
+}
 
 add-e : tie.Need-add-e Inv-loop μ-loop
 add-e c = search needs
@@ -34,7 +37,8 @@ loop-less c = search needs
 
 loop-again : tie.Need-loop-again Inv-loop μ-loop
 loop-again c =
-    one-more (c .before .before .before .before .loop .inv) (c .before .before .before .loop-test .taken) (passed (c .before .is-digit .result) (c .if1 .left) (c .before .is-digit .ensures))
+    let l = c .before .before .before in
+    one-more (l .before .loop .inv) (l .loop-test .taken) (passed (c .before .is-digit .result) (c .if1 .left) (c .before .is-digit .ensures))
 
 returns-2 : tie.Need-returns-2 Inv-loop μ-loop
 returns-2 c = record { run = c .before .loop .inv; stop = λ l. absurd (omega arith) }

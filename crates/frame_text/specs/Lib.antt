@@ -1,0 +1,9 @@
+pub mod Digits
+pub mod Line
+pub mod Cut
+pub mod Shared
+pub mod Walk
+pub mod Ends
+pub mod Kept
+pub mod Pieces
+pub mod Determined
