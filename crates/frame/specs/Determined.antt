@@ -1,7 +1,9 @@
 -- What each public function's promise allows for one input is one answer and one content of every lent buffer.
-use Prim.Native.Nat.{ℕ, _*_}
+use Prim.Native.Nat.{ℕ, _*_, _<_}
 use mathlib.Core.Path.{_≡_, refl, sym, _∙_, ap}
 use mathlib.Core.List.{List, _++_, map}
+use native.Mathlib.Omega.{arith}
+use native.Mathlib.Decide.{decLt}
 use lib.ListN.{drop}
 use lib.IntN.{ℤ}
 use Rattle.paper.specs.declared.Group.{Group}
@@ -16,7 +18,7 @@ use Rattle.frame.specs.declared.Written.{Written}
 use Rattle.frame.specs.declared.Written.the-variants.{Wrote, NoRoom}
 use Rattle.frame.specs.Spelling.{line2, line3, line5, spellingRules}
 use Rattle.frame.specs.Reading.{Held, FoundAs, ReadAs}
-use Rattle.frame.specs.Writing.{roomRules, WrittenAs, count, resultOf}
+use Rattle.frame.specs.Writing.{roomRules, WrittenAs, RefusalAs, count, resultOf}
 use Rattle.frame.specs.Run.{RunAs}
 
 pub record SameRead (r r′ : Frames) (a a′ : Held) : Type 0 where
@@ -73,9 +75,16 @@ pub write-determined : (labels counts : List ℕ) (spins : List ℤ) (out : List
     → WrittenAs (resultOf labels counts spins) out w a → WrittenAs (resultOf labels counts spins) out w′ a′ → SameWritten w w′ a a′
 write-determined labels counts spins out w w′ a a′ p q = written-same (resultOf labels counts spins) out w w′ a a′ p q
 
-pub write-refusal-determined : (r : ℕ) (out : List ℕ) (w w′ : Written) (a a′ : List ℕ) → WrittenAs (refusal r) out w a
-    → WrittenAs (refusal r) out w′ a′ → SameWritten w w′ a a′
-write-refusal-determined r out w w′ a a′ p q = written-same (refusal r) out w w′ a a′ p q
+pub write-refusal-determined : (r : ℕ) (out : List ℕ) (w w′ : Written) (a a′ : List ℕ) → RefusalAs r out w a → RefusalAs r out w′ a′
+    → SameWritten w w′ a a′
+write-refusal-determined r out w w′ a a′ p q = at (decLt r 100)
+  where
+    at : Dec (r < 100) → SameWritten w w′ a a′
+    at (yes l) = written-same (refusal r) out w w′ a a′ (p .two l) (q .two l)
+    at (no l) =
+        let x = p .larger (omega arith) in
+        let y = q .larger (omega arith) in
+        record { answer = x .answer ∙ sym (y .answer); held = x .kept ∙ sym (y .kept) }
 
 pub run-determined : (text out : List ℕ) (w w′ : Written) (a a′ : List ℕ) → RunAs text out w a → RunAs text out w′ a′ → SameWritten w w′ a a′
 run-determined text out w w′ a a′ p q = written-same (p .answer) out w w′ a a′ (p .written) (rw same (q .written))

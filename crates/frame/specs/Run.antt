@@ -12,11 +12,11 @@ use Rattle.paper.specs.declared.Answer.{Answer}
 use Rattle.paper.specs.declared.Answer.the-variants.{Refused, Idle, Moved}
 use Rattle.paper.specs.declared.Mode.the-variants.{Perm}
 use Rattle.paper.specs.declared.Form.the-variants.{Sw}
-use Rattle.paper.specs.Panel.Input.{Call, Buffers}
+use Rattle.paper.specs.Panel.Input.{Call, Choices, Buffers}
 use Rattle.paper.specs.Site.Bonds.{whole}
 use Rattle.paper.specs.Refusal.Rule.{Kept}
-use Rattle.paper.specs.Refusal.Rules.{Inverse}
-use Rattle.paper.specs.Answer.Move.{Answers, Accepted.idle, Accepted.moved}
+use Rattle.paper.specs.Refusal.Rules.{Inverse, rules}
+use Rattle.paper.specs.Answer.Move.{Refuses, Answers, Accepted.idle, Accepted.moved}
 use Rattle.paper.specs.Answer.Task.{table}
 use Rattle.paper.specs.Answer.Frame.{frameLattice, frameCall, frameChoices, frameBuffers, HasBack, refusal, FrameAnswers}
 use Rattle.paper.specs.Panel.Made.{callOf, choicesOf, buffersOf}
@@ -26,9 +26,9 @@ use Rattle.frame.specs.declared.Found.{Found}
 use Rattle.frame.specs.declared.Found.the-variants.{Fault, Panel}
 use Rattle.frame.specs.declared.Written.{Written}
 use Rattle.frame.specs.declared.Written.the-variants.{Wrote, NoRoom}
-use Rattle.frame.specs.Spelling.{spellingRules, Spelling, spelling-of, misspelt, misvalued, all-kept}
+use Rattle.frame.specs.Spelling.{spellingRules, Spelling, spelling-of, misspelt, misvalued, all-kept, broken-small, misspelt-small}
 use Rattle.frame.specs.Reading.{Rooms, Held, Misread, Readout, FoundAs}
-use Rattle.frame.specs.Writing.{resultOf, TwoByte, Fitted, WrittenAs, count, shorter, fitted-take, fitted-drop}
+use Rattle.frame.specs.Writing.{resultOf, TwoByte, Fitted, WrittenAs, RefusalAs, count, shorter, fitted-take, fitted-drop}
 use Rattle.frame.specs.Back.{Reversed, back-complete}
 use Rattle.frame.specs.Values.{values-kept, values-broken}
 use Rattle.frame.specs.Joined.{spins-count, fwd-count, perms-count, spins-part, fwd-part, perms-part, seen-small}
@@ -91,15 +91,18 @@ answerText (Refused c) labels counts spins = refusal c
 answerText Idle labels counts spins = resultOf labels counts spins
 answerText Moved labels counts spins = resultOf labels counts spins
 
--- two bytes hold each label and count that is written
+-- two decimal digits hold a refusal's number, and two bytes each label and count that is written
 abbrev pub Writable : Answer → List ℕ → List ℕ → Type 0
-Writable (Refused c) labels counts = Unit
+Writable (Refused c) labels counts = c < 100
 Writable Idle labels counts = TwoByte labels counts
 Writable Moved labels counts = TwoByte labels counts
 
+refused-small : {c : Call} {p : Choices} {b : Buffers} {r : ℕ} {b′ : Buffers} → Refuses c p b r b′ → r < 100
+refused-small {c} {p} {b} {r} k = broken-small (rules c p b) r (omega arith) (k .why)
+
 pub writable : {n d s : ℕ} {g : Group} {fwd perms : List ℕ} {b : Buffers} (r : Answer) {bwd : List ℕ} {spins : List ℤ} {labels counts sizes : List ℕ}
     → n ≤ 4096 → PermMoved n d s g fwd perms b r bwd spins labels counts sizes → Writable r labels counts
-writable (Refused c) h m = tt
+writable (Refused c) h m = refused-small (m .answers)
 writable {b = b} Idle {spins = spins} {labels} {counts} {sizes} h m = seen-small _ b (buffersOf spins labels (m .grey) counts sizes) (m .answers .seen) h
 writable {b = b} Moved {spins = spins} {labels} {counts} {sizes} h m = seen-small _ b (buffersOf spins labels (m .grey) counts sizes) (m .answers .seen) h
 
@@ -201,11 +204,11 @@ module _ {text : List ℕ} {b : Held} {z : Sizes} {g : Group} {a : Held} (h : Re
 
 -- ---- from what the reading found
 pub misread-answers : (text : List ℕ) (b : Held) (f : Found) (g : Group) (a : Held) (r : ℕ) {out : List ℕ} {w : Written} {out′ : List ℕ}
-    → f ≡ Fault r → FoundAs text b f g a → WrittenAs (refusal r) out w out′ → RunAs text out w out′
+    → f ≡ Fault r → FoundAs text b f g a → RefusalAs r out w out′ → RunAs text out w out′
 misread-answers text b f g a r e h v = record {
   answer = refusal r;
   answers = inl (record { number = r; why = misspelt text r (found .why); written = refl });
-  written = v;
+  written = v .two (misspelt-small text r (found .why));
 }
   where
     found : Misread text b r g a

@@ -1,8 +1,9 @@
 -- The rules on how the text is spelt: the first eight of a frame's, which the others follow.
-use Prim.Native.Nat.{ℕ, _*_}
+use Prim.Native.Nat.{ℕ, _*_, _<_}
 use mathlib.Core.Path.{_≡_, refl}
 use mathlib.Core.Logic.{inl, inr}
 use mathlib.Core.List.{List, [], _∷_, _++_}
+use native.Mathlib.Omega.{arith}
 use lib.ListN.{length}
 use Rattle.paper.specs.Refusal.Rule.{Rule, rule, Kept, Broken}
 use Rattle.paper.specs.Refusal.Rules.{Spins, Grouped, Chosen}
@@ -70,6 +71,19 @@ misvalued text c a b = broken-then (spellingRules text) (valueRules text) c a b
 
 pub all-kept : (text : List ℕ) → Kept (spellingRules text) → Kept (valueRules text) → Kept (frameRules text)
 all-kept text a b = kept-both (spellingRules text) (valueRules text) a b
+
+-- ---- every rule's number has two decimal digits
+abbrev pub TwoDecimal : List Rule → Type 0
+TwoDecimal [] = Unit {0}
+TwoDecimal (r ∷ rs) = (r .number < 100) × TwoDecimal rs
+
+pub broken-small : (rs : List Rule) (c : ℕ) → TwoDecimal rs → Broken rs c → c < 100
+broken-small [] c s b = absurd b
+broken-small (r ∷ rs) c s (inl b) = rw (← b .1) (s .0)
+broken-small (r ∷ rs) c s (inr b) = broken-small rs c (s .1) (b .1)
+
+pub misspelt-small : (text : List ℕ) (c : ℕ) → Broken (spellingRules text) c → c < 100
+misspelt-small text c b = broken-small (spellingRules text) c (omega arith) b
 
 -- ---- the eight by name
 pub record Spelling (text : List ℕ) : Type 0 where

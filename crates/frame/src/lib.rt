@@ -16,8 +16,7 @@ use put::put_words;
 use scan::scan;
 ghost use mathlib.Core.Path.{_≡_};
 ghost use lib.ListN.{length};
-ghost use Rattle.paper.specs.Answer.Frame.{refusal};
-ghost use Rattle.frame.specs.Writing.{TwoByte, resultOf, WrittenAs};
+ghost use Rattle.frame.specs.Writing.{TwoByte, resultOf, WrittenAs, RefusalAs};
 ghost use Rattle.frame.specs.Reading.{Rooms, Ready, noGroup, ReadAs};
 ghost use Rattle.frame.specs.Run.{Blank, RunAs};
 
@@ -149,10 +148,13 @@ pub fn write(labels: &[u32], counts: &[u32], spins: &[i8], out: &mut [u8]) -> Wr
     Written::Wrote(end)
 }
 
-// The one line of a refusal.
+// The one line of a refusal, with its number in two decimal digits. They have no room for a number from 100 on: then nothing is written.
 pub fn write_refusal(r: u8, out: &mut [u8]) -> Written
-    ensures { λ w. ⌜ WrittenAs (refusal r) (now (out .entry)) w (now (out .exit)) ⌝ }
+    ensures { λ w. ⌜ RefusalAs r (now (out .entry)) w (now (out .exit)) ⌝ }
 {
+    if 99 < r {
+        return Written::NoRoom;
+    }
     if out.len() < 5 {
         return Written::NoRoom;
     }

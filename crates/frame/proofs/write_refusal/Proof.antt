@@ -10,7 +10,10 @@ use Rattle.frame.proofs.write_refusal.Statement.{statement}
 use Rattle.frame.proofs.write_refusal.Tie as tie
 
 returns : tie.Need-returns
-returns c = short-of _ _ (omega arith)
+returns c = record { two = λ l. absurd (omega arith); larger = λ l. record { answer = refl; kept = refl } }
+
+returns-2 : tie.Need-returns-2
+returns-2 c = record { two = λ l. short-of _ _ (omega arith); larger = λ l. absurd (omega arith) }
 
 slice-write-out : tie.Need-slice-write-out
 slice-write-out c = search needs
@@ -36,14 +39,18 @@ slice-write-out-5 c = simp length-set (omega arith)
 same-length : tie.Need-same-length
 same-length c = search needs
 
-returns-2 : tie.Need-returns-2
-returns-2 c = put-fitted (refusal (c .before .args .r)) (now (c .before .args .out)) 5 _ (c .if1 .left) (record { next = refl; is = refl })
+returns-3 : tie.Need-returns-3
+returns-3 c = record {
+  two = λ l. put-fitted (refusal (c .before .before .args .r)) (now (c .before .before .args .out)) 5 _ (c .if2 .left) (record { next = refl; is = refl });
+  larger = λ l. absurd (omega arith);
+}
 
 pub write-refusal-spec : {M : Type 1} → statement M
 write-refusal-spec =
     tie.close
     (tie.spec
     returns
+    returns-2
     slice-write-out
     slice-write-out-2
     add-out
@@ -52,4 +59,4 @@ write-refusal-spec =
     slice-write-out-4
     slice-write-out-5
     same-length
-    returns-2)
+    returns-3)

@@ -32,7 +32,11 @@ same-length : tie.Need-same-length
 same-length c = search needs
 
 returns : tie.Need-returns
-returns c = rw (c .before .before .before .before .before .r .given .1) (c .before .before .write-refusal .ensures)
+returns c =
+    let k = c .before .before .before .before .before in
+    let s = k .before .before .before .before .before in
+    let small = subst (λ a. Writable a (now (s .args .labels)) (now (s .args .counts))) (k .r .given .1) (s .pre) in
+    rw (k .r .given .1) (c .before .before .write-refusal .ensures .two small)
 
 same-length-2 : tie.Need-same-length-2
 same-length-2 c = search needs
