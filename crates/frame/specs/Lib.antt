@@ -1,3 +1,4 @@
+-- Answers first, then digits to words and lines; reading, writing and the way back; the move between them; that each promise allows one answer.
 pub mod Number
 pub mod Words
 pub mod Lines

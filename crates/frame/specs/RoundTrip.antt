@@ -69,7 +69,8 @@ result-back labels counts spins w h = record {
   where
     first : LineBack (twoBytes labels) (line 0x21 (twoBytes counts) ++ line 0x22 (map spinByte spins)) (resultOf labels counts spins)
     first =
-        line-back 0x20 (twoBytes labels) (line 0x21 (twoBytes counts) ++ line 0x22 (map spinByte spins)) (omega arith) (twoBytes-small labels (w .small-labels))
+        line-back 0x20 (twoBytes labels) (line 0x21 (twoBytes counts) ++ line 0x22 (map spinByte spins)) (omega arith)
+        (twoBytes-small labels (w .small-labels))
 
     second : LineBack (twoBytes counts) (line 0x22 (map spinByte spins)) (line 0x21 (twoBytes counts) ++ line 0x22 (map spinByte spins))
     second = line-back 0x21 (twoBytes counts) (line 0x22 (map spinByte spins)) (omega arith) (twoBytes-small counts (w .small-counts))

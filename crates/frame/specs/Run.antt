@@ -79,7 +79,8 @@ run-fits text before w after m r e = rw (fitted .is) (simp length-append (omega 
 abbrev pub permCall : ℕ → ℕ → ℕ → List ℕ → List ℕ → Group → Call
 permCall n d s fwd bwd g = callOf (taskOf Perm Sw n d s g (whole 1) 0 0) fwd bwd [] []
 
-pub record PermMoved (n d s : ℕ) (g : Group) (fwd perms : List ℕ) (b : Buffers) (r : Answer) (bwd : List ℕ) (spins : List ℤ) (labels counts sizes : List ℕ) : Type 0 where
+pub record PermMoved (n d s : ℕ) (g : Group) (fwd perms : List ℕ) (b : Buffers) (r : Answer) (bwd : List ℕ) (spins : List ℤ)
+    (labels counts sizes : List ℕ) : Type 0 where
   pub long : length bwd ≡ n * d
   pub reversed : Reversed n d fwd bwd
   pub grey : List ℕ
@@ -129,10 +130,26 @@ module _ (text bwd : List ℕ) (k : Kept (spellingRules text)) (long : length bw
   })
   moves-answer Idle after w =
       let v = values-kept text bwd (spelling-of text k) long (w .valid) in
-      inr (record { valid = all-kept text k v; back = record { bwd = bwd; long = long; inverse = inverse (v .1 .0) }; answer = Idle; after = after; accepted = idle; answers = w; written = refl })
+      inr (record {
+        valid = all-kept text k v;
+        back = record { bwd = bwd; long = long; inverse = inverse (v .1 .0) };
+        answer = Idle;
+        after = after;
+        accepted = idle;
+        answers = w;
+        written = refl;
+      })
   moves-answer Moved after w =
       let v = values-kept text bwd (spelling-of text k) long (w .valid) in
-      inr (record { valid = all-kept text k v; back = record { bwd = bwd; long = long; inverse = inverse (v .1 .0) }; answer = Moved; after = after; accepted = moved; answers = w; written = refl })
+      inr (record {
+        valid = all-kept text k v;
+        back = record { bwd = bwd; long = long; inverse = inverse (v .1 .0) };
+        answer = Moved;
+        after = after;
+        accepted = moved;
+        answers = w;
+        written = refl;
+      })
 
 -- ---- work arrays for every panel, whose outputs are 0
 abbrev pub Zeros : List ℕ → Type 0
@@ -172,7 +189,8 @@ zeros-part (suc m) (x ∷ xs) l h = λ i. h 0 (omega arith) i ∷ zeros-part m x
 abbrev pub buffersRead : Sizes → List ℤ → List ℕ → List ℕ → List ℕ → Buffers
 buffersRead z spins labels counts sizes = buffersOf (take (z .s * z .n) spins) (take (z .n) labels) [] (take (z .n + 1) counts) sizes
 
-module _ {text : List ℕ} {b : Held} {z : Sizes} {g : Group} {a : Held} (h : Readout text b z g a) {bwd labels counts sizes : List ℕ} (k : Blank bwd labels counts sizes) (few : z .n ≤ 256) where
+module _ {text : List ℕ} {b : Held} {z : Sizes} {g : Group} {a : Held} (h : Readout text b z g a)
+    {bwd labels counts sizes : List ℕ} (k : Blank bwd labels counts sizes) (few : z .n ≤ 256) where
   is-labels : take (z .n) labels ≡ table (z .n) (λ k. 0)
   is-labels = zeros-part (z .n) labels (omega (arith, k .labels-long)) (k .labels-zero)
 
@@ -183,7 +201,8 @@ module _ {text : List ℕ} {b : Held} {z : Sizes} {g : Group} {a : Held} (h : Re
   is-sizes = sym (take-all 4 sizes (omega (arith, k .sizes-long))) ∙ zeros-part 4 sizes (omega (arith, k .sizes-long)) (k .sizes-zero)
 
   pub panel-answers : {out : List ℕ} {w : Written} {out′ : List ℕ}
-      → MoveWritten (z .n) (z .d) (z .s) g (take (z .n * z .d) (a .fwd)) (take (z .n * g .len) (a .perms)) (buffersRead z (a .spins) labels counts sizes) out w out′
+      → MoveWritten (z .n) (z .d) (z .s) g (take (z .n * z .d) (a .fwd)) (take (z .n * g .len) (a .perms))
+      (buffersRead z (a .spins) labels counts sizes) out w out′
       → RunAs text out w out′
   panel-answers v = record {
     answer = answerText (v .answer) (v .after .labels) (v .after .counts) (v .after .spins);

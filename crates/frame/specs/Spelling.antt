@@ -7,7 +7,8 @@ use native.Mathlib.Omega.{arith}
 use lib.ListN.{length}
 use Rattle.paper.specs.Refusal.Rule.{Rule, rule, Kept, Broken}
 use Rattle.paper.specs.Refusal.Rules.{Spins, Grouped, Chosen}
-use Rattle.paper.specs.Answer.Frame.{next, Spelt, Frame, frameLattice, frameBuffers, frameCall, frameChoices, groupBytes, FrameSizes, HasBack, GroupSize, frameRules}
+use Rattle.paper.specs.Answer.Frame.{next, Spelt, Frame, frameLattice, frameBuffers, frameCall, frameChoices}
+use Rattle.paper.specs.Answer.Frame.{groupBytes, FrameSizes, HasBack, GroupSize, frameRules}
 
 abbrev pub line2 : List ℕ → List ℕ
 line2 text = next text

@@ -144,11 +144,23 @@ module _ (bs before : List ℕ) (a : ℕ) where
   hexing-more j p b ys zs h l e q w = record {
     within = omega arith;
     is =
-        rw (w, e, h .is, q, add-one j, take-suc bs j 0, hex-append (take j bs) (getD bs j 0 ∷ []), behind, hex-length (take j bs), length-take-le j bs (omega arith)) refl;
+        rw (
+          w,
+          e,
+          h .is,
+          q,
+          add-one j,
+          take-suc bs j 0,
+          hex-append (take j bs) (getD bs j 0 ∷ []),
+          behind,
+          hex-length (take j bs),
+          length-take-le j bs (omega arith),
+        ) refl;
     long = rw (w, length-sets ys p (hex (b ∷ []))) (h .long);
   }
     where
-      behind : sets before a (hex (take j bs) ++ hex (getD bs j 0 ∷ [])) ≡ sets (sets before a (hex (take j bs))) (a + length (hex (take j bs))) (hex (getD bs j 0 ∷ []))
+      behind : sets before a (hex (take j bs) ++ hex (getD bs j 0 ∷ []))
+          ≡ sets (sets before a (hex (take j bs))) (a + length (hex (take j bs))) (hex (getD bs j 0 ∷ []))
       behind = sets-append (hex (take j bs)) (hex (getD bs j 0 ∷ [])) before a
 
   pub hexing-two : (j p b d : ℕ) (ys zs : List ℕ) → Hexing bs before a j ys → j + 1 < length bs → p ≡ a + 2 * j → b ≡ getD bs j 0
