@@ -9,6 +9,7 @@ use lib.ListN.{length, getD, drop}
 use Rattle.paper.specs.Panel.Input.{Lattice}
 use Rattle.paper.specs.Refusal.Rule.{Rule, rule, Kept, Broken}
 use Rattle.paper.specs.Answer.Frame.{next, bytes, Spelt, Frame, frameLattice, groupBytes, FrameSizes, GroupSize, frameRules, FrameAnswers}
+use Rattle.paper.specs.Law.FramesDetermined.{kept-of}
 use Rattle.frame_text.specs.Cut.{SameAnswers}
 use Rattle.frame_text.specs.Shared.{Stuck, Shared, SameLine, shared-sym, shared-some, first}
 
@@ -118,4 +119,4 @@ shared-same s = record { to = λ out. at s out; from = λ out. at (shared-sym s)
   where
     at : {x y : List ℕ} → Shared 12327 x y → (out : List ℕ) → FrameAnswers x out → FrameAnswers y out
     at s out (inl r) = inl (record { number = r .number; why = onto s .broken (r .number) (r .why); written = r .written })
-    at s out (inr r) = absurd (onto s .never (r .valid))
+    at s out (inr r) = absurd (onto s .never (kept-of _ r))

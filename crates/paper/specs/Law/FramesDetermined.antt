@@ -43,7 +43,7 @@ module _ (text : List ℕ) where
   Ran w a after = Answers (frameCall text w) (frameChoices text) (frameBuffers text) a after
 
   -- an accepted answer's number says that all rules are kept
-  kept-of : {out : List ℕ} → FrameRuns text out → Kept (frameRules text)
+  pub kept-of : {out : List ℕ} → FrameRuns text out → Kept (frameRules text)
   kept-of f = subst (Verdict (frameRules text)) (accepted-zero (f .accepted)) (f .valid)
 
   runs-same : (out out′ : List ℕ) → FrameRuns text out → FrameRuns text out′ → out ≡ out′
