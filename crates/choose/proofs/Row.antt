@@ -4,6 +4,7 @@ use mathlib.Core.Path.{_≡_, _∙_, ap}
 use mathlib.Core.List.{List}
 use native.Mathlib.Omega.{arith}
 use lib.ListN.{length, getD, take, drop, length-take, length-drop}
+use lib.Bits.{bitXor}
 use lib.Seq.{getD-take, getD-drop}
 use borrow.Author.Tests.{eq-eqb, ne-eqb}
 use Rattle.paper.specs.declared.Form.{Form}
@@ -31,12 +32,14 @@ module _ (m a : ℕ) (perms : List ℕ) (fits : a + m ≤ length perms) where
 pub row-at : (form : Form) (r m : ℕ) {label at : ℕ} → label ≡ r → at ≡ entry form label → at * m ≡ entry form r * m
 row-at form r m e q = rw (q, e)
 
-module _ (form : Form) (m : ℕ) (reached labels perms cols : List ℕ) (i : ℕ) where
+module _ (form : Form) (m gauge : ℕ) (reached labels perms cols : List ℕ) (i : ℕ) where
   -- a reached site's new column, from the row that starts at a
   pub moved : (a x r : ℕ) → getD reached i 0 ≡ 1 → a ≡ entry form (getD labels i 0) * m → x ≡ getD cols i 0 → a + m ≤ length perms
-      → r ≡ columnOf m (λ k. shown x (getD (take (a + m - a) (drop a perms)) k 0)) → r ≡ permutedAt form m reached labels perms cols i
-  moved a x r on e q fits h = rw (eq-eqb (getD reached i 0) 1 on, ← e, ← q) (h ∙ part-column m a perms fits x)
+      → r ≡ columnOf m (λ k. shown (bitXor x gauge) (getD (take (a + m - a) (drop a perms)) k 0))
+      → bitXor r gauge ≡ permutedAt form m gauge reached labels perms cols i
+  moved a x r on e q fits h =
+      rw (eq-eqb (getD reached i 0) 1 on, ← e, ← q) (ap (λ (y : ℕ). bitXor y gauge) (h ∙ part-column m a perms fits (bitXor x gauge)))
 
   -- any other keeps its column
-  pub kept : (getD reached i 0 ≡ 1 → ⊥) → getD cols i 0 ≡ permutedAt form m reached labels perms cols i
+  pub kept : (getD reached i 0 ≡ 1 → ⊥) → getD cols i 0 ≡ permutedAt form m gauge reached labels perms cols i
   kept off = rw (ne-eqb (getD reached i 0) 1 off)

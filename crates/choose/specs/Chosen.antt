@@ -5,6 +5,7 @@ use mathlib.Core.Bool.{Bool, true, cond, _&&_}
 use mathlib.Core.List.{List}
 use lib.Dec.{eqb}
 use lib.ListN.{length, getD}
+use lib.Bits.{bitXor}
 use Rattle.paper.specs.declared.Form.{Form}
 use Rattle.paper.specs.declared.Mode.{Mode}
 use Rattle.paper.specs.Panel.Takes.{isSw, isWolff, moves, entries}
@@ -84,6 +85,10 @@ pub record Perms (form : Form) (m : ℕ) (reached labels perms cols : List ℕ) 
   pub lent : length perms ≡ entries form (length cols) * m
   pub places : (x : ℕ) → x < length perms → getD perms x 0 < m
 
-abbrev pub permutedAt : Form → ℕ → List ℕ → List ℕ → List ℕ → List ℕ → ℕ → ℕ
-permutedAt form m reached labels perms cols i =
-    cond (isOne reached i) (columnOf m (λ k. shown (getD cols i 0) (permAt form m perms (labelOf labels i) k))) (getD cols i 0)
+-- the permutation p of a column, seen and written through a gauge
+abbrev pub permutedBy : ℕ → ℕ → (ℕ → ℕ) → ℕ → ℕ
+permutedBy m gauge p x = bitXor (columnOf m (λ k. shown (bitXor x gauge) (p k))) gauge
+
+abbrev pub permutedAt : Form → ℕ → ℕ → List ℕ → List ℕ → List ℕ → List ℕ → ℕ → ℕ
+permutedAt form m gauge reached labels perms cols i =
+    cond (isOne reached i) (permutedBy m gauge (permAt form m perms (labelOf labels i)) (getD cols i 0)) (getD cols i 0)

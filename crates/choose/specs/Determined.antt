@@ -31,6 +31,7 @@ pub grey-columns-determined : (form : Form) (reached labels greys cols ys zs : L
     → Becomes (greyedAt form reached labels greys cols) cols zs → ys ≡ zs
 grey-columns-determined form reached labels greys cols ys zs p q = becomes-determined _ cols ys zs p q
 
-pub permute-columns-determined : (form : Form) (g : Group) (reached labels perms cols ys zs : List ℕ)
-    → Becomes (permutedAt form (g .len) reached labels perms cols) cols ys → Becomes (permutedAt form (g .len) reached labels perms cols) cols zs → ys ≡ zs
-permute-columns-determined form g reached labels perms cols ys zs p q = becomes-determined _ cols ys zs p q
+pub permute-columns-determined : (form : Form) (g : Group) (gauge : ℕ) (reached labels perms cols ys zs : List ℕ)
+    → Becomes (permutedAt form (g .len) gauge reached labels perms cols) cols ys
+    → Becomes (permutedAt form (g .len) gauge reached labels perms cols) cols zs → ys ≡ zs
+permute-columns-determined form g gauge reached labels perms cols ys zs p q = becomes-determined _ cols ys zs p q

@@ -169,16 +169,18 @@ pub fn grey_columns(form: Form, reached: &[u8], labels: &[u32], greys: &[u8], co
     }
 }
 
+// The component's permutation of each reached site, as the gauge shows it.
 pub fn permute_columns(
     form: Form,
     group: Group,
+    gauge: u8,
     reached: &[u8],
     labels: &[u32],
     perms: &[u8],
     cols: &mut [u8],
 )
     requires { ⌜ Perms form (group .len) (now reached) (now labels) (now perms) (now cols) ⌝ }
-    ensures { λ _. ⌜ Becomes (permutedAt form (group .len) (now (reached .entry)) (now (labels .entry)) (now (perms .entry)) (now (cols .entry)))
+    ensures { λ _. ⌜ Becomes (permutedAt form (group .len) gauge (now (reached .entry)) (now (labels .entry)) (now (perms .entry)) (now (cols .entry)))
         (now (cols .entry)) (now (cols .exit)) ⌝ }
 {
     let n = cols.len();
@@ -188,7 +190,8 @@ pub fn permute_columns(
         if reached[i] == 1 {
             let a = entry_of(form, wide(labels[i])) * len;
             let e = a + len;
-            cols[i] = columns::permute_group_site(cols[i], group, &perms[a..e]);
+            let seen = cols[i] ^ gauge;
+            cols[i] = columns::permute_group_site(seen, group, &perms[a..e]) ^ gauge;
         }
         i += 1;
     }

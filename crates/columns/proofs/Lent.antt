@@ -8,7 +8,7 @@ use native.Mathlib.Decide.{ℕ-discrete, decLt}
 use native.Mathlib.Nat.{mul-le-mul-right, suc-mul}
 use lib.ListN.{length, getD, take, drop, length-append, length-take, length-drop, List·getD-append}
 use lib.Seq.{length-take-le, getD-append-add, getD-take, getD-drop, ext-getD}
-use lib.IntN.{ℤ, pos, _*ℤ_}
+use lib.IntN.{ℤ, pos}
 use Rattle.paper.specs.declared.Group.{Group}
 use Rattle.paper.specs.Panel.Input.{member, spin, patternOf}
 use Rattle.paper.specs.Refusal.Rules.{Distinct}
@@ -50,17 +50,17 @@ apart n s t i h ne = go (decLt t s)
     go (yes l) = inl (omega (arith, mul-le-mul-right n l, suc-mul t n))
     go (no l) = let k : s < t = omega (arith, ne) in inr (omega (arith, mul-le-mul-right n k, suc-mul s n))
 
-module _ {n : ℕ} {g : Group} {ss : List ℤ} {cols : List ℕ} {xs : List ℤ} where
-  pub none-written : Written n 0 g ss cols xs xs
+module _ {n : ℕ} {g : Group} {cols : List ℕ} {xs : List ℤ} where
+  pub none-written : Written n 0 g cols xs xs
   none-written = record { long = refl; group = λ i k h l. absurd (omega arith); others = λ i t h o. refl; empty = λ e. refl }
 
   -- the row of the member k, lent from a to a + n, comes back as zs
   pub row-written :
-      {k : ℕ} {z : ℤ} {ys zs : List ℤ} (few : k < g .len)
-      → Written n k g ss cols xs ys → Inside n g xs → Distinct (g .len) (member g) → z ≡ getD ss k (pos 0)
+      {k : ℕ} {ys zs : List ℤ} (few : k < g .len)
+      → Written n k g cols xs ys → Inside n g xs → Distinct (g .len) (member g)
       → let a = member g k * n in
-      Whole (pos 0) (λ i. z *ℤ shown (getD cols i 0) k) (take (a + n - a) (drop a ys)) zs → Written n (k + 1) g ss cols xs (back ys a (a + n - a) zs)
-  row-written {k} {z} {ys} {zs} few was inside distinct ez filled =
+      Whole (pos 0) (λ i. shown (getD cols i 0) k) (take (a + n - a) (drop a ys)) zs → Written n (k + 1) g cols xs (back ys a (a + n - a) zs)
+  row-written {k} {ys} {zs} few was inside distinct filled =
       record {
         long = back-length (pos 0) ys zs a m fits long ∙ was .long;
         group = λ i j h l. at i j h l (ℕ-discrete j k);
@@ -92,8 +92,8 @@ module _ {n : ℕ} {g : Group} {ss : List ℤ} {cols : List ℕ} {xs : List ℤ}
       out : (i t : ℕ) → i < n → t ≢ member g k → spin n new t i ≡ spin n ys t i
       out i t h ne = back-out (pos 0) ys zs a m fits long (t * n + i) (rw em (apart n (member g k) t i h ne))
 
-      at : (i j : ℕ) → i < n → j < k + 1 → Dec (j ≡ k) → patternOf n g new i j ≡ getD ss j (pos 0) *ℤ shown (getD cols i 0) j
-      at i j h l (yes q) = rw (q, ← ez) (back-in (pos 0) ys zs a m fits long i (omega (arith, em)) ∙ filled .done i (omega (arith, part, em)))
+      at : (i j : ℕ) → i < n → j < k + 1 → Dec (j ≡ k) → patternOf n g new i j ≡ shown (getD cols i 0) j
+      at i j h l (yes q) = rw q (back-in (pos 0) ys zs a m fits long i (omega (arith, em)) ∙ filled .done i (omega (arith, part, em)))
       at i j h l (no q) = let b : j < k = omega arith in out i (member g j) h (λ e. q (distinct j k (omega arith) few e)) ∙ was .group i j h b
 
       same : n ≡ 0 → new ≡ ys

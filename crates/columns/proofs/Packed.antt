@@ -1,7 +1,6 @@
 -- Rows read into columns: with no row all are 0, and one row more adds a bit to each.
 use Prim.Native.Nat.{ℕ, _+_, _-_, _*_, _%_, _^_, _≤_, _<_}
 use mathlib.Core.Path.{_≡_, sym, _∙_}
-use mathlib.Core.Logic.{inl, inr}
 use mathlib.Core.Bool.{Bool}
 use mathlib.Core.List.{List}
 use native.Mathlib.Omega.{arith}
@@ -9,22 +8,13 @@ use native.Mathlib.Nat.{pow-suc, one-mul}
 use native.Mathlib.Numerals.{add-one}
 use lib.ListN.{length, getD, take, drop}
 use lib.Seq.{getD-take, getD-drop}
-use lib.IntN.{ℤ, pos, _*ℤ_}
+use lib.IntN.{ℤ, pos}
 use lib.Pow.{pow-mono, shl-exact}
 use Rattle.paper.specs.Component.Sizes.{bit}
 use Rattle.paper.specs.Panel.Input.{Pattern}
-use Rattle.paper.specs.Refusal.Rules.{Spin}
-use Rattle.paper.specs.Site.Acting.{eqZ}
 use Rattle.columns.specs.Column.{isUp, columnOf, column-lt, Columns}
 use Rattle.columns.specs.Bits.{code-none, code-more}
 use Rattle.columns.specs.Filled.{Filled}
-
--- a sign times a spin is +1 where the two are equal
-up-times : (s x : ℤ) → Spin s → Spin x → eqZ x s ≡ isUp (s *ℤ x)
-up-times s x (inl p) (inl q) = rw (p, q)
-up-times s x (inl p) (inr q) = rw (p, q)
-up-times s x (inr p) (inl q) = rw (p, q)
-up-times s x (inr p) (inr q) = rw (p, q)
 
 -- the weight of the place k
 pub weight : (k : ℕ) → k < 8 → 1 * 2 ^ k % 256 ≡ 2 ^ k
@@ -50,10 +40,10 @@ row-packed {n} {k} {w} {f} {t} {xs} {ys} was e added same = record { long = adde
     at : (i : ℕ) → i < n → getD ys i 0 ≡ columnOf (k + 1) (f i)
     at i h = added .done i (omega (arith, was .long)) ∙ rw (was .at i h, same i h, e, code-more)
 
--- the row from a on has its sign s where the product is +1
+-- the row from a on, read through the part that is lent
 pub row-test :
-    (xs : List ℤ) (a n i : ℕ) (s z : ℤ) → i < n → z ≡ s → Spin s → Spin (getD xs (a + i) (pos 0))
-    → eqZ (getD (take (a + n - a) (drop a xs)) i (pos 0)) z ≡ isUp (s *ℤ getD xs (a + i) (pos 0))
-row-test xs a n i s z h e p q =
+    (xs : List ℤ) (a n i : ℕ) → i < n
+    → isUp (getD (take (a + n - a) (drop a xs)) i (pos 0)) ≡ isUp (getD xs (a + i) (pos 0))
+row-test xs a n i h =
     let l : i < a + n - a = omega arith in
-    rw (e, getD-take (a + n - a) (drop a xs) i (pos 0) l, getD-drop) (up-times s (getD xs (a + i) (pos 0)) p q)
+    rw (getD-take (a + n - a) (drop a xs) i (pos 0) l, getD-drop)

@@ -1,11 +1,12 @@
 -- The bits of columns: one place more, what a shift reads, and the number that holds all of them.
-use Prim.Native.Nat.{ℕ, zero, suc, _+_, _*_, _/_, _%_, _^_, _≤_, _<_}
-use mathlib.Core.Path.{_≡_, refl}
+use Prim.Native.Nat.{ℕ, zero, suc, _+_, _-_, _*_, _/_, _%_, _^_, _≤_, _<_}
+use mathlib.Core.Path.{_≡_, refl, _∙_, ap}
 use mathlib.Core.Bool.{Bool, true, false}
 use native.Mathlib.Omega.{arith}
 use native.Mathlib.Numerals.{add-one}
 use native.Mathlib.Nat.{mod-lt, lt-of-lt-of-le}
 use lib.Dec.{eqb}
+use lib.IntN.{negℤ}
 use lib.Pow.{pow-mono, shl-exact}
 use Rattle.paper.specs.Component.Sizes.{bit}
 use Rattle.columns.specs.Column.{code, code-lt, bitOf, sign, shown, isUp}
@@ -34,6 +35,14 @@ bit-value x k = at (x / 2 ^ k % 2) (mod-lt (x / 2 ^ k) (omega arith))
 
 pub shown-value : (x k : ℕ) → bit (isUp (shown x k)) ≡ x / 2 ^ k % 2
 shown-value x k = rw sign-up (bit-value x k)
+
+-- and of the negated spin
+pub negated-value : (x k : ℕ) → bit (isUp (negℤ (shown x k))) ≡ 1 - x / 2 ^ k % 2
+negated-value x k = other (bitOf x k) ∙ ap (λ (y : ℕ). 1 - y) (bit-value x k)
+  where
+    other : (b : Bool) → bit (isUp (negℤ (sign b))) ≡ 1 - bit b
+    other true = refl
+    other false = refl
 
 pub bit-times : (b : Bool) (x : ℕ) → bit b * x ≤ x
 bit-times true x = omega arith

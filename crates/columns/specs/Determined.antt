@@ -11,10 +11,11 @@ use lib.Seq.{ext-getD}
 use lib.IntN.{ℤ, pos}
 use Rattle.paper.specs.declared.Group.{Group}
 use Rattle.paper.specs.declared.Mode.{Mode}
-use Rattle.paper.specs.Panel.Input.{Pattern, member, spin}
+use Rattle.paper.specs.Panel.Input.{Pattern, member, spin, patternOf}
 use Rattle.paper.specs.Law.Unique.{Placed, place}
 use Rattle.columns.specs.Column.{shown, columnOf, Columns}
-use Rattle.columns.specs.Rows.{Signed, signed, Written}
+use Rattle.columns.specs.Gauge.{gaugeOf}
+use Rattle.columns.specs.Rows.{Signed, Written}
 
 pub permute-group-site-determined :
     (column : ℕ) (g : Group) (perm : List ℕ) (r r′ : ℕ)
@@ -30,18 +31,25 @@ columns-unique n m f cols cols′ c c′ = ext-getD 0 cols cols′ (c .long ∙ 
     at i h = let l : i < n = omega (arith, c .long) in c .at i l ∙ sym (c′ .at i l)
 
 pub pack-determined :
-    (n : ℕ) (g : Group) (xs signs : List ℤ) (cols cols′ : List ℕ)
-    → Columns n (g .len) (signed n g signs xs) cols
-    → Columns n (g .len) (signed n g signs xs) cols′
+    (n : ℕ) (g : Group) (xs : List ℤ) (cols cols′ : List ℕ)
+    → Columns n (g .len) (patternOf n g xs) cols
+    → Columns n (g .len) (patternOf n g xs) cols′
     → cols ≡ cols′
-pack-determined n g xs signs = columns-unique n (g .len) (signed n g signs xs)
+pack-determined n g xs = columns-unique n (g .len) (patternOf n g xs)
+
+pub gauge-determined :
+    (mode : Mode) (g : Group) (reference : ℕ) (cols : List ℕ) (r r′ : ℕ)
+    → r ≡ gaugeOf mode (g .len) (getD cols reference 0)
+    → r′ ≡ gaugeOf mode (g .len) (getD cols reference 0)
+    → r ≡ r′
+gauge-determined mode g reference cols r r′ e e′ = e ∙ sym e′
 
 pub write-rows-determined :
-    (n : ℕ) (g : Group) (signs : List ℤ) (cols : List ℕ) (xs ys zs : List ℤ)
-    → Written n (g .len) g signs cols xs ys
-    → Written n (g .len) g signs cols xs zs
+    (n : ℕ) (g : Group) (cols : List ℕ) (xs ys zs : List ℤ)
+    → Written n (g .len) g cols xs ys
+    → Written n (g .len) g cols xs zs
     → ys ≡ zs
-write-rows-determined n g signs cols xs ys zs w v = go (ℕ-discrete n 0)
+write-rows-determined n g cols xs ys zs w v = go (ℕ-discrete n 0)
   where
     at : (t i : ℕ) → i < n → Placed (g .len) (member g) t ⊎ ((k : ℕ) → k < g .len → t ≢ member g k) → spin n ys t i ≡ spin n zs t i
     at t i h (inl r) = rw (r .2) (w .group i (r .0) h (r .1) ∙ sym (v .group i (r .0) h (r .1)))

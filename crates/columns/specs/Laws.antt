@@ -14,8 +14,7 @@ use Rattle.paper.specs.Panel.Takes.{isGperm}
 use Rattle.paper.specs.Site.Acting.{gauge}
 use Rattle.paper.specs.Refusal.Rules.{Spin}
 use Rattle.paper.specs.Law.ByTest.{never}
-use Rattle.paper.specs.Law.Patterns.{times-spin}
-use Rattle.columns.specs.Column.{columnOf, column-ext, shown, shown-column, shown-spin, signBy, Columns, Spinning}
+use Rattle.columns.specs.Column.{columnOf, shown, shown-column, shown-spin, signBy, Columns, Spinning}
 use Rattle.columns.specs.Rows.{Signed, Signs, signed, Written}
 
 -- ---- signs
@@ -65,13 +64,6 @@ module _ {mode : Mode} {n : ℕ} {g : Group} {xs ss : List ℤ} {reference : ℕ
   pub signed-gauge : (i k : ℕ) → k < g .len → signed n g ss xs i k ≡ gauge mode (patternOf n g xs reference) (patternOf n g xs i) k
   signed-gauge i k h = ap (λ (z : ℤ). z *ℤ patternOf n g xs i k) (s .at k h) ∙ sign-gauge mode (patternOf n g xs reference) (patternOf n g xs i) k
 
-  -- packed columns are the columns of the patterns as the mode sees them
-  pub packed-gauge :
-      {cols : List ℕ}
-      → Columns n (g .len) (signed n g ss xs) cols
-      → Columns n (g .len) (λ i. gauge mode (patternOf n g xs reference) (patternOf n g xs i)) cols
-  packed-gauge c = record { long = c .long; at = λ i h. c .at i h ∙ column-ext (g .len) _ _ (λ k l. signed-gauge i k l) }
-
 -- ---- columns
 
 -- the columns of spins show them
@@ -80,22 +72,16 @@ pub columns-shown :
     → (i k : ℕ) → i < n → k < m → Spin (f i k) → shown (getD cols i 0) k ≡ f i k
 columns-shown {n} {m} {f} c i k h l s = rw (c .at i h) (shown-column m (f i) k l s)
 
--- packed columns show each spin times its sign
-pub packed-shown :
-    (n : ℕ) (g : Group) (ss xs : List ℤ) {cols : List ℕ} → Columns n (g .len) (signed n g ss xs) cols → Signs (g .len) ss → Spinning n g xs
-    → (i k : ℕ) → i < n → k < g .len → shown (getD cols i 0) k ≡ signed n g ss xs i k
-packed-shown n g ss xs c signs spins i k h l = columns-shown c i k h l (times-spin _ _ (signs k l) (spins i k h l))
-
 -- a permuted column shows at the place k what it showed at the place p k
 pub permuted-shown : (m column : ℕ) (p : ℕ → ℕ) (k : ℕ) → k < m → shown (columnOf m (λ j. shown column (p j))) k ≡ shown column (p k)
 permuted-shown m column p k h = shown-column m (λ j. shown column (p j)) k h (shown-spin column (p k))
 
 -- ---- rows
 
--- rows written from the columns of spins are those spins, each times its sign
+-- rows written from the columns of spins are those spins
 pub written-columns :
-    {n : ℕ} {g : Group} {ss xs ys : List ℤ} {cols : List ℕ} {f : ℕ → Pattern}
-    → Written n (g .len) g ss cols xs ys
+    {n : ℕ} {g : Group} {xs ys : List ℤ} {cols : List ℕ} {f : ℕ → Pattern}
+    → Written n (g .len) g cols xs ys
     → Columns n (g .len) f cols
-    → (i k : ℕ) → i < n → k < g .len → Spin (f i k) → patternOf n g ys i k ≡ getD ss k (pos 0) *ℤ f i k
-written-columns {ss = ss} w c i k h l s = w .group i k h l ∙ ap (λ (z : ℤ). getD ss k (pos 0) *ℤ z) (columns-shown c i k h l s)
+    → (i k : ℕ) → i < n → k < g .len → Spin (f i k) → patternOf n g ys i k ≡ f i k
+written-columns w c i k h l s = w .group i k h l ∙ columns-shown c i k h l s

@@ -10,10 +10,9 @@ use Rattle.paper.specs.declared.Group.{Group}
 use Rattle.paper.specs.declared.Mode.{Mode}
 use Rattle.paper.specs.Panel.Input.{Pattern, member, spin, patternOf}
 use Rattle.paper.specs.Panel.Takes.{isGperm}
-use Rattle.paper.specs.Site.Acting.{eqZ}
 use Rattle.paper.specs.Component.Sizes.{bit}
 use Rattle.paper.specs.Refusal.Rules.{Spin, Distinct}
-use Rattle.columns.specs.Column.{shown, signBy, Inside, Spinning}
+use Rattle.columns.specs.Column.{shown, isUp, signBy, Inside}
 
 -- what permute_group_site asks: perm has a byte for each of the m places of a group, and each names a place
 pub record Places (m : ℕ) (perm : List ℕ) : Type 0 where
@@ -42,44 +41,40 @@ abbrev pub signed : ℕ → Group → List ℤ → List ℤ → ℕ → Pattern
 signed n g signs xs i k = getD signs k (pos 0) *ℤ patternOf n g xs i k
 
 -- what pack asks
-pub record Packable (n : ℕ) (g : Group) (xs ss : List ℤ) (cols : List ℕ) : Type 0 where
+pub record Packable (n : ℕ) (g : Group) (xs : List ℤ) (cols : List ℕ) : Type 0 where
   pub sites : n ≤ 4096
   pub few : g .len ≤ 8
   pub inside : Inside n g xs
-  pub spins : Spinning n g xs
-  pub signs : Signs (g .len) ss
   pub long : length cols ≡ n
 
 -- what write_rows asks
-pub record Writable (n : ℕ) (g : Group) (xs ss : List ℤ) (cols : List ℕ) : Type 0 where
+pub record Writable (n : ℕ) (g : Group) (xs : List ℤ) (cols : List ℕ) : Type 0 where
   pub sites : n ≤ 4096
   pub few : g .len ≤ 8
   pub inside : Inside n g xs
   pub distinct : Distinct (g .len) (member g)
-  pub signs : Signs (g .len) ss
   pub long : length cols ≡ n
 
 -- ys is xs with the rows of the first m members written from the columns
-pub record Written (n m : ℕ) (g : Group) (ss : List ℤ) (cols : List ℕ) (xs ys : List ℤ) : Type 0 where
+pub record Written (n m : ℕ) (g : Group) (cols : List ℕ) (xs ys : List ℤ) : Type 0 where
   pub long : length ys ≡ length xs
-  pub group : (i k : ℕ) → i < n → k < m → patternOf n g ys i k ≡ getD ss k (pos 0) *ℤ shown (getD cols i 0) k
+  pub group : (i k : ℕ) → i < n → k < m → patternOf n g ys i k ≡ shown (getD cols i 0) k
   pub others : (i t : ℕ) → i < n → ((k : ℕ) → k < m → t ≢ member g k) → spin n ys t i ≡ spin n xs t i
   -- with no sites there are no rows
   pub empty : n ≡ 0 → ys ≡ xs
 
 -- ---- what the functions on one row ask and promise
 
--- the column of the site i once the weight is added where the row has plus
-abbrev pub added : List ℕ → List ℤ → ℤ → ℕ → ℕ → ℕ
-added cols row plus weight i = getD cols i 0 + bit (eqZ (getD row i (pos 0)) plus) * weight
+-- the column of the site i once the weight is added where the row has +1
+abbrev pub added : List ℕ → List ℤ → ℕ → ℕ → ℕ
+added cols row weight i = getD cols i 0 + bit (isUp (getD row i (pos 0))) * weight
 
 -- a row as long as the columns, and room in each of them for a weight
-pub record Room (row : List ℤ) (weight : ℕ) (cols : List ℕ) : Type 0 where
+pub record Adds (row : List ℤ) (weight : ℕ) (cols : List ℕ) : Type 0 where
   pub long : length row ≡ length cols
   pub fits : (i : ℕ) → i < length cols → getD cols i 0 + weight < 256
 
--- a place k of a column, a sign, and a row as long as the columns
-pub record Fills (k : ℕ) (plus : ℤ) (row : List ℤ) (cols : List ℕ) : Type 0 where
+-- a place k of a column, and a row as long as the columns
+pub record Fills (k : ℕ) (row : List ℤ) (cols : List ℕ) : Type 0 where
   pub place : k < 8
-  pub sign : Spin plus
   pub long : length row ≡ length cols

@@ -1,14 +1,14 @@
 // A site's whole group as one byte, its column.
 ghost use mathlib.Core.Path.{_≡_};
-ghost use mathlib.Core.Bool.{cond};
-ghost use Prim.Native.Nat.{_*_, _<_};
+ghost use Prim.Native.Nat.{_*_, _≤_, _<_};
 ghost use lib.ListN.{getD};
-ghost use lib.IntN.{pos, _*ℤ_};
+ghost use lib.IntN.{pos, negℤ};
 ghost use Rattle.paper.specs.Component.Sizes.{bit};
-ghost use Rattle.paper.specs.Site.Acting.{eqZ};
-ghost use Rattle.columns.specs.Column.{bitOf, shown, columnOf, Columns};
+ghost use Rattle.paper.specs.Panel.Input.{patternOf};
+ghost use Rattle.columns.specs.Column.{shown, isUp, columnOf, Columns};
 ghost use Rattle.columns.specs.Filled.{Whole};
-ghost use Rattle.columns.specs.Rows.{Signable, Signed, Places, Packable, Writable, Written, signed, Room, Fills, added};
+ghost use Rattle.columns.specs.Gauge.{gaugeOf, Gaugeable};
+ghost use Rattle.columns.specs.Rows.{Signable, Signed, Places, Packable, Writable, Written, Adds, Fills, added};
 use paper::Group;
 use paper::Mode;
 
@@ -68,79 +68,103 @@ fn clear(cols: &mut [u8])
     }
 }
 
-fn weigh(spin: i8, plus: i8, weight: u8) -> u8
-    ensures { λ r. ⌜ r ≡ bit (eqZ spin plus) * weight ⌝ }
+fn weigh(spin: i8, weight: u8) -> u8
+    ensures { λ r. ⌜ r ≡ bit (isUp spin) * weight ⌝ }
 {
-    if spin == plus { weight } else { 0 }
+    if spin == 1 { weight } else { 0 }
 }
 
-// Adds weight to the column of each site where the row has plus.
-fn pack_row(row: &[i8], plus: i8, weight: u8, cols: &mut [u8])
-    requires { ⌜ Room (now row) weight (now cols) ⌝ }
-    ensures { λ _. ⌜ Whole 0 (added (now (cols .entry)) (now (row .entry)) plus weight) (now (cols .entry)) (now (cols .exit)) ⌝ }
+// Adds weight to the column of each site where the row has +1.
+fn pack_row(row: &[i8], weight: u8, cols: &mut [u8])
+    requires { ⌜ Adds (now row) weight (now cols) ⌝ }
+    ensures { λ _. ⌜ Whole 0 (added (now (cols .entry)) (now (row .entry)) weight) (now (cols .entry)) (now (cols .exit)) ⌝ }
 {
     let n = cols.len();
     let mut i: usize = 0;
     while i < n {
-        cols[i] = cols[i] + weigh(row[i], plus, weight);
+        cols[i] = cols[i] + weigh(row[i], weight);
         i += 1;
     }
 }
 
-// Reads the group's rows into columns: bit k is set where member k's spin times its sign is +1.
-pub fn pack(spins: &[i8], n: usize, group: Group, signs: [i8; 8], cols: &mut [u8])
-    requires { ⌜ Packable n group (now spins) signs (now cols) ⌝ }
-    ensures { λ _. ⌜ Columns n (group .len) (signed n group signs (now (spins .entry))) (now (cols .exit)) ⌝ }
+// Reads the group's rows into columns: bit k is set where member k's spin is +1.
+pub fn pack(spins: &[i8], n: usize, group: Group, cols: &mut [u8])
+    requires { ⌜ Packable n group (now spins) (now cols) ⌝ }
+    ensures { λ _. ⌜ Columns n (group .len) (patternOf n group (now (spins .entry))) (now (cols .exit)) ⌝ }
 {
     clear(cols);
     let len = group.len;
     let mut k: usize = 0;
     while k < len {
-        let plus = signs[k];
         let s = group.systems[k];
         let a = s * n;
         let e = a + n;
-        pack_row(&spins[a..e], plus, 1u8 << k, cols);
+        pack_row(&spins[a..e], 1u8 << k, cols);
         k += 1;
     }
 }
 
-fn pick(column: u8, k: usize, plus: i8, minus: i8) -> i8
+fn pick(column: u8, k: usize) -> i8
     requires { ⌜ k < 8 ⌝ }
-    ensures { λ r. ⌜ r ≡ cond (bitOf column k) plus minus ⌝ }
+    ensures { λ r. ⌜ r ≡ shown column k ⌝ }
 {
     let b = (column >> k) % 2;
-    if b == 1 { plus } else { minus }
+    if b == 1 { 1 } else { -1 }
 }
 
-// Writes one system's row: plus where bit k of the site's column is set, and minus plus where not.
-fn write_row(row: &mut [i8], cols: &[u8], k: usize, plus: i8)
-    requires { ⌜ Fills k plus (now row) (now cols) ⌝ }
-    ensures { λ _. ⌜ Whole (pos 0) (λ i. plus *ℤ shown (getD (now (cols .entry)) i 0) k) (now (row .entry)) (now (row .exit)) ⌝ }
+// Writes one system's row: +1 where bit k of the site's column is set, and -1 where not.
+fn write_row(row: &mut [i8], cols: &[u8], k: usize)
+    requires { ⌜ Fills k (now row) (now cols) ⌝ }
+    ensures { λ _. ⌜ Whole (pos 0) (λ i. shown (getD (now (cols .entry)) i 0) k) (now (row .entry)) (now (row .exit)) ⌝ }
 {
     let n = row.len();
-    let minus = 0 - plus;
     let mut i: usize = 0;
     while i < n {
-        let v = pick(cols[i], k, plus, minus);
+        let v = pick(cols[i], k);
         row[i] = v;
         i += 1;
     }
 }
 
-// Writes the group's rows from columns, each spin with its member's sign.
-pub fn write_rows(spins: &mut [i8], n: usize, group: Group, signs: [i8; 8], cols: &[u8])
-    requires { ⌜ Writable n group (now spins) signs (now cols) ⌝ }
-    ensures { λ _. ⌜ Written n (group .len) group signs (now (cols .entry)) (now (spins .entry)) (now (spins .exit)) ⌝ }
+// Writes the group's rows from columns.
+pub fn write_rows(spins: &mut [i8], n: usize, group: Group, cols: &[u8])
+    requires { ⌜ Writable n group (now spins) (now cols) ⌝ }
+    ensures { λ _. ⌜ Written n (group .len) group (now (cols .entry)) (now (spins .entry)) (now (spins .exit)) ⌝ }
 {
     let len = group.len;
     let mut k: usize = 0;
     while k < len {
-        let plus = signs[k];
         let s = group.systems[k];
         let a = s * n;
         let e = a + n;
-        write_row(&mut spins[a..e], cols, k, plus);
+        write_row(&mut spins[a..e], cols, k);
         k += 1;
+    }
+}
+
+// A column with each of the group's spins negated.
+fn negated(column: u8, group: Group) -> u8
+    requires { ⌜ group .len ≤ 8 ⌝ }
+    ensures { λ r. ⌜ r ≡ columnOf (group .len) (λ k. negℤ (shown column k)) ⌝ }
+{
+    let len = group.len;
+    let mut out: u8 = 0;
+    let mut k: usize = 0;
+    while k < len {
+        out = out + ((1 - (column >> k) % 2) << k);
+        k += 1;
+    }
+    out
+}
+
+// The byte whose exclusive or with a column is the column as the mode sees it: in gperm a bit for each -1 of the reference site, else none.
+pub fn gauge(mode: Mode, group: Group, reference: usize, cols: &[u8]) -> u8
+    requires { ⌜ Gaugeable mode group reference (now cols) ⌝ }
+    ensures { λ r. ⌜ r ≡ gaugeOf mode (group .len) (getD (now (cols .entry)) reference 0) ⌝ }
+{
+    if mode.is_gperm() {
+        negated(cols[reference], group)
+    } else {
+        0
     }
 }

@@ -19,18 +19,18 @@ use Rattle.paper.specs.Panel.Takes.{isCmr, isPerm, moves, permsBy, greysBy}
 use Rattle.paper.specs.Site.Acting.{acts, SomeActs}
 use Rattle.paper.specs.Site.Bonds.{holds}
 use Rattle.paper.specs.Component.Marks.{passed, refused}
-use Rattle.paper.specs.Move.Moving.{final, Moves}
+use Rattle.paper.specs.Move.Moving.{Moves}
 use Rattle.paper.specs.Refusal.Kept.{Valid, valid-kept}
 use Rattle.paper.specs.Answer.Move.{Answers}
 use Rattle.paper.specs.Law.ByTest.{never, and-left, and-right}
 use Rattle.paper.specs.Law.Unique.{label-lt}
 use Rattle.moves.specs.Ready.{TestedFor, ready}
 use Rattle.rules.specs.Sight.{none-acts}
-use Rattle.moves.specs.Moved.{Rows, spins-back}
+use Rattle.moves.specs.Moved.{Rows}
 use Rattle.moves.specs.Steps.{LabelAsks, LabelLeaves, ChooseAsks, ChooseLeaves, WriteAsks, WriteLeaves}
 use Rattle.moves.specs.Held.{grey-labels}
 use Rattle.moves.specs.Choices.{places-of, rows-of, columns-narrow}
-use Rattle.moves.specs.Finish.{no-move, observed, final-spin, final-columns}
+use Rattle.moves.specs.Finish.{no-move, observed, spins-back, final-columns}
 
 -- in CMR every site acts
 acts-cmr : (m : Mode) (c : Call) (xs : List ℤ) → c .mode ≡ m → isCmr m ≡ true → acts c xs 0 ≡ true
@@ -102,6 +102,7 @@ module _
           below = λ i h. rw long (label-lt (graph c) (holds c (b .spins)) l (d .labelled) i (rw long at h));
           tallied = d .tallied;
           seeded = λ e. rw long (v .fit .seeded .below e);
+          reference = λ e. rw long (v .fit .chosen .reference e);
           moving = moving;
           size-low = omega (arith, tested .size-low);
           size-high = tested .size-high;
@@ -142,9 +143,7 @@ module _
             n-high = n-high;
             size-high = tested .size-high;
             inside = tested .inside;
-            spins = tested .spins;
             distinct = tested .distinct;
-            reference = v .fit .chosen .reference;
             cols-long = new-long;
           }
 
@@ -153,9 +152,9 @@ module _
           moved-by {ys} moving o = record {
             long = o .long;
             group =
-                spins-back c p (b .spins) l tested (v .fit .chosen .reference) (λ _. rows) (final c p (b .spins) l greyLabels) new ys
-                (λ i k hi hk. final-spin c p (b .spins) l greyLabels tested (v .fit .chosen .reference) (λ _. rows) i k hi hk)
-                (final-columns c p (b .spins) l greyLabels tested (v .fit .chosen .reference) (λ _. rows) moving (d .acting) (d .columns) (w .columns))
+                spins-back c p (b .spins) l greyLabels tested (v .fit .chosen .reference) (λ _. rows) new ys
+                (final-columns t fwd bwd couplings cuts p (b .spins) l greyLabels tested (v .fit .chosen .reference) (λ _. rows) moving (d .acting)
+                (d .columns) (w .columns))
                 (o .group);
             others = o .others;
           }

@@ -4,13 +4,15 @@ use mathlib.Core.Path.{_≡_, refl, sym, _∙_, ap}
 use mathlib.Core.Bool.{Bool, true, false, cond, _&&_}
 use mathlib.Core.List.{List}
 use lib.ListN.{getD}
-use lib.IntN.{ℤ, negℤ, _*ℤ_}
+use lib.IntN.{ℤ, negℤ}
+use lib.Ieee.{Float}
 use Rattle.paper.specs.declared.Task.{Task}
 use Rattle.paper.specs.declared.Form.{Form}
 use Rattle.paper.specs.declared.Form.the-variants.{Sw, Wolff, Observe}
-use Rattle.paper.specs.Panel.Input.{Call, Choices, Pattern, pattern, size}
+use Rattle.paper.specs.Panel.Input.{Call, Choices, pattern, size}
+use Rattle.paper.specs.Panel.Made.{callOf}
 use Rattle.paper.specs.Panel.Takes.{isGperm, isCmr, moves, takesGreys}
-use Rattle.paper.specs.Site.Acting.{gauge, acts}
+use Rattle.paper.specs.Site.Acting.{acts}
 use Rattle.paper.specs.Component.Sizes.{labelOf}
 use Rattle.paper.specs.Component.Marks.{Flags}
 use Rattle.paper.specs.Move.Moving.{flipSome, greyBit, greyAt, reached, reachedBy, after, final, Moves}
@@ -18,14 +20,12 @@ use Rattle.paper.specs.Refusal.Rules.{Spin}
 use Rattle.paper.specs.Law.Patterns.{flip-spin}
 use Rattle.paper.specs.Law.ByTest.{never}
 use Rattle.columns.specs.Column.{shown, columnOf, shown-column, column-ext, Columns}
-use Rattle.columns.specs.Rows.{Signed, Written}
+use Rattle.columns.specs.Gauge.{gaugeOf, gauge-is}
+use Rattle.columns.specs.Laws.{columns-shown}
 use Rattle.choose.specs.Chosen.{Becomes, greyed}
 use Rattle.moves.specs.Ready.{TestedFor}
-use Rattle.rules.specs.Sight.{seenAt, gauge-spin}
-use Rattle.moves.specs.Looked.{no-gauge}
-use Rattle.moves.specs.Moved.{Rows, choiceColumn, gauge-at, chosen-column, after-spin}
-use Rattle.moves.specs.Steps.{chosenAt, finalAt, WriteLeaves}
-use Rattle.moves.specs.Held.{cmr-ungauged}
+use Rattle.moves.specs.Moved.{Rows, choiceColumn, chosen-column, after-spin}
+use Rattle.moves.specs.Steps.{chosenAt, finalAt}
 use Rattle.moves.specs.Choices.{reached-is}
 
 -- ---- to observe moves nothing
@@ -58,9 +58,6 @@ module _
     (c : Call) (p : Choices) (xs : List ℤ) (l g : List ℕ) (r : TestedFor c xs) (reference : isGperm (c .mode) ≡ true → c .reference < c .lattice .n)
     (rows : moves (c .form) ≡ true → Rows c p l)
   where
-    abbrev P : Pattern
-    P = pattern c xs (c .reference)
-
     pub final-spin : (i k : ℕ) → i < c .lattice .n → k < size c → Spin (final c p xs l g i k)
     unfolding final
     final-spin i k hi hk = go (takesGreys c && reached c xs g i)
@@ -70,81 +67,82 @@ module _
             flip-spin (greyBit (greyAt (c .form) (p .greys) (labelOf g i)) k) (after c p xs l i k) (after-spin c p xs l r reference rows i hi k hk)
         go false = after-spin c p xs l r reference rows i hi k hk
 
-    -- the column of the site i after the blue flip, and its grey number
+    -- the column of the site i after the first choice, and its grey number
     abbrev mid : ℕ → ℕ
-    mid i = columnOf (size c) (gauge (c .mode) P (after c p xs l i))
+    mid i = columnOf (size c) (after c p xs l i)
 
     abbrev greyOf : ℕ → ℕ
     greyOf i = greyAt (c .form) (p .greys) (labelOf g i)
 
+    -- a grey number on the column of the pattern after the blue flip
     grey-column :
-        isCmr (c .mode) ≡ true → (x : ℕ) (i : ℕ) → i < c .lattice .n
-        → greyed x (mid i)
-        ≡ columnOf (size c) (gauge (c .mode) P (flipSome (greyBit x) (after c p xs l i)))
+        isCmr (c .mode) ≡ true → (x i : ℕ) → i < c .lattice .n → greyed x (mid i) ≡ columnOf (size c) (flipSome (greyBit x) (after c p xs l i))
     grey-column e x i hi =
         ap (λ (m : ℕ). columnOf m (flipSome (greyBit x) (shown (mid i)))) (sym (r .two e))
         ∙ column-ext (size c) _ _
-        (λ k hk. ap (λ (z : ℤ). cond (greyBit x k) (negℤ z) z) (shows k hk) ∙ no-gauge (c .mode) P (flipSome (greyBit x) (after c p xs l i)) k plain)
+        (λ k hk.
+        ap (λ (z : ℤ). cond (greyBit x k) (negℤ z) z)
+        (shown-column (size c) (after c p xs l i) k hk (after-spin c p xs l r reference rows i hi k hk)))
+
+    -- rows written from columns of spins are those spins
+    pub spins-back :
+        (cols : List ℕ) (ys : List ℤ) → Columns (c .lattice .n) (size c) (final c p xs l g) cols
+        → ((i k : ℕ) → i < c .lattice .n → k < size c → pattern c ys i k ≡ shown (getD cols i 0) k)
+        → (i k : ℕ) → i < c .lattice .n → k < size c → pattern c ys i k ≡ final c p xs l g i k
+    spins-back cols ys h w i k hi hk = w i k hi hk ∙ columns-shown h i k hi hk (final-spin i k hi hk)
+
+module _
+    (t : Task) (fwd bwd : List ℕ) (couplings : List ℤ) (cuts : List Float) (p : Choices) (xs : List ℤ) (l g : List ℕ)
+    (r : TestedFor (callOf t fwd bwd couplings cuts) xs) (reference : isGperm (t .mode) ≡ true → t .reference < t .n)
+    (rows : moves (t .form) ≡ true → Rows (callOf t fwd bwd couplings cuts) p l) {flags cols : List ℕ} (moving : moves (t .form) ≡ true)
+    (acting : Flags (t .n) (acts (callOf t fwd bwd couplings cuts) xs) flags)
+    (columns : Columns (t .n) (t .group .len) (pattern (callOf t fwd bwd couplings cuts) xs) cols)
+  where
+    abbrev c : Call
+    c = callOf t fwd bwd couplings cuts
+
+    abbrev m : ℕ
+    m = t .group .len
+
+    abbrev to : ℕ → ℕ → ℕ → ℕ
+    to i y x = choiceColumn (t .mode) (t .form) m y (p .flips) (p .perms) (labelOf l i) x
+
+    abbrev y : ℕ
+    y = gaugeOf (t .mode) m (getD cols (t .reference) 0)
+
+    abbrev chosen : ℕ → ℕ
+    chosen i = chosenAt t flags l (p .flips) (p .perms) cols i
+
+    chosen-at : (i : ℕ) → i < t .n → chosen i ≡ columnOf m (after c p xs l i)
+    chosen-at i hi =
+        ap (λ (b : Bool). cond b (to i y (getD cols i 0)) (getD cols i 0)) (reached-is c xs l flags acting i hi)
+        ∙ (ap (λ (x : ℕ). cond (reached c xs l i) (to i y x) x) (columns .at i hi)
+        ∙ (ap (λ (z : ℕ). cond (reached c xs l i) (to i z (columnOf m (pattern c xs i))) (columnOf m (pattern c xs i)))
+        (gauge-is (t .mode) m (t .n) (t .reference) (pattern c xs) columns reference)
+        ∙ chosen-column c p xs l r reference rows i hi))
+
+    abbrev greyNumber : ℕ → ℕ
+    greyNumber i = greyAt (t .form) (p .greys) (labelOf g i)
+
+    final-at : (i : ℕ) → i < t .n → finalAt t flags l g (p .flips) (p .perms) (p .greys) cols i ≡ columnOf m (final c p xs l g i)
+    unfolding final
+    final-at i hi =
+        ap
+        (λ (b : Bool).
+        cond (isCmr (t .mode) && b) (greyed (greyNumber i) (chosen i)) (chosen i))
+        (reached-is c xs g flags acting i hi)
+        ∙ (ap (λ (x : ℕ). cond (isCmr (t .mode) && reached c xs g i) (greyed (greyNumber i) x) x) (chosen-at i hi)
+        ∙ go (isCmr (t .mode)) refl (reached c xs g i))
       where
-        plain : isGperm (c .mode) ≡ false
-        plain = cmr-ungauged (c .mode) e
+        go :
+            (b : Bool) → isCmr (t .mode) ≡ b → (u : Bool)
+            → cond (b && u) (greyed (greyNumber i) (columnOf m (after c p xs l i))) (columnOf m (after c p xs l i))
+            ≡ columnOf m (λ k. cond ((moves (t .form) && b) && u) (flipSome (greyBit (greyNumber i)) (after c p xs l i) k) (after c p xs l i k))
+        go false q u = rw moving refl
+        go true q false = rw moving refl
+        go true q true = rw moving (grey-column c p xs l g r reference rows q (greyNumber i) i hi)
 
-        shows : (k : ℕ) → k < size c → shown (mid i) k ≡ after c p xs l i k
-        shows k hk =
-            shown-column (size c) (gauge (c .mode) P (after c p xs l i)) k hk
-            (gauge-spin (c .mode) P (after c p xs l i) k (λ q. gauge-at c p xs l r reference rows q k hk) (after-spin c p xs l r reference rows i hi k hk))
-            ∙ sym (no-gauge (c .mode) P (after c p xs l i) k plain)
-
-    module _
-        {flags cols : List ℕ} (moving : moves (c .form) ≡ true) (acting : Flags (c .lattice .n) (acts c xs) flags)
-        (columns : Columns (c .lattice .n) (size c) (seenAt c xs) cols)
-      where
-        abbrev to : ℕ → ℕ → ℕ
-        to i x = choiceColumn (c .mode) (c .form) (size c) (p .flips) (p .perms) (labelOf l i) x
-
-        abbrev chosen : ℕ → ℕ
-        chosen i = chosenAt (c .mode) (c .form) (size c) (c .seed) flags l (p .flips) (p .perms) cols i
-
-        chosen-at :
-            (i : ℕ) → i < c .lattice .n
-            → chosenAt (c .mode) (c .form) (size c) (c .seed) flags l (p .flips) (p .perms) cols i ≡ mid i
-        chosen-at i hi =
-            ap (λ (t : Bool). cond t (to i (getD cols i 0)) (getD cols i 0)) (reached-is c xs l flags acting i hi)
-            ∙ (ap (λ (x : ℕ). cond (reached c xs l i) (to i x) x) (columns .at i hi) ∙ chosen-column c p xs l r reference rows i hi)
-
-        final-at :
-            (i : ℕ) → i < c .lattice .n
-            → finalAt (c .mode) (c .form) (size c) (c .seed) flags l g (p .flips) (p .perms) (p .greys) cols i
-            ≡ columnOf (size c) (gauge (c .mode) P (final c p xs l g i))
-        unfolding final
-        final-at i hi =
-            ap (λ (t : Bool). cond (isCmr (c .mode) && t) (greyed (greyOf i) (chosen i)) (chosen i)) (reached-is c xs g flags acting i hi)
-            ∙ (ap (λ (x : ℕ). cond (isCmr (c .mode) && reached c xs g i) (greyed (greyOf i) x) x) (chosen-at i hi)
-            ∙ go (isCmr (c .mode)) refl (reached c xs g i))
-          where
-            go :
-                (t : Bool) → isCmr (c .mode) ≡ t → (u : Bool)
-                → cond (t && u) (greyed (greyOf i) (mid i)) (mid i)
-                ≡ columnOf (size c)
-                (gauge (c .mode) P (λ k. cond ((moves (c .form) && t) && u) (flipSome (greyBit (greyOf i)) (after c p xs l i) k) (after c p xs l i k)))
-            go false q u = rw moving refl
-            go true q false = rw moving refl
-            go true q true = rw moving (grey-column q (greyOf i) i hi)
-
-        pub final-columns :
-            {new : List ℕ}
-            → Becomes (finalAt (c .mode) (c .form) (size c) (c .seed) flags l g (p .flips) (p .perms) (p .greys) cols) cols new
-            → Columns (c .lattice .n) (size c) (λ i. gauge (c .mode) P (final c p xs l g i)) new
-        final-columns b = record { long = b .long ∙ columns .long; at = λ i hi. b .at i (rw (columns .long) hi) ∙ final-at i hi }
-
--- ---- the rows that `write_task` leaves
-pub write-leaves :
-    {t : Task} {signs : List ℤ} {cols : List ℕ} {xs ys : List ℤ}
-    → Signed (t .mode) (t .n) (t .group) xs (t .reference) signs → Written (t .n) (t .group .len) (t .group) signs cols xs ys
-    → WriteLeaves t cols xs ys
-write-leaves {t} {signs} {cols} s w = record {
-  long = w .long;
-  group = λ i k hi hk. w .group i k hi hk ∙ ap (λ (z : ℤ). z *ℤ shown (getD cols i 0) k) (s .at k hk);
-  others = w .others;
-  empty = w .empty;
-}
+    pub final-columns :
+        {new : List ℕ}
+        → Becomes (finalAt t flags l g (p .flips) (p .perms) (p .greys) cols) cols new → Columns (t .n) m (final c p xs l g) new
+    final-columns b = record { long = b .long ∙ columns .long; at = λ i hi. b .at i (rw (columns .long) hi) ∙ final-at i hi }

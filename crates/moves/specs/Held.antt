@@ -13,7 +13,7 @@ use Rattle.paper.specs.declared.Mode.the-variants.{Houd, Pair, Perm, Gperm, Jor
 use Rattle.paper.specs.declared.Sampler.{Sampler}
 use Rattle.paper.specs.Panel.Input.{Call, pattern, size, ahead, graph}
 use Rattle.paper.specs.Panel.Made.{callOf}
-use Rattle.paper.specs.Panel.Takes.{isDrawn, isCmr, isGperm}
+use Rattle.paper.specs.Panel.Takes.{isDrawn, isCmr}
 use Rattle.paper.specs.Site.Acting.{acts}
 use Rattle.paper.specs.Site.Bonds.{samplerOf, jorgHolds, kindOf, blueHolds, greyHolds, bothAct, couplingAt, cutAt, kindAt, holdsBy, holds, holdsGrey}
 use Rattle.paper.specs.Component.Sizes.{bit}
@@ -26,28 +26,11 @@ use Rattle.columns.specs.Column.{shown, Columns}
 use Rattle.columns.specs.Laws.{columns-shown}
 use Rattle.bonds.specs.Laws.{jorg-ext, kind-ext}
 use Rattle.bonds.specs.Table.{bothActing, jorgAt, greyAt, CmrOut}
+use Rattle.rules.specs.Sight.{Sights, flag-at, acts-flags, acts-tells}
 use Rattle.label.specs.Contract.{Labelled, Reported}
 use Rattle.moves.specs.Ready.{Tested, TestedFor}
-use Rattle.rules.specs.Sight.{seenAt, seen-spin, flag-at, acts-flags, acts-tells}
-use Rattle.moves.specs.Looked.{no-gauge, mark-at}
-use Rattle.rules.specs.Sight.{Sights}
+use Rattle.moves.specs.Looked.{mark-at}
 use Rattle.moves.specs.Steps.{heldAt, HoldLeaves, LabelLeaves}
-
-drawn-ungauged : (m : Mode) → isDrawn m ≡ true → isGperm m ≡ false
-drawn-ungauged Houd e = refl
-drawn-ungauged Pair e = refl
-drawn-ungauged Perm e = refl
-drawn-ungauged Gperm e = never e
-drawn-ungauged Jorg e = refl
-drawn-ungauged Cmr e = refl
-
-pub cmr-ungauged : (m : Mode) → isCmr m ≡ true → isGperm m ≡ false
-cmr-ungauged Houd e = refl
-cmr-ungauged Pair e = refl
-cmr-ungauged Perm e = refl
-cmr-ungauged Gperm e = never e
-cmr-ungauged Jorg e = refl
-cmr-ungauged Cmr e = refl
 
 pub cmr-drawn : (m : Mode) → isCmr m ≡ true → isDrawn m ≡ true
 cmr-drawn Houd e = never e
@@ -94,47 +77,42 @@ module _ {t : Task} {fwd : List ℕ} {couplings : List ℤ} {cuts : List Float} 
 
 -- ---- the bonds of a call
 module _
-    (c : Call) (xs : List ℤ) (r : TestedFor c xs) (reference : isGperm (c .mode) ≡ true → c .reference < c .lattice .n) (flags cols : List ℕ)
-    (acting : Flags (c .lattice .n) (acts c xs) flags) (columns : Columns (c .lattice .n) (size c) (seenAt c xs) cols)
+    (c : Call) (xs : List ℤ) (r : TestedFor c xs) (flags cols : List ℕ) (acting : Flags (c .lattice .n) (acts c xs) flags)
+    (columns : Columns (c .lattice .n) (size c) (pattern c xs) cols)
   where
     both-held : (i e : ℕ) → i < c .lattice .n → e < c .lattice .d → bothActing (c .lattice .d) (c .lattice .fwd) flags i e ≡ bothAct c xs i e
     both-held i e hi he =
         cc (flag-at (c .lattice .n) (acts c xs) flags acting i hi, flag-at (c .lattice .n) (acts c xs) flags acting (ahead c i e) (r .ahead-lt i e hi he))
 
-    -- where the mode has no gauge, a column shows the group's spins
-    shows : isGperm (c .mode) ≡ false → (i : ℕ) → i < c .lattice .n → Agree (size c) (shown (getD cols i 0)) (pattern c xs i)
-    shows e i hi k hk =
-        columns-shown columns i k hi hk (seen-spin (c .mode) (c .lattice .n) (c .group) (c .reference) xs (r .spins) reference i k hi hk)
-        ∙ sym (no-gauge (c .mode) (pattern c xs (c .reference)) (pattern c xs i) k e)
+    shows : (i : ℕ) → i < c .lattice .n → Agree (size c) (shown (getD cols i 0)) (pattern c xs i)
+    shows i hi k hk = columns-shown columns i k hi hk (r .spins i k hi hk)
 
     jorg-held :
-        isGperm (c .mode) ≡ false
-        → (i e : ℕ) → i < c .lattice .n → e < c .lattice .d
+        (i e : ℕ) → i < c .lattice .n → e < c .lattice .d
         → jorgHolds (couplingAt c i e) (size c) (shown (getD cols i 0)) (shown (getD cols (ahead c i e) 0)) (samplerOf (c .temperature)) (cutAt c i e)
         ≡ jorgHolds (couplingAt c i e) (size c) (pattern c xs i) (pattern c xs (ahead c i e)) (samplerOf (c .temperature)) (cutAt c i e)
-    jorg-held q i e hi he =
+    jorg-held i e hi he =
         jorg-ext (couplingAt c i e) (size c) _ _ (pattern c xs i) (pattern c xs (ahead c i e)) (samplerOf (c .temperature)) (cutAt c i e)
-        (shows q i hi) (shows q (ahead c i e) (r .ahead-lt i e hi he))
+        (shows i hi) (shows (ahead c i e) (r .ahead-lt i e hi he))
 
     kind-held :
         isCmr (c .mode) ≡ true → (i e : ℕ) → i < c .lattice .n → e < c .lattice .d
         → kindOf (couplingAt c i e) (shown (getD cols i 0)) (shown (getD cols (ahead c i e) 0)) ≡ kindAt c xs i e
     kind-held q i e hi he =
-        kind-ext (couplingAt c i e) _ _ (pattern c xs i) (pattern c xs (ahead c i e))
-        (λ k hk. shows (cmr-ungauged (c .mode) q) i hi k (omega (arith, r .two q)))
-        (λ k hk. shows (cmr-ungauged (c .mode) q) (ahead c i e) (r .ahead-lt i e hi he) k (omega (arith, r .two q)))
+        kind-ext (couplingAt c i e) _ _ (pattern c xs i) (pattern c xs (ahead c i e)) (λ k hk. shows i hi k (omega (arith, r .two q)))
+        (λ k hk. shows (ahead c i e) (r .ahead-lt i e hi he) k (omega (arith, r .two q)))
 
     held-in :
-        (m : Mode) → (isDrawn m ≡ true → isGperm (c .mode) ≡ false) → (isCmr m ≡ true → isCmr (c .mode) ≡ true)
+        (m : Mode) → (isCmr m ≡ true → isCmr (c .mode) ≡ true)
         → (i e : ℕ) → i < c .lattice .n → e < c .lattice .d
         → heldAt m (c .lattice .d) (c .lattice .fwd) (c .lattice .couplings) (c .cuts) (size c) (samplerOf (c .temperature)) flags cols i e
         ≡ holdsBy m c xs i e
-    held-in Houd g q i e hi he = both-held i e hi he
-    held-in Pair g q i e hi he = both-held i e hi he
-    held-in Perm g q i e hi he = both-held i e hi he
-    held-in Gperm g q i e hi he = both-held i e hi he
-    held-in Jorg g q i e hi he = cc (both-held i e hi he, jorg-held (g refl) i e hi he)
-    held-in Cmr g q i e hi he = ap (λ x. blueHolds x (samplerOf (c .temperature)) (cutAt c i e)) (kind-held (q refl) i e hi he)
+    held-in Houd q i e hi he = both-held i e hi he
+    held-in Pair q i e hi he = both-held i e hi he
+    held-in Perm q i e hi he = both-held i e hi he
+    held-in Gperm q i e hi he = both-held i e hi he
+    held-in Jorg q i e hi he = cc (both-held i e hi he, jorg-held i e hi he)
+    held-in Cmr q i e hi he = ap (λ x. blueHolds x (samplerOf (c .temperature)) (cutAt c i e)) (kind-held (q refl) i e hi he)
 
     -- the table of `hold` marks the bonds that hold
     pub held-labels :
@@ -147,7 +125,7 @@ module _
     held-labels holding l h w =
         labels-ext (graph c) (marked (c .lattice .d) holding) (holdsBy (c .mode) c xs) l
         (λ i e hi he.
-        mark-at (c .lattice .n) (c .lattice .d) _ holding h i e hi he ∙ held-in (c .mode) (drawn-ungauged (c .mode)) (λ q. q) i e hi he) w
+        mark-at (c .lattice .n) (c .lattice .d) _ holding h i e hi he ∙ held-in (c .mode) (λ q. q) i e hi he) w
 
     -- and CMR's other table the grey ones
     pub grey-marks :
@@ -174,7 +152,7 @@ grey-labels c xs grey l h w =
 module _
     {t : Task} {fwd : List ℕ} {couplings : List ℤ} {cuts : List Float} {xs : List ℤ} {cols flags holding grey tally labels counts sizes : List ℕ} {r : Bool}
     (bwd : List ℕ) (h : HoldLeaves t fwd couplings cuts flags cols holding grey) (tested : Tested (t .mode) (t .n) (t .d) fwd (t .group) xs)
-    (reference : isGperm (t .mode) ≡ true → t .reference < t .n) (s : Sights (t .mode) (t .n) (t .group) (t .reference) xs cols flags r)
+    (s : Sights (t .mode) (t .n) (t .group) (t .reference) xs cols flags r)
     (l : Labelled (t .n) (t .d) fwd holding labels tally) (o : Reported labels counts sizes)
   where
     abbrev c : Call
@@ -188,8 +166,8 @@ module _
       columns = s .columns;
       acting = acting;
       some = acts-tells c xs r (s .some);
-      labelled = held-labels c xs tested reference flags cols acting (s .columns) holding labels (h .held) (l .labels);
-      grey-held = λ e. grey-marks c xs tested reference flags cols acting (s .columns) grey e (h .grey-held e);
+      labelled = held-labels c xs tested flags cols acting (s .columns) holding labels (h .held) (l .labels);
+      grey-held = λ e. grey-marks c xs tested flags cols acting (s .columns) grey e (h .grey-held e);
       grey-long = h .grey-long;
       tallied = l .sized;
       counted = o .counted;

@@ -33,8 +33,8 @@ pub record Tested (mode : Mode) (n d : ℕ) (fwd : List ℕ) (g : Group) (xs : L
 
 -- so the panel can be looked at
 pub sighted :
-    {mode : Mode} {n d q : ℕ} {fwd : List ℕ} {g : Group} {xs : List ℤ}
-    → Tested mode n d fwd g xs → (isGperm mode ≡ true → q < n) → Sighted mode n g q xs
+    {mode : Mode} {n d q : ℕ} {fwd : List ℕ} {g : Group} {xs : List ℤ} → Tested mode n d fwd g xs → (isGperm mode ≡ true → q < n)
+    → Sighted mode n g q xs
 sighted r e = record {
   n-high = r .n-high;
   size-low = omega (arith, r .size-low);

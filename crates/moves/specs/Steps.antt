@@ -1,17 +1,15 @@
 -- What the steps of a task ask and what they leave: hold, label, choose, write.
 use Prim.Native.Nat.{ℕ, _+_, _*_, _^_, _≤_, _<_}
 use mathlib.Core.Path.{_≡_}
-use mathlib.Core.Logic.{_≢_}
 use mathlib.Core.Bool.{Bool, true, false, cond, _&&_}
 use mathlib.Core.List.{List}
 use lib.ListN.{length, getD}
-use lib.IntN.{ℤ, _*ℤ_}
+use lib.IntN.{ℤ}
 use lib.Ieee.{Float}
 use Rattle.paper.specs.declared.Task.{Task}
 use Rattle.paper.specs.declared.Mode.{Mode}
-use Rattle.paper.specs.declared.Form.{Form}
 use Rattle.paper.specs.declared.Sampler.{Sampler}
-use Rattle.paper.specs.Panel.Input.{Call, patternOf, spin, member, graph, size}
+use Rattle.paper.specs.Panel.Input.{Call, pattern, member, graph, size}
 use Rattle.paper.specs.Panel.Takes.{isPerm, isGperm, isCmr, isDrawn, isWolff, moves, entries, flipsBy}
 use Rattle.paper.specs.Site.Acting.{acts, SomeActs}
 use Rattle.paper.specs.Site.Bonds.{samplerOf, holds, holdsGrey}
@@ -20,13 +18,14 @@ use Rattle.paper.specs.Component.Sizes.{labelOf, Sized, Counted, Largest}
 use Rattle.paper.specs.Component.Marks.{Flags, Marks, marked, Tells}
 use Rattle.paper.specs.Move.Moving.{greyAt}
 use Rattle.paper.specs.Refusal.Rules.{Distinct}
-use Rattle.columns.specs.Column.{shown, signBy, Inside, Spinning, Columns}
+use Rattle.columns.specs.Column.{Inside, Columns}
+use Rattle.columns.specs.Rows.{Written}
+use Rattle.columns.specs.Gauge.{gaugeOf}
 use Rattle.bonds.specs.Table as table
 use Rattle.bonds.specs.Table.{Coupled, ActiveIn, bothActing, jorgAt, blueAt}
 use Rattle.label.specs.Contract.{graphOf}
 use Rattle.choose.specs.Chosen.{Becomes, reachedAt, greyed}
 use Rattle.moves.specs.Ready.{Tested}
-use Rattle.rules.specs.Sight.{seenAt}
 use Rattle.moves.specs.Moved.{choiceColumn}
 
 -- ---- hold: the tables of bonds
@@ -70,7 +69,7 @@ pub record LabelAsks
   pub lent : Lent (t .n) (t .d) cols flags holding grey tally labels counts sizes
 
 pub record LabelLeaves (c : Call) (xs : List ℤ) (cols flags grey tally labels counts sizes : List ℕ) (r : Bool) : Type 0 where
-  pub columns : Columns (c .lattice .n) (size c) (seenAt c xs) cols
+  pub columns : Columns (c .lattice .n) (size c) (pattern c xs) cols
   pub acting : Flags (c .lattice .n) (acts c xs) flags
   pub some : Tells r (SomeActs c xs)
   pub labelled : Labels (graph c) (holds c xs) labels
@@ -81,21 +80,22 @@ pub record LabelLeaves (c : Call) (xs : List ℤ) (cols flags grey tally labels 
   pub largest : Largest labels sizes
 
 -- ---- choose: the new columns. Of the labels it needs a key for each site, below n, and how many sites have it
-pub record Choosable (mode : Mode) (form : Form) (m seed : ℕ) (flags labels tally flips perms reached cols : List ℕ) : Type 0 where
+pub record Choosable (t : Task) (flags labels tally flips perms reached cols : List ℕ) : Type 0 where
   pub few : length cols ≤ 4096
   pub flags-long : length flags ≡ length cols
   pub labels-long : length labels ≡ length cols
   pub reached-long : length reached ≡ length cols
   pub below : (i : ℕ) → i < length cols → getD labels i 0 < length cols
   pub tallied : Sized labels tally
-  pub seeded : isWolff form ≡ true → seed < length cols
-  pub moving : moves form ≡ true
-  pub size-low : 1 ≤ m
-  pub size-high : m ≤ 8
-  pub flips-long : flipsBy mode form ≡ true → length flips ≡ length cols
-  pub perms-long : isPerm mode ≡ true → length perms ≡ entries form (length cols) * m
-  pub places : isPerm mode ≡ true → (x : ℕ) → x < length perms → getD perms x 0 < m
-  pub narrow : (i : ℕ) → i < length cols → getD cols i 0 < 2 ^ m
+  pub seeded : isWolff (t .form) ≡ true → t .seed < length cols
+  pub reference : isGperm (t .mode) ≡ true → t .reference < length cols
+  pub moving : moves (t .form) ≡ true
+  pub size-low : 1 ≤ t .group .len
+  pub size-high : t .group .len ≤ 8
+  pub flips-long : flipsBy (t .mode) (t .form) ≡ true → length flips ≡ length cols
+  pub perms-long : isPerm (t .mode) ≡ true → length perms ≡ entries (t .form) (length cols) * t .group .len
+  pub places : isPerm (t .mode) ≡ true → (x : ℕ) → x < length perms → getD perms x 0 < t .group .len
+  pub narrow : (i : ℕ) → i < length cols → getD cols i 0 < 2 ^ t .group .len
 
 -- what CMR's grey half is lent
 pub record Greyable (t : Task) (fwd greys grey greyLabels : List ℕ) : Type 0 where
@@ -109,24 +109,27 @@ pub record Greyable (t : Task) (fwd greys grey greyLabels : List ℕ) : Type 0 w
   pub two : t .group .len ≡ 2
 
 pub record ChooseAsks (t : Task) (fwd flips perms greys flags grey labels tally reached cols greyLabels : List ℕ) : Type 0 where
-  pub choosable : Choosable (t .mode) (t .form) (t .group .len) (t .seed) flags labels tally flips perms reached cols
+  pub choosable : Choosable t flags labels tally flips perms reached cols
   pub cols-long : length cols ≡ t .n
   pub greyable : isCmr (t .mode) ≡ true → Greyable t fwd greys grey greyLabels
 
 -- the new column of the site i from the choice of its component
-abbrev pub chosenAt : Mode → Form → ℕ → ℕ → List ℕ → List ℕ → List ℕ → List ℕ → List ℕ → ℕ → ℕ
-chosenAt mode form m seed flags labels flips perms cols i =
-    cond (reachedAt form mode seed flags labels i) (choiceColumn mode form m flips perms (labelOf labels i) (getD cols i 0)) (getD cols i 0)
+abbrev pub chosenAt : Task → List ℕ → List ℕ → List ℕ → List ℕ → List ℕ → ℕ → ℕ
+chosenAt t flags labels flips perms cols i =
+    cond (reachedAt (t .form) (t .mode) (t .seed) flags labels i)
+    (choiceColumn (t .mode) (t .form) (t .group .len) (gaugeOf (t .mode) (t .group .len) (getD cols (t .reference) 0)) flips perms (labelOf labels i)
+    (getD cols i 0))
+    (getD cols i 0)
 
 -- and in CMR then from the grey number of its grey component
-abbrev pub finalAt : Mode → Form → ℕ → ℕ → List ℕ → List ℕ → List ℕ → List ℕ → List ℕ → List ℕ → List ℕ → ℕ → ℕ
-finalAt mode form m seed flags labels greyLabels flips perms greys cols i =
-    cond (isCmr mode && reachedAt form mode seed flags greyLabels i)
-    (greyed (greyAt form greys (labelOf greyLabels i)) (chosenAt mode form m seed flags labels flips perms cols i))
-    (chosenAt mode form m seed flags labels flips perms cols i)
+abbrev pub finalAt : Task → List ℕ → List ℕ → List ℕ → List ℕ → List ℕ → List ℕ → List ℕ → ℕ → ℕ
+finalAt t flags labels greyLabels flips perms greys cols i =
+    cond (isCmr (t .mode) && reachedAt (t .form) (t .mode) (t .seed) flags greyLabels i)
+    (greyed (greyAt (t .form) greys (labelOf greyLabels i)) (chosenAt t flags labels flips perms cols i))
+    (chosenAt t flags labels flips perms cols i)
 
 pub record ChooseLeaves (t : Task) (fwd flips perms greys flags grey labels cols lent new greyLabels : List ℕ) : Type 0 where
-  pub columns : Becomes (finalAt (t .mode) (t .form) (t .group .len) (t .seed) flags labels greyLabels flips perms greys cols) cols new
+  pub columns : Becomes (finalAt t flags labels greyLabels flips perms greys cols) cols new
   pub grey-labels : isCmr (t .mode) ≡ true → Labels (graphOf (t .n) (t .d) fwd) (marked (t .d) grey) greyLabels
   pub grey-kept : isCmr (t .mode) ≡ false → greyLabels ≡ lent
 
@@ -135,17 +138,8 @@ pub record WriteAsks (t : Task) (xs : List ℤ) (cols : List ℕ) : Type 0 where
   pub n-high : t .n ≤ 4096
   pub size-high : t .group .len ≤ 8
   pub inside : Inside (t .n) (t .group) xs
-  pub spins : Spinning (t .n) (t .group) xs
   pub distinct : Distinct (t .group .len) (member (t .group))
-  pub reference : isGperm (t .mode) ≡ true → t .reference < t .n
   pub cols-long : length cols ≡ t .n
 
--- the group's rows are those that the columns show, each spin with its member's sign; the others' are as they were
-pub record WriteLeaves (t : Task) (cols : List ℕ) (xs ys : List ℤ) : Type 0 where
-  pub long : length ys ≡ length xs
-  pub group :
-      (i k : ℕ) → i < t .n → k < t .group .len
-      → patternOf (t .n) (t .group) ys i k ≡ signBy (t .mode) (patternOf (t .n) (t .group) xs (t .reference)) k *ℤ shown (getD cols i 0) k
-  pub others : (i s : ℕ) → i < t .n → ((k : ℕ) → k < t .group .len → s ≢ member (t .group) k) → spin (t .n) ys s i ≡ spin (t .n) xs s i
-  -- with no sites there are no rows
-  pub empty : t .n ≡ 0 → ys ≡ xs
+abbrev pub WriteLeaves : Task → List ℕ → List ℤ → List ℤ → Type 0
+WriteLeaves t cols xs ys = Written (t .n) (t .group .len) (t .group) cols xs ys

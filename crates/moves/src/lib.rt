@@ -1,8 +1,5 @@
 // The work of one task, once its input is tested: label, choose, write.
 use paper::Answer;
-use paper::Form;
-use paper::Group;
-use paper::Mode;
 use paper::Sampler;
 use paper::Task;
 ghost use Prim.Native.Nat.{ℕ};
@@ -97,10 +94,7 @@ fn label_task(
 
 // Writes each site's new column from the choices of its component. In CMR these are the blue flips.
 fn choose_columns(
-    mode: Mode,
-    form: Form,
-    group: Group,
-    seed: usize,
+    t: Task,
     acts: &[u8],
     labels: &[u32],
     tally: &[u32],
@@ -109,14 +103,18 @@ fn choose_columns(
     reached: &mut [u8],
     cols: &mut [u8],
 )
-    requires { ⌜ Choosable mode form (group .len) seed (now acts) (now labels) (now tally) (now flips) (now perms) (now reached) (now cols) ⌝ }
+    requires { ⌜ Choosable t (now acts) (now labels) (now tally) (now flips) (now perms) (now reached) (now cols) ⌝ }
     ensures { λ _. ⌜ Becomes
-        (chosenAt mode form (group .len) seed (now (acts .entry)) (now (labels .entry)) (now (flips .entry)) (now (perms .entry)) (now (cols .entry)))
+        (chosenAt t (now (acts .entry)) (now (labels .entry)) (now (flips .entry)) (now (perms .entry)) (now (cols .entry)))
         (now (cols .entry)) (now (cols .exit)) ⌝ }
 {
-    choose::reach(mode, form, seed, acts, labels, tally, reached);
+    let mode = t.mode;
+    let form = t.form;
+    let group = t.group;
+    choose::reach(mode, form, t.seed, acts, labels, tally, reached);
     if mode.is_perm() {
-        choose::permute_columns(form, group, reached, labels, perms, cols);
+        let gauge = columns::gauge(mode, group, t.reference, cols);
+        choose::permute_columns(form, group, gauge, reached, labels, perms, cols);
     } else {
         choose::flip_columns(
             form,
@@ -152,20 +150,7 @@ fn choose_task(
 {
     let mode = t.mode;
     let form = t.form;
-    let group = t.group;
-    choose_columns(
-        mode,
-        form,
-        group,
-        t.seed,
-        acts,
-        labels,
-        tally,
-        flips,
-        perms,
-        reached,
-        cols,
-    );
+    choose_columns(t, acts, labels, tally, flips, perms, reached, cols);
     if mode.is_cmr() {
         label::label(t.n, t.d, fwd, grey, grey_labels, tally);
         choose::reach(mode, form, t.seed, acts, grey_labels, tally, reached);
@@ -173,15 +158,13 @@ fn choose_task(
     }
 }
 
-// The rows of the group from its columns. The signs are still those of before the move.
+// The rows of the group from its columns.
 fn write_task(t: Task, spins: &mut [i8], cols: &[u8])
     requires { ⌜ WriteAsks t (now spins) (now cols) ⌝ }
     ensures { λ _. ⌜ WriteLeaves t (now (cols .entry)) (now (spins .entry)) (now (spins .exit)) ⌝ }
 {
-    let mode = t.mode;
     let group = t.group;
-    let signs = columns::signs(mode, spins, t.n, group, t.reference);
-    columns::write_rows(spins, t.n, group, signs, cols);
+    columns::write_rows(spins, t.n, group, cols);
 }
 
 // One task whose input is tested: labels, counts, sizes and spins as the paper has them. The work arrays are this call's own.

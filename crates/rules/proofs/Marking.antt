@@ -6,20 +6,21 @@ use Prim.Native.Nat.{ℕ, _≤_, _<_, _+_}
 use native.Mathlib.Omega.{arith}
 use native.Mathlib.Decide.{ℕ-discrete}
 use lib.ListN.{length, getD, set}
+use lib.Bits.{bitXor}
 use lib.Seq.{getD-set-same, getD-set-other}
 use Rattle.paper.specs.Component.Marks.{Tells}
 use Rattle.rules.specs.Tables.{Written, SomeMarked, Looked}
 use Rattle.rules.proofs.Bytes.{written-none, written-more}
 
 -- the first i sites are looked up
-pub record Looking (table cols old acts : List ℕ) (found : Bool) (i : ℕ) : Type 0 where
+pub record Looking (table : List ℕ) (gauge : ℕ) (cols old acts : List ℕ) (found : Bool) (i : ℕ) : Type 0 where
   pub below : i ≤ length cols
   pub long : length old ≡ length cols
-  pub written : Written 0 i (λ j. getD table (getD cols j 0) 0) old acts
+  pub written : Written 0 i (λ j. getD table (bitXor (getD cols j 0) gauge) 0) old acts
   pub tells : Tells found (SomeMarked i acts)
 
-pub looking-none : (table cols old : List ℕ) → length cols ≡ length old → Looking table cols old old false 0
-looking-none table cols old e = record { below = omega arith; long = sym e; written = written-none 0 _ old; tells = λ m. omega (arith, m .below) }
+pub looking-none : (table : List ℕ) (gauge : ℕ) (cols old : List ℕ) → length cols ≡ length old → Looking table gauge cols old old false 0
+looking-none table gauge cols old e = record { below = omega arith; long = sym e; written = written-none 0 _ old; tells = λ m. omega (arith, m .below) }
 
 -- ---- a byte is set at the site i
 module _ (acts : List ℕ) (i v : ℕ) (fits : i < length acts) where
@@ -45,13 +46,13 @@ module _ (acts : List ℕ) (i v : ℕ) (fits : i < length acts) where
   some-miss true ne t = some-on t
   some-miss false ne t = λ m. t (some-back ne m)
 
-module _ {table cols old acts : List ℕ} {found : Bool} {i : ℕ} (w : Looking table cols old acts found i) where
-  module _ (v : ℕ) (more : i < length cols) (is : v ≡ getD table (getD cols i 0) 0) where
+module _ {table : List ℕ} {gauge : ℕ} {cols old acts : List ℕ} {found : Bool} {i : ℕ} (w : Looking table gauge cols old acts found i) where
+  module _ (v : ℕ) (more : i < length cols) (is : v ≡ getD table (bitXor (getD cols i 0) gauge) 0) where
     fits : i < length acts
     fits = omega (arith, more, w .long, w .written .long)
 
     -- the byte v is set at the site i, and b tells of one site more
-    step : (b b′ : Bool) → b ≡ b′ → Tells b′ (SomeMarked (i + 1) (set acts i v)) → Looking table cols old (set acts i v) b (i + 1)
+    step : (b b′ : Bool) → b ≡ b′ → Tells b′ (SomeMarked (i + 1) (set acts i v)) → Looking table gauge cols old (set acts i v) b (i + 1)
     step b b′ e t =
         record {
           below = omega (arith, more);
@@ -60,13 +61,13 @@ module _ {table cols old acts : List ℕ} {found : Bool} {i : ℕ} (w : Looking 
           tells = subst (λ (x : Bool). Tells x (SomeMarked (i + 1) (set acts i v))) (sym e) t;
         }
 
-    pub looking-hit : (b : Bool) → b ≡ true → v ≡ 1 → Looking table cols old (set acts i v) b (i + 1)
+    pub looking-hit : (b : Bool) → b ≡ true → v ≡ 1 → Looking table gauge cols old (set acts i v) b (i + 1)
     looking-hit b e h = step b true e (some-hit acts i v fits h)
 
-    pub looking-miss : (b : Bool) → b ≡ found → (v ≡ 1 → ⊥) → Looking table cols old (set acts i v) b (i + 1)
+    pub looking-miss : (b : Bool) → b ≡ found → (v ≡ 1 → ⊥) → Looking table gauge cols old (set acts i v) b (i + 1)
     looking-miss b e h = step b found e (some-miss acts i v fits found h (w .tells))
 
-  pub looking-done : length cols ≤ i → Looked table cols acts found
+  pub looking-done : length cols ≤ i → Looked table gauge cols acts found
   looking-done h =
       let e : i ≡ length cols = omega (arith, w .below) in
       record {

@@ -66,8 +66,8 @@ tells-unique P true false a b = absurd (b a)
 tells-unique P false true a b = absurd (a b)
 tells-unique P false false a b = refl
 
-module _ (table cols acts acts′ : List ℕ) (r r′ : Bool) where
-  pub mark-active-determined : Looked table cols acts r → Looked table cols acts′ r′ → SameLooked acts r acts′ r′
+module _ (table : List ℕ) (gauge : ℕ) (cols acts acts′ : List ℕ) (r r′ : Bool) where
+  pub mark-active-determined : Looked table gauge cols acts r → Looked table gauge cols acts′ r′ → SameLooked acts r acts′ r′
   mark-active-determined a b = record { bytes = same; result = tells-unique (SomeMarked (length cols) acts) r r′ (a .tells) (rw same (b .tells)) }
     where
       there : (i : ℕ) → i < length acts → getD acts i 0 ≡ getD acts′ i 0

@@ -7,17 +7,22 @@ use native.Mathlib.Omega.{arith}
 use lib.Dec.{ltb}
 use lib.ListN.{getD}
 use lib.IntN.{ℤ, negℤ}
+use lib.Bits.{bitXor}
 use Rattle.paper.specs.declared.Mode.{Mode}
 use Rattle.paper.specs.declared.Mode.the-variants.{Houd, Pair, Perm, Gperm, Jorg, Cmr}
 use Rattle.paper.specs.Panel.Input.{Pattern}
-use Rattle.paper.specs.Site.Acting.{testBy}
+use Rattle.paper.specs.Panel.Takes.{isGperm}
+use Rattle.paper.specs.Site.Acting.{gauge, testBy}
 use Rattle.paper.specs.Component.Sizes.{bit}
 use Rattle.paper.specs.Component.Marks.{Flags, Tells}
 use Rattle.paper.specs.Move.Moving.{partner}
+use Rattle.paper.specs.Refusal.Rules.{Spin}
+use Rattle.paper.specs.Law.Patterns.{times-spin}
 use Rattle.paper.specs.Law.Partners.{partner-lt}
 use Rattle.paper.specs.Demand3.Reversible.{Spinning}
 use Rattle.paper.specs.Demand3.ActsKept.{test-ext}
 use Rattle.columns.specs.Column.{shown, columnOf, flipped, Columns, shown-column, column-ext, column-lt}
+use Rattle.columns.specs.Gauge.{gaugeOf, gauge-column}
 use Rattle.rules.specs.Tables.{Table, actsEntry, SomeMarked, Looked}
 
 -- a flip reads the first m places alone
@@ -28,6 +33,15 @@ flipped-ext Perm m f g e k h = e k h
 flipped-ext Gperm m f g e k h = e k h
 flipped-ext Jorg m f g e k h = e (partner m k) (partner-lt m k h)
 flipped-ext Cmr m f g e k h = ap negℤ (e k h)
+
+-- a gauged spin is a spin
+pub gauge-spin : (m : Mode) (P f : Pattern) (k : ℕ) → (isGperm m ≡ true → Spin (P k)) → Spin (f k) → Spin (gauge m P f k)
+gauge-spin Houd P f k sp s = s
+gauge-spin Pair P f k sp s = s
+gauge-spin Perm P f k sp s = s
+gauge-spin Gperm P f k sp s = times-spin (P k) (f k) (sp refl) s
+gauge-spin Jorg P f k sp s = s
+gauge-spin Cmr P f k sp s = s
 
 module _ (mode : Mode) (m : ℕ) (f : Pattern) (spins : Spinning m f) where
   pub test-column : 0 < m → testBy mode m (shown (columnOf m f)) ≡ testBy mode m f
@@ -71,19 +85,31 @@ module _ (n : ℕ) (t : ℕ → Bool) (acts : List ℕ) (flags : Flags n t acts)
 pub none-passes : (n : ℕ) (t : ℕ → Bool) → (SomeSite n t → ⊥) → (i : ℕ) → i < n → t i ≡ false
 none-passes n t h i l = off (t i) (λ e. h (record { site = i; below = l; does = e }))
 
-module _ (mode : Mode) (m n : ℕ) (f : ℕ → Pattern) (some : 0 < m) (spins : (i : ℕ) → i < n → Spinning m (f i)) where
-  abbrev pub siteActs : ℕ → Bool
-  siteActs i = testBy mode m (f i)
+-- site i has the pattern f i, and P is that of the reference site
+module _
+    (mode : Mode) (m n : ℕ) (P : Pattern) (f : ℕ → Pattern) (some : 0 < m)
+    (reference : isGperm mode ≡ true → Spinning m P) (spins : (i : ℕ) → i < n → Spinning m (f i))
+  where
+    abbrev pub siteActs : ℕ → Bool
+    siteActs i = testBy mode m (gauge mode P (f i))
 
-  module _ {t cols acts : List ℕ} {r : Bool} (rule : Table m (actsEntry mode m) t) (panel : Columns n m f cols) (looked : Looked t cols acts r) where
-    entry : (i : ℕ) → i < n → getD t (columnOf m (f i)) 0 ≡ bit (siteActs i)
-    entry i h = rule .at (columnOf m (f i)) (column-lt m (f i)) ∙ ap bit (test-column mode m (f i) (spins i h) some)
+    module _
+        {t cols acts : List ℕ} {g : ℕ} {r : Bool} (rule : Table m (actsEntry mode m) t) (panel : Columns n m f cols)
+        (gauged : g ≡ gaugeOf mode m (columnOf m P)) (looked : Looked t g cols acts r)
+      where
+        seen : (i : ℕ) → i < n → bitXor (getD cols i 0) g ≡ columnOf m (gauge mode P (f i))
+        seen i h = rw (panel .at i h, gauged) (gauge-column mode m P (f i) reference (spins i h))
 
-    byte : (i : ℕ) → i < n → getD acts i 0 ≡ bit (siteActs i)
-    byte i h = looked .at i (omega (arith, panel .long)) ∙ (ap (λ (x : ℕ). getD t x 0) (panel .at i h) ∙ entry i h)
+        entry : (i : ℕ) → i < n → getD t (columnOf m (gauge mode P (f i))) 0 ≡ bit (siteActs i)
+        entry i h =
+            rule .at (columnOf m (gauge mode P (f i))) (column-lt m (gauge mode P (f i)))
+            ∙ ap bit (test-column mode m (gauge mode P (f i)) (λ k l. gauge-spin mode P (f i) k (λ e. reference e k l) (spins i h k l)) some)
 
-    pub looked-flags : Flags n siteActs acts
-    looked-flags = record { long = looked .long ∙ panel .long; at = byte }
+        byte : (i : ℕ) → i < n → getD acts i 0 ≡ bit (siteActs i)
+        byte i h = looked .at i (omega (arith, panel .long)) ∙ (ap (λ (x : ℕ). getD t x 0) (seen i h) ∙ entry i h)
 
-    pub looked-tells : Tells r (SomeSite n siteActs)
-    looked-tells = flags-tell n siteActs acts looked-flags r (subst (λ (x : ℕ). Tells r (SomeMarked x acts)) (panel .long) (looked .tells))
+        pub looked-flags : Flags n siteActs acts
+        looked-flags = record { long = looked .long ∙ panel .long; at = byte }
+
+        pub looked-tells : Tells r (SomeSite n siteActs)
+        looked-tells = flags-tell n siteActs acts looked-flags r (subst (λ (x : ℕ). Tells r (SomeMarked x acts)) (panel .long) (looked .tells))

@@ -8,16 +8,14 @@ use lib.ListN.{length, getD}
 use lib.IntN.{ℤ}
 use Rattle.paper.specs.declared.Group.{Group}
 use Rattle.paper.specs.declared.Mode.{Mode}
-use Rattle.paper.specs.declared.Mode.the-variants.{Houd, Pair, Perm, Gperm, Jorg, Cmr}
 use Rattle.paper.specs.Panel.Input.{Call, Pattern, patternOf, size}
 use Rattle.paper.specs.Panel.Takes.{isGperm}
 use Rattle.paper.specs.Site.Acting.{gauge, testBy, acts, SomeActs, NoneActs}
 use Rattle.paper.specs.Component.Sizes.{bit}
 use Rattle.paper.specs.Component.Marks.{Flags, Tells}
 use Rattle.paper.specs.Refusal.Rules.{Spin}
-use Rattle.paper.specs.Law.Patterns.{times-spin}
 use Rattle.columns.specs.Column.{Inside, Spinning, Columns}
-use Rattle.rules.specs.Laws.{SomeSite, none-passes}
+use Rattle.rules.specs.Laws.{SomeSite, none-passes, gauge-spin}
 
 -- the group's pattern at the site i as the mode sees it, with the reference site q
 abbrev pub seenBy : Mode → ℕ → Group → ℕ → List ℤ → ℕ → Pattern
@@ -52,17 +50,9 @@ pub record Seeable (mode : Mode) (n : ℕ) (g : Group) (q : ℕ) (xs : List ℤ)
 
 -- what it leaves
 pub record Sights (mode : Mode) (n : ℕ) (g : Group) (q : ℕ) (xs : List ℤ) (cols flags : List ℕ) (r : Bool) : Type 0 where
-  pub columns : Columns n (g .len) (seenBy mode n g q xs) cols
+  pub columns : Columns n (g .len) (patternOf n g xs) cols
   pub flagged : Flags n (actsAt mode n g q xs) flags
   pub some : Tells r (SomeSite n (actsAt mode n g q xs))
-
-pub gauge-spin : (m : Mode) (P f : Pattern) (k : ℕ) → (isGperm m ≡ true → Spin (P k)) → Spin (f k) → Spin (gauge m P f k)
-gauge-spin Houd P f k sp s = s
-gauge-spin Pair P f k sp s = s
-gauge-spin Perm P f k sp s = s
-gauge-spin Gperm P f k sp s = times-spin (P k) (f k) (sp refl) s
-gauge-spin Jorg P f k sp s = s
-gauge-spin Cmr P f k sp s = s
 
 module _ (mode : Mode) (n : ℕ) (g : Group) (q : ℕ) (xs : List ℤ) (spins : Spinning n g xs) (reference : isGperm mode ≡ true → q < n) where
   pub seen-spin : (i k : ℕ) → i < n → k < g .len → Spin (seenBy mode n g q xs i k)

@@ -4,6 +4,7 @@ use mathlib.Core.Path.{_≡_}
 use mathlib.Core.Bool.{Bool}
 use mathlib.Core.List.{List}
 use lib.ListN.{length, getD}
+use lib.Bits.{bitXor}
 use lib.IntN.{ℤ, pos}
 use Rattle.paper.specs.declared.Group.{Group}
 use Rattle.paper.specs.declared.Mode.{Mode}
@@ -56,8 +57,8 @@ pub record SomeMarked (n : ℕ) (xs : List ℕ) : Type 0 where
   pub below : site < n
   pub is : getD xs site 0 ≡ 1
 
--- acts has at each site the table's entry for the site's column, and r tells whether one of them is 1
-pub record Looked (table cols acts : List ℕ) (r : Bool) : Type 0 where
+-- acts has at each site the table's entry for the site's column as the gauge shows it, and r tells whether one of them is 1
+pub record Looked (table : List ℕ) (gauge : ℕ) (cols acts : List ℕ) (r : Bool) : Type 0 where
   pub long : length acts ≡ length cols
-  pub at : (i : ℕ) → i < length cols → getD acts i 0 ≡ getD table (getD cols i 0) 0
+  pub at : (i : ℕ) → i < length cols → getD acts i 0 ≡ getD table (bitXor (getD cols i 0) gauge) 0
   pub tells : Tells r (SomeMarked (length cols) acts)

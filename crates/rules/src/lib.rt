@@ -222,15 +222,15 @@ pub fn flip_table(mode: Mode, group: Group) -> [u8; 256]
 }
 
 // Looks each site's column up, and tells whether some site's byte is 1.
-pub fn mark_active(table: [u8; 256], cols: &[u8], acts: &mut [u8]) -> bool
+pub fn mark_active(table: [u8; 256], gauge: u8, cols: &[u8], acts: &mut [u8]) -> bool
     requires { ⌜ length (now cols) ≡ length (now acts) ⌝ }
-    ensures { λ r. ⌜ Looked table (now (cols .entry)) (now (acts .exit)) r ⌝ }
+    ensures { λ r. ⌜ Looked table gauge (now (cols .entry)) (now (acts .exit)) r ⌝ }
 {
     let n = cols.len();
     let mut found = false;
     let mut i: usize = 0;
     while i < n {
-        let a = table[cols[i] as usize];
+        let a = table[(cols[i] ^ gauge) as usize];
         acts[i] = a;
         if a == 1 {
             found = true;
@@ -253,9 +253,9 @@ pub fn look(
     requires { ⌜ Seeable mode n group reference (now spins) (now cols) (now acts) ⌝ }
     ensures { λ r. ⌜ Sights mode n group reference (now (spins .entry)) (now (cols .exit)) (now (acts .exit)) r ⌝ }
 {
-    let signs = columns::signs(mode, spins, n, group, reference);
-    columns::pack(spins, n, group, signs, cols);
-    mark_active(acts_table(mode, group), cols, acts)
+    columns::pack(spins, n, group, cols);
+    let gauge = columns::gauge(mode, group, reference, cols);
+    mark_active(acts_table(mode, group), gauge, cols, acts)
 }
 
 // Whether some site acts.

@@ -5,6 +5,7 @@ use mathlib.Core.Logic.{⊎-elim}
 use denote.Ref.{now}
 use native.Mathlib.Omega.{arith}
 use lib.ListN.{length, getD}
+use lib.Bits.{bitXor}
 use borrow.Author.Needs.{needs}
 use Rattle.paper.specs.Panel.Takes.{entry}
 use Rattle.choose.specs.Chosen.{permutedAt}
@@ -15,10 +16,10 @@ use Rattle.choose.proofs.permute_columns.Statement.{statement}
 use Rattle.choose.proofs.permute_columns.Tie as tie
 
 abbrev Inv-loop : tie.InvT-loop
-Inv-loop form group reached labels perms cols₀ n len i₀ cols i = Passed (permutedAt form (group .len) reached labels perms cols₀) cols₀ i cols
+Inv-loop form group gauge reached labels perms cols₀ n len i₀ cols i = Passed (permutedAt form (group .len) gauge reached labels perms cols₀) cols₀ i cols
 
 abbrev μ-loop : tie.MeasureT-loop
-μ-loop form group reached labels perms cols₀ n len i₀ cols i = length cols₀ - i
+μ-loop form group gauge reached labels perms cols₀ n len i₀ cols i = length cols₀ - i
 
 abbrev Turn : Type 0
 Turn = tie.In-loop Inv-loop μ-loop
@@ -71,8 +72,8 @@ mul-a c = omega (arith, at c, within (turn c))
 add-e : tie.Need-add-e Inv-loop μ-loop
 add-e c = omega (arith, at c, within (turn c))
 
-slice-read-permute-group-site : tie.Need-slice-read-permute-group-site Inv-loop μ-loop
-slice-read-permute-group-site c = search needs
+slice-read-seen : tie.Need-slice-read-seen Inv-loop μ-loop
+slice-read-seen c = search needs
 
 sub-permute-group-site : tie.Need-sub-permute-group-site Inv-loop μ-loop
 sub-permute-group-site c = search needs
@@ -107,8 +108,8 @@ loop-again c =
     ⊎-elim
     (λ w. let e = row-at (a .form) _ m (w .2 .ensures) (w .3 .ensures) in
     rw (w .7)
-    (pass-more _ _ (l .i) (l .cols) (w .6 .result) (l .inv) (t .loop-test .taken)
-    (moved (a .form) m (now (a .reached)) (now (a .labels)) (now (a .perms)) (now (a .cols)) (l .i) _ _ (w .6 .result)
+    (pass-more _ _ (l .i) (l .cols) (bitXor (w .6 .result) (a .gauge)) (l .inv) (t .loop-test .taken)
+    (moved (a .form) m (a .gauge) (now (a .reached)) (now (a .labels)) (now (a .perms)) (now (a .cols)) (l .i) _ _ (w .6 .result)
     (w .0 .taken)
     e
     (same t)
@@ -116,7 +117,7 @@ loop-again c =
     (w .6 .ensures))))
     (λ w. rw (w .1)
     (pass-skip _ _ (l .i) (l .cols) (l .inv) (t .loop-test .taken)
-    (kept (a .form) m (now (a .reached)) (now (a .labels)) (now (a .perms)) (now (a .cols)) (l .i) (w .0 .left))))
+    (kept (a .form) m (a .gauge) (now (a .reached)) (now (a .labels)) (now (a .perms)) (now (a .cols)) (l .i) (w .0 .left))))
     (c .if1 .came)
 
 same-length : tie.Need-same-length Inv-loop μ-loop
@@ -139,7 +140,7 @@ permute-columns-spec =
     entry-of-requires
     mul-a
     add-e
-    slice-read-permute-group-site
+    slice-read-seen
     sub-permute-group-site
     part-permute-group-site-start
     part-permute-group-site-end

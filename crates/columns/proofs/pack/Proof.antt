@@ -3,23 +3,19 @@ use mathlib.Core.Path.{_≡_}
 use denote.Ref.{now}
 use Prim.Native.Nat.{_+_, _-_, _*_, _≤_}
 use native.Mathlib.Omega.{arith}
-use lib.ListN.{length, getD, length-take, length-drop}
-use lib.IntN.{pos}
-use mir.Syntax.{w8}
-use mir.ValLaws.{toZ-ofZ}
-use Rattle.paper.specs.Panel.Input.{member}
+use lib.ListN.{length, length-take, length-drop}
+use Rattle.paper.specs.Panel.Input.{member, patternOf}
 use Rattle.columns.specs.Column.{Columns}
-use Rattle.columns.specs.Rows.{signed}
 use Rattle.columns.proofs.Packed.{room, weight, none-packed, row-packed, row-test}
 use borrow.Author.Needs.{needs}
 use Rattle.columns.proofs.pack.Statement.{statement}
 use Rattle.columns.proofs.pack.Tie as tie
 
 abbrev Inv-loop : tie.InvT-loop
-Inv-loop spins n cols₀ group signs len k₀ cols k = (k ≤ len) × Columns n k (signed n group signs spins) cols
+Inv-loop spins n cols₀ group len k₀ cols k = (k ≤ len) × Columns n k (patternOf n group spins) cols
 
 abbrev μ-loop : tie.MeasureT-loop
-μ-loop spins n cols₀ group signs len k₀ cols k = len - k
+μ-loop spins n cols₀ group len k₀ cols k = len - k
 
 abbrev S : tie.In-loop Inv-loop μ-loop → tie.Start Inv-loop μ-loop
 S l = l .before .before .before .before .before .before .before
@@ -34,9 +30,6 @@ clear-requires c κs = search needs
 loop-holds : tie.Need-loop-holds Inv-loop μ-loop
 loop-holds c = let s = c .before .before .before .before .before in (search needs, none-packed (s .pre .long) (c .before .before .clear .ensures))
 
-array-copy-out-plus : tie.Need-array-copy-out-plus Inv-loop μ-loop
-array-copy-out-plus c = search needs
-
 mul-s : tie.Need-mul-s Inv-loop μ-loop
 mul-s c = search needs
 
@@ -44,10 +37,10 @@ element-copy-out-s : tie.Need-element-copy-out-s Inv-loop μ-loop
 element-copy-out-s c = search needs
 
 mul-a : tie.Need-mul-a Inv-loop μ-loop
-mul-a c = omega (arith, row (c .before .before))
+mul-a c = omega (arith, row (c .before))
 
 add-e : tie.Need-add-e Inv-loop μ-loop
-add-e c = omega (arith, row (c .before .before))
+add-e c = omega (arith, row (c .before))
 
 sub-pack-row : tie.Need-sub-pack-row Inv-loop μ-loop
 sub-pack-row c = search needs
@@ -56,7 +49,7 @@ part-pack-row-start : tie.Need-part-pack-row-start Inv-loop μ-loop
 part-pack-row-start c = search needs
 
 part-pack-row-end : tie.Need-part-pack-row-end Inv-loop μ-loop
-part-pack-row-end c = omega (arith, row (c .before .before))
+part-pack-row-end c = omega (arith, row (c .before))
 
 cast-pack-row : tie.Need-cast-pack-row Inv-loop μ-loop
 cast-pack-row c = search needs
@@ -66,7 +59,7 @@ shl-pack-row c = search needs
 
 pack-row-requires : tie.Need-pack-row-requires Inv-loop μ-loop
 pack-row-requires c κs =
-    let l = c .before .before .before .before in
+    let l = c .before .before .before in
     let was = l .before .loop .inv .1 in
     record {
       long = simp (length-take, length-drop) (omega (arith, row l, was .long));
@@ -81,14 +74,13 @@ loop-less c = search needs
 
 loop-again : tie.Need-loop-again Inv-loop μ-loop
 loop-again c =
-    let l = c .before .before .before .before .before .before .before in
+    let l = c .before .before .before .before .before .before in
     let k = l .before .loop .k in
     let a = S l .args in
-    let sign = toZ-ofZ w8 (getD (a .t4) k (pos 0)) (record { sfits = c .before .before .before .before .before .before .plus .given }) in
     let h = l .loop-test .taken in (
       omega (arith, h),
       row-packed (l .before .loop .inv .1) (weight k (omega arith)) (c .before .before .pack-row .ensures)
-          (λ i j. row-test (now (a .spins)) (member (a .t3) k * a .n) (a .n) i _ _ j sign (S l .pre .signs k h) (S l .pre .spins i k j h)),
+          (λ i j. row-test (now (a .spins)) (member (a .t3) k * a .n) (a .n) i j),
     )
 
 same-length : tie.Need-same-length Inv-loop μ-loop
@@ -107,7 +99,6 @@ pack-spec =
     μ-loop
     clear-requires
     loop-holds
-    array-copy-out-plus
     mul-s
     element-copy-out-s
     mul-a

@@ -6,10 +6,9 @@ use native.Mathlib.Omega.{arith}
 use lib.ListN.{length, getD}
 use lib.IntN.{ℤ, pos}
 use mir.Syntax.{w8}
-use mir.Val.{toZ, ofZ}
 use mir.ValLaws.{toZ-ofZ}
 use Rattle.paper.specs.Component.Sizes.{bit}
-use Rattle.paper.specs.Site.Acting.{eqZ}
+use Rattle.columns.specs.Column.{isUp}
 use Rattle.columns.specs.Rows.{added}
 use Rattle.columns.specs.Bits.{bit-times}
 use Rattle.columns.specs.Filled.{Filled, filled-none, filled-more}
@@ -18,10 +17,10 @@ use Rattle.columns.proofs.pack_row.Statement.{statement}
 use Rattle.columns.proofs.pack_row.Tie as tie
 
 abbrev Inv-loop : tie.InvT-loop
-Inv-loop row plus weight cols₀ n i₀ cols i = (i ≤ n) × Filled 0 (added cols₀ row (toZ w8 plus) weight) i cols₀ cols
+Inv-loop row weight cols₀ n i₀ cols i = (i ≤ n) × Filled 0 (added cols₀ row weight) i cols₀ cols
 
 abbrev μ-loop : tie.MeasureT-loop
-μ-loop row plus weight cols₀ n i₀ cols i = n - i
+μ-loop row weight cols₀ n i₀ cols i = n - i
 
 abbrev S : tie.In-loop Inv-loop μ-loop → tie.Start Inv-loop μ-loop
 S l = l .before .before .before
@@ -29,21 +28,18 @@ S l = l .before .before .before
 abbrev L : tie.After-weigh Inv-loop μ-loop → tie.In-loop Inv-loop μ-loop
 L c = c .before .before .before
 
--- what a turn reads: the row's spin, the sign as its bits have it, and the column, which is as it was
+-- what a turn reads: the row's spin, and the column, which is as it was
 abbrev spin : tie.In-loop Inv-loop μ-loop → ℤ
 spin l = getD (now (S l .args .row)) (l .before .loop .i) (pos 0)
-
-abbrev sign : tie.In-loop Inv-loop μ-loop → ℤ
-sign l = toZ w8 (ofZ w8 (S l .args .plus))
 
 was : (l : tie.In-loop Inv-loop μ-loop) → let i = l .before .loop .i in getD (l .before .loop .cols) i 0 ≡ getD (now (S l .args .cols)) i 0
 was l = l .before .loop .inv .1 .rest (l .before .loop .i) (omega arith)
 
 -- and what it adds
-adds : (c : tie.After-weigh Inv-loop μ-loop) → c .weigh .result ≡ bit (eqZ (spin (L c)) (sign (L c))) * S (L c) .args .weight
+adds : (c : tie.After-weigh Inv-loop μ-loop) → c .weigh .result ≡ bit (isUp (spin (L c))) * S (L c) .args .weight
 adds c =
     c .weigh .ensures
-    ∙ ap (λ (z : ℤ). bit (eqZ z (sign (L c))) * S (L c) .args .weight) (toZ-ofZ w8 (spin (L c)) (record { sfits = c .before .weigh-arg .given }))
+    ∙ ap (λ (z : ℤ). bit (isUp z) * S (L c) .args .weight) (toZ-ofZ w8 (spin (L c)) (record { sfits = c .before .weigh-arg .given }))
 
 loop-holds : tie.Need-loop-holds Inv-loop μ-loop
 loop-holds c = (search needs, filled-none 0 _ _)
@@ -61,7 +57,7 @@ add-cols : tie.Need-add-cols Inv-loop μ-loop
 add-cols c =
     let l = L c in
     let room = S l .pre .fits (l .before .loop .i) (l .loop-test .taken) in
-    omega (arith, was l, adds c, bit-times (eqZ (spin l) (sign l)) (S l .args .weight), room)
+    omega (arith, was l, adds c, bit-times (isUp (spin l)) (S l .args .weight), room)
 
 slice-write-cols : tie.Need-slice-write-cols Inv-loop μ-loop
 slice-write-cols c = omega (arith, c .before .before .before .before .loop .inv .1 .long)
@@ -84,7 +80,7 @@ returns : tie.Need-returns Inv-loop μ-loop
 returns c =
     let s = c .before .before .before in
     let e : c .before .loop .i ≡ length (now (s .args .cols)) = omega arith in
-    rw (e, toZ-ofZ w8 (s .args .plus) (s .fits .plus)) at (c .before .loop .inv .1)
+    rw e at (c .before .loop .inv .1)
 
 pub pack-row-spec : {M : Type 1} → statement M
 pack-row-spec =

@@ -1,6 +1,4 @@
 -- `pick` meets its contract, by the test of the bit.
-use mir.Syntax.{w8}
-use mir.ValLaws.{toZ-ofZ}
 use borrow.Author.Needs.{needs}
 use borrow.Author.Tests.{eq-eqb, ne-eqb}
 use Rattle.columns.proofs.pick.Statement.{statement}
@@ -13,10 +11,10 @@ shr-b : tie.Need-shr-b
 shr-b c = search needs
 
 returns : tie.Need-returns
-returns c = let s = c .before in rw (eq-eqb _ _ (c .if1 .taken)) (toZ-ofZ w8 (s .args .plus) (s .fits .plus))
+returns c = rw (eq-eqb _ _ (c .if1 .taken))
 
 returns-2 : tie.Need-returns-2
-returns-2 c = let s = c .before in rw (ne-eqb _ _ (c .if1 .left)) (toZ-ofZ w8 (s .args .minus) (s .fits .minus))
+returns-2 c = rw (ne-eqb _ _ (c .if1 .left))
 
 pub pick-spec : {M : Type 1} → statement M
 pick-spec = tie.close (tie.spec cast-b shr-b returns returns-2)

@@ -4,25 +4,20 @@ use denote.Ref.{now}
 use Prim.Native.Nat.{_-_, _≤_}
 use native.Mathlib.Omega.{arith}
 use lib.ListN.{length, getD}
-use lib.IntN.{pos, _*ℤ_}
+use lib.IntN.{pos}
 use mir.Syntax.{w8}
-use mir.Val.{toZ}
 use mir.ValLaws.{toZ-ofZ}
-use Rattle.columns.specs.Column.{bitOf, shown}
+use Rattle.columns.specs.Column.{shown}
 use Rattle.columns.specs.Filled.{Filled, filled-none, filled-more}
-use Rattle.columns.proofs.Ints.{minus-fits, turned}
 use borrow.Author.Needs.{needs}
 use Rattle.columns.proofs.write_row.Statement.{statement}
 use Rattle.columns.proofs.write_row.Tie as tie
 
 abbrev Inv-loop : tie.InvT-loop
-Inv-loop row₀ cols k plus n minus i₀ row i = (i ≤ n) × Filled (pos 0) (λ j. toZ w8 plus *ℤ shown (getD cols j 0) k) i row₀ row
+Inv-loop row₀ cols k n i₀ row i = (i ≤ n) × Filled (pos 0) (λ j. shown (getD cols j 0) k) i row₀ row
 
 abbrev μ-loop : tie.MeasureT-loop
-μ-loop row₀ cols k plus n minus i₀ row i = n - i
-
-sub-minus : tie.Need-sub-minus Inv-loop μ-loop
-sub-minus c = minus-fits (c .before .args .plus) (c .before .pre .sign)
+μ-loop row₀ cols k n i₀ row i = n - i
 
 loop-holds : tie.Need-loop-holds Inv-loop μ-loop
 loop-holds c = (search needs, filled-none (pos 0) _ _)
@@ -45,9 +40,7 @@ loop-less c = search needs
 loop-again : tie.Need-loop-again Inv-loop μ-loop
 loop-again c =
     let l = c .before .before in
-    let s = l .before .before .before in
-    let at = bitOf (getD (now (s .args .cols)) (l .before .loop .i) 0) (s .args .k) in
-    let e = toZ-ofZ w8 (c .pick .result) (record { sfits = c .pick .ok }) ∙ (c .pick .ensures ∙ turned (s .args .plus) at (s .pre .sign)) in
+    let e = toZ-ofZ w8 (c .pick .result) (record { sfits = c .pick .ok }) ∙ c .pick .ensures in
     (omega (arith, l .loop-test .taken), filled-more (l .before .loop .inv .1) (l .loop-test .taken) e)
 
 same-length : tie.Need-same-length Inv-loop μ-loop
@@ -57,7 +50,7 @@ returns : tie.Need-returns Inv-loop μ-loop
 returns c =
     let s = c .before .before .before in
     let e : c .before .loop .i ≡ length (now (s .args .row)) = omega arith in
-    rw (e, toZ-ofZ w8 (s .args .plus) (s .fits .plus)) at (c .before .loop .inv .1)
+    rw e at (c .before .loop .inv .1)
 
 pub write-row-spec : {M : Type 1} → statement M
 write-row-spec =
@@ -65,7 +58,6 @@ write-row-spec =
     (tie.spec
     Inv-loop
     μ-loop
-    sub-minus
     loop-holds
     shared-slice-read-pick
     pick-requires

@@ -3,11 +3,7 @@ use mathlib.Core.Path.{_≡_}
 use denote.Ref.{now}
 use Prim.Native.Nat.{_+_, _-_, _*_, _≤_}
 use native.Mathlib.Omega.{arith}
-use lib.ListN.{length, getD, length-take, length-drop}
-use lib.IntN.{pos}
-use mir.Syntax.{w8}
-use mir.Val.{toZ, ofZ}
-use mir.ValLaws.{toZ-ofZ}
+use lib.ListN.{length, length-take, length-drop}
 use Rattle.paper.specs.Panel.Input.{member}
 use Rattle.columns.specs.Rows.{Written}
 use Rattle.columns.proofs.Lent.{none-written, row-written}
@@ -16,10 +12,10 @@ use Rattle.columns.proofs.write_rows.Statement.{statement}
 use Rattle.columns.proofs.write_rows.Tie as tie
 
 abbrev Inv-loop : tie.InvT-loop
-Inv-loop spins₀ n cols group signs len k₀ spins k = (k ≤ len) × Written n k group signs cols spins₀ spins
+Inv-loop spins₀ n cols group len k₀ spins k = (k ≤ len) × Written n k group cols spins₀ spins
 
 abbrev μ-loop : tie.MeasureT-loop
-μ-loop spins₀ n cols group signs len k₀ spins k = len - k
+μ-loop spins₀ n cols group len k₀ spins k = len - k
 
 abbrev S : tie.In-loop Inv-loop μ-loop → tie.Start Inv-loop μ-loop
 S l = l .before .before .before
@@ -28,14 +24,8 @@ S l = l .before .before .before
 row : (l : tie.In-loop Inv-loop μ-loop) → let a = S l .args in member (a .t3) (l .before .loop .k) * a .n + a .n ≤ length (now (a .spins))
 row l = S l .pre .inside (l .before .loop .k) (l .loop-test .taken)
 
-sign : (c : tie.After-plus Inv-loop μ-loop) → let z = getD (S (c .before) .args .t4) (c .before .before .loop .k) (pos 0) in toZ w8 (ofZ w8 z) ≡ z
-sign c = toZ-ofZ w8 (getD (S (c .before) .args .t4) (c .before .before .loop .k) (pos 0)) (record { sfits = c .plus .given })
-
 loop-holds : tie.Need-loop-holds Inv-loop μ-loop
 loop-holds c = (search needs, none-written)
-
-array-copy-out-plus : tie.Need-array-copy-out-plus Inv-loop μ-loop
-array-copy-out-plus c = search needs
 
 mul-s : tie.Need-mul-s Inv-loop μ-loop
 mul-s c = search needs
@@ -44,10 +34,10 @@ element-copy-out-s : tie.Need-element-copy-out-s Inv-loop μ-loop
 element-copy-out-s c = search needs
 
 mul-a : tie.Need-mul-a Inv-loop μ-loop
-mul-a c = omega (arith, row (c .before .before))
+mul-a c = omega (arith, row (c .before))
 
 add-e : tie.Need-add-e Inv-loop μ-loop
-add-e c = omega (arith, row (c .before .before))
+add-e c = omega (arith, row (c .before))
 
 sub-write-row : tie.Need-sub-write-row Inv-loop μ-loop
 sub-write-row c = search needs
@@ -56,14 +46,13 @@ part-write-row-start : tie.Need-part-write-row-start Inv-loop μ-loop
 part-write-row-start c = search needs
 
 part-write-row-end : tie.Need-part-write-row-end Inv-loop μ-loop
-part-write-row-end c = let l = c .before .before in omega (arith, row l, l .before .loop .inv .1 .long)
+part-write-row-end c = let l = c .before in omega (arith, row l, l .before .loop .inv .1 .long)
 
 write-row-requires : tie.Need-write-row-requires Inv-loop μ-loop
 write-row-requires c κs =
-    let l = c .before .before .before in
+    let l = c .before .before in
     record {
       place = omega arith;
-      sign = rw (sign (c .before .before)) (S l .pre .signs (l .before .loop .k) (l .loop-test .taken));
       long = simp (length-take, length-drop) (omega (arith, row l, l .before .loop .inv .1 .long, S l .pre .long));
     }
 
@@ -75,10 +64,9 @@ loop-less c = search needs
 
 loop-again : tie.Need-loop-again Inv-loop μ-loop
 loop-again c =
-    let l = c .before .before .before .before .before in
+    let l = c .before .before .before .before in
     let h = l .loop-test .taken in
-    let is = sign (c .before .before .before .before) in
-    (omega (arith, h), row-written h (l .before .loop .inv .1) (S l .pre .inside) (S l .pre .distinct) is (c .before .write-row .ensures))
+    (omega (arith, h), row-written h (l .before .loop .inv .1) (S l .pre .inside) (S l .pre .distinct) (c .before .write-row .ensures))
 
 same-length : tie.Need-same-length Inv-loop μ-loop
 same-length c = omega (arith, c .before .loop .inv .1 .long)
@@ -95,7 +83,6 @@ write-rows-spec =
     Inv-loop
     μ-loop
     loop-holds
-    array-copy-out-plus
     mul-s
     element-copy-out-s
     mul-a

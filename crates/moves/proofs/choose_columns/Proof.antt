@@ -1,4 +1,4 @@
--- `choose_columns` meets its contract: the sites that are reached get the column that their choice makes, by a row or by a flip.
+-- `choose_columns` meets its contract: the reached sites, then permutations or flips.
 use borrow.Author.Needs.{needs}
 use mathlib.Core.Path.{_≡_, refl, sym, _∙_}
 use mathlib.Core.Bool.{true, false}
@@ -11,21 +11,24 @@ use Rattle.moves.specs.Choosing.{by-flips, by-perms}
 use Rattle.moves.proofs.choose_columns.Statement.{statement}
 use Rattle.moves.proofs.choose_columns.Tie as tie
 
-abbrev S : tie.After-reach-arg → tie.Start
-S c = c .before .before .before .before .before .before .before .before
+abbrev S : tie.After-reach → tie.Start
+S r = r .before .before .before .before .before .before .before .before .before .before
 
-perm-yes : (c : tie.Then1) → isPerm (S (c .before .before .before .before .before) .args .mode) ≡ true
-perm-yes c = sym (c .before .is-perm .ensures) ∙ c .if1 .taken
+abbrev R : tie.After-is-perm → tie.After-reach
+R i = i .before .before .before
 
-perm-no : (c : tie.Else1) → isPerm (S (c .before .before .before .before .before) .args .mode) ≡ false
-perm-no c = sym (c .before .is-perm .ensures) ∙ c .if1 .left
+perm-yes : (m : tie.Then1) → isPerm (S (R (m .before)) .args .t .mode) ≡ true
+perm-yes m = sym (m .before .is-perm .ensures) ∙ m .if1 .taken
+
+perm-no : (m : tie.Else1) → isPerm (S (R (m .before)) .args .t .mode) ≡ false
+perm-no m = sym (m .before .is-perm .ensures) ∙ m .if1 .left
 
 flips-taken : (f : Form) (m : Mode) → isSw f ≡ true → isPerm m ≡ false → flipsBy m f ≡ true
 flips-taken f m e q = rw (e, q) refl
 
 reach-requires : tie.Need-reach-requires
 reach-requires c κs =
-    let s = S c in
+    let s = c .before .before .before .before .before .before .before .before .before in
     let p = s .pre in
     record {
       labelled = p .labels-long ∙ sym (p .flags-long);
@@ -38,11 +41,15 @@ reach-requires c κs =
 is-perm-requires : tie.Need-is-perm-requires
 is-perm-requires c κs = search needs
 
+gauge-requires : tie.Need-gauge-requires
+gauge-requires c κs = let p = S (R (c .before .before)) .pre in record { few = p .size-high; site = p .reference }
+
 permute-columns-requires : tie.Need-permute-columns-requires
 permute-columns-requires c κs =
-    let r = c .before .before .before .before .before .before in
-    let p = S (r .before) .pre in
-    let e = perm-yes (c .before .before) in
+    let m = c .before .before .before .before in
+    let r = R (m .before) in
+    let p = S r .pre in
+    let e = perm-yes m in
     record {
       sites = record { marked = r .reach .ensures .long ∙ p .flags-long; labelled = p .labels-long; below = p .below };
       moving = p .moving;
@@ -52,15 +59,17 @@ permute-columns-requires c κs =
     }
 
 flip-table-requires : tie.Need-flip-table-requires
-flip-table-requires c κs = let p = S (c .before .before .before .before .before .before) .pre in record { some = p .size-low; few = p .size-high }
+flip-table-requires c κs = let p = S (R (c .before .before)) .pre in record { some = p .size-low; few = p .size-high }
 
 flip-columns-requires : tie.Need-flip-columns-requires
 flip-columns-requires c κs =
-    let r = c .before .before .before .before .before .before .before in
-    let p = S (r .before) .pre in
+    let m = c .before .before .before in
+    let r = R (m .before) in
+    let s = S r in
+    let p = s .pre in
     record {
       sites = record { marked = r .reach .ensures .long ∙ p .flags-long; labelled = p .labels-long; below = p .below };
-      lent = λ e. p .flips-long (flips-taken (S (r .before) .args .form) (S (r .before) .args .mode) e (perm-no (c .before .before .before)));
+      lent = λ e. p .flips-long (flips-taken (s .args .t .form) (s .args .t .mode) e (perm-no m));
     }
 
 same-length : tie.Need-same-length
@@ -71,17 +80,19 @@ same-length-2 c = search needs
 
 returns : tie.Need-returns
 returns c =
-    let b = c .before .before .permute-columns .ensures in
-    let then = c .before .before .before .before .before in
-    let r = then .before .before .before .before in
-    let a = S (r .before) .args in
-    let p = S (r .before) .pre in
+    let k = c .before .before in
+    let g = k .before .before .before in
+    let m = g .before .before in
+    let r = R (m .before) in
+    let a = S r .args in
+    let p = S r .pre in
+    let b = k .permute-columns .ensures in
     record {
       long = b .long;
       at = λ i l.
           b .at i l
-          ∙ by-perms (a .mode) (a .form) (a .group .len) (a .seed) (length (now (a .acts))) (now (a .acts)) (now (a .labels)) (now (a .flips))
-          (now (a .perms)) _ (now (a .cols)) (r .reach .ensures) (perm-yes then) i (rw (p .flags-long) l);
+          ∙ by-perms (a .t) (length (now (a .acts))) (now (a .acts)) (now (a .labels)) (now (a .flips)) (now (a .perms)) _ (now (a .cols)) (r .reach .ensures)
+          _ (g .gauge .ensures) (perm-yes m) i (rw (p .flags-long) l);
     }
 
 same-length-3 : tie.Need-same-length-3
@@ -92,18 +103,19 @@ same-length-4 c = search needs
 
 returns-2 : tie.Need-returns-2
 returns-2 c =
-    let b = c .before .before .flip-columns .ensures in
-    let table = c .before .before .before .before in
-    let other = table .before .before in
-    let r = other .before .before .before .before in
-    let a = S (r .before) .args in
-    let p = S (r .before) .pre in
+    let k = c .before .before in
+    let table = k .before .before in
+    let m = table .before .before in
+    let r = R (m .before) in
+    let a = S r .args in
+    let p = S r .pre in
+    let b = k .flip-columns .ensures in
     record {
       long = b .long;
       at = λ i l.
           b .at i l
-          ∙ by-flips (a .mode) (a .form) (a .group .len) (a .seed) (length (now (a .acts))) (now (a .acts)) (now (a .labels)) (now (a .flips))
-          (now (a .perms)) _ (now (a .cols)) (r .reach .ensures) _ (perm-no other) (table .flip-table .ensures) i (rw (p .flags-long) l) (p .narrow i l);
+          ∙ by-flips (a .t) (length (now (a .acts))) (now (a .acts)) (now (a .labels)) (now (a .flips)) (now (a .perms)) _ (now (a .cols)) (r .reach .ensures)
+          _ (perm-no m) (table .flip-table .ensures) i (rw (p .flags-long) l) (p .narrow i l);
     }
 
 pub choose-columns-spec : {M : Type 1} → statement M
@@ -112,6 +124,7 @@ choose-columns-spec =
     (tie.spec
     reach-requires
     is-perm-requires
+    gauge-requires
     permute-columns-requires
     flip-table-requires
     flip-columns-requires

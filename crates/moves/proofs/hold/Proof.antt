@@ -1,4 +1,4 @@
--- `hold` meets its contract by mode: drawn bonds by the sampler of the temperature, the others by their ends alone.
+-- `hold` meets its contract, by the mode: CMR's two tables, Jörg's, or both ends act.
 use borrow.Author.Needs.{needs}
 use mathlib.Core.Path.{_≡_, sym, _∙_}
 use mathlib.Core.Bool.{true, false}

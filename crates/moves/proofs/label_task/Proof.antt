@@ -1,4 +1,4 @@
--- `label_task` meets its contract: each step asks what the tests and the step before it have left.
+-- `label_task` meets its contract: what look, hold, label and count leave, taken together.
 use borrow.Author.Needs.{needs}
 use native.Mathlib.Omega.{arith}
 use Rattle.moves.specs.Ready.{sighted}
@@ -18,8 +18,7 @@ H l = l .before .before .before .before .before .before .before .before
 look-requires : tie.Need-look-requires
 look-requires c κs =
     let p = c .before .before .before .before .before .before .before .before .before .before .before .before .before .pre in
-    let r = p .tested in
-    record { panel = sighted r (p .reference); cols-long = p .lent .cols-long; flags-long = p .lent .flags-long }
+    record { panel = sighted (p .tested) (p .reference); cols-long = p .lent .cols-long; flags-long = p .lent .flags-long }
 
 hold-requires : tie.Need-hold-requires
 hold-requires c κs =
@@ -97,7 +96,7 @@ returns c = λ bwd.
     let h = H l in
     let k = K h in
     let p = S k .pre in
-    label-leaves bwd (h .hold .ensures) (p .tested) (p .reference) (k .look .ensures) (l .label .ensures) (o .count .ensures)
+    label-leaves bwd (h .hold .ensures) (p .tested) (k .look .ensures) (l .label .ensures) (o .count .ensures)
 
 pub label-task-spec : {M : Type 1} → statement M
 label-task-spec =

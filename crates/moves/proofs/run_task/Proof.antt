@@ -1,4 +1,4 @@
--- `run_task` meets its contract: arrays of 4,096 are lent on as parts of n, and the answer is by whether a site acts.
+-- `run_task` meets its contract: the three steps one after another, and which of them are taken.
 use borrow.Author.Needs.{needs}
 use Prim.Native.Nat.{_*_, _≤_}
 use mathlib.Core.Path.{_≡_, sym, _∙_}
