@@ -67,7 +67,7 @@ returns-2 c =
 
 run-task-requires : tie.Need-run-task-requires
 run-task-requires c κs =
-    let m = c .before .before .before .before .before .before in
+    let m = c .before .before .before .before .before in
     let b = S (m .before .before .before .before) in
     valid-by (callAt b) (choicesAt b) (lentAt b) (sound (m .before .before .before))
     (verdict-kept (choiceRules (callAt b) (choicesAt b) (now (b .args .spins))) (m .before .test-choices .result) (m .if2 .left) (verdict (m .before)))

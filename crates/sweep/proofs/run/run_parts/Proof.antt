@@ -21,19 +21,19 @@ task-of-requires : tie.Need-task-of-requires
 task-of-requires c κs = search needs
 
 task-cuts-requires : tie.Need-task-cuts-requires
-task-cuts-requires c κs = S (c .before .before) .pre .placing .task
+task-cuts-requires c κs = S (c .before) .pre .placing .task
 
 task-flips-requires : tie.Need-task-flips-requires
-task-flips-requires c κs = S (c .before .before .before) .pre .placing .task
+task-flips-requires c κs = S (c .before .before) .pre .placing .task
 
 task-perms-requires : tie.Need-task-perms-requires
-task-perms-requires c κs = S (c .before .before .before .before) .pre .placing .task
+task-perms-requires c κs = S (c .before .before .before) .pre .placing .task
 
 task-greys-requires : tie.Need-task-greys-requires
-task-greys-requires c κs = S (c .before .before .before .before .before) .pre .placing .task
+task-greys-requires c κs = S (c .before .before .before .before) .pre .placing .task
 
 abbrev G : tie.After-task-greys → tie.After-task-of
-G g = g .before .before .before .before .before .before
+G g = g .before .before .before .before .before
 
 parts : (g : tie.After-task-greys) → let s = S (G g) in
     Parts (W s) (s .args .k) (G g .task-of .result) (now (g .before .before .before .task-cuts .result)) (now (g .before .before .task-flips .result))
