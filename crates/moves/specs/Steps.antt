@@ -50,7 +50,7 @@ pub record HoldLeaves (t : Task) (fwd : List ℕ) (couplings : List ℤ) (cuts :
 
 -- ---- label: from spins to columns, labels, counts and sizes
 -- the areas that it fills
-pub record Lent (n d : ℕ) (cols flags holding grey tally labels counts sizes : List ℕ) : Type 0 where
+pub record LabelAreas (n d : ℕ) (cols flags holding grey tally labels counts sizes : List ℕ) : Type 0 where
   pub cols-long : length cols ≡ n
   pub flags-long : length flags ≡ n
   pub holding-long : length holding ≡ n * d
@@ -66,7 +66,7 @@ pub record LabelAsks
   pub tested : Tested (t .mode) (t .n) (t .d) fwd (t .group) xs
   pub reference : isGperm (t .mode) ≡ true → t .reference < t .n
   pub coupled : isDrawn (t .mode) ≡ true → Coupled (t .n) (t .d) couplings cuts
-  pub lent : Lent (t .n) (t .d) cols flags holding grey tally labels counts sizes
+  pub lent : LabelAreas (t .n) (t .d) cols flags holding grey tally labels counts sizes
 
 pub record LabelLeaves (c : Call) (xs : List ℤ) (cols flags grey tally labels counts sizes : List ℕ) (r : Bool) : Type 0 where
   pub columns : Columns (c .lattice .n) (size c) (pattern c xs) cols
@@ -141,5 +141,6 @@ pub record WriteAsks (t : Task) (xs : List ℤ) (cols : List ℕ) : Type 0 where
   pub distinct : Distinct (t .group .len) (member (t .group))
   pub cols-long : length cols ≡ t .n
 
+-- the group's rows are those that the columns show, and the others' are as they were
 abbrev pub WriteLeaves : Task → List ℕ → List ℤ → List ℤ → Type 0
 WriteLeaves t cols xs ys = Written (t .n) (t .group .len) (t .group) cols xs ys
