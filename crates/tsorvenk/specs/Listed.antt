@@ -19,7 +19,7 @@ use Rattle.paper.specs.Answer.Sweep.{taskRules}
 use Rattle.label.specs.Entry as entry
 use Rattle.tsorvenk.specs.Number.{numberOf}
 use Rattle.tsorvenk.specs.Energy.{energyRules, EnergyRefuses}
-use Rattle.tsorvenk.specs.Sweep.{Tallied, tallyRules, Unswept}
+use Rattle.tsorvenk.specs.Sweep.{WithOutcomes, outcomeRules, Unswept}
 
 pub record Listed (r : ℕ) : Type 0 where
   pub low : 1 ≤ r
@@ -85,8 +85,8 @@ tasks-listed w b (suc k) =
     append-listed (taskRules w b k) _ (tasks-listed w b k)
     (unless-listed (masked w k) _ (choices-listed (taskCall w k) (taskChoices w k) (b .spins)))
 
-pub sweep-listed : (w : Sweep) (l l′ : Tallied) (r : ℕ) → Unswept w l r l′ → Listed r
-sweep-listed w l l′ r h = broken-listed (tallyRules w l) r all (h .why)
+pub sweep-listed : (w : Sweep) (l l′ : WithOutcomes) (r : ℕ) → Unswept w l r l′ → Listed r
+sweep-listed w l l′ r h = broken-listed (outcomeRules w l) r all (h .why)
   where
-    all : AllListed (tallyRules w l)
+    all : AllListed (outcomeRules w l)
     all = let ts = tasks-listed w (l .buffers) (tasks w) in search (listed, arith, ts)
