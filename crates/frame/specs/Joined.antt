@@ -17,12 +17,12 @@ use Rattle.paper.specs.Refusal.Rule.{Kept, Broken}
 use Rattle.paper.specs.Refusal.Verdict.{Verdict}
 use Rattle.paper.specs.Answer.Move.{Answers, Seen, Accepted, accepted-zero}
 use Rattle.paper.specs.Answer.Frame.{bytes, signed, frameLattice, frameCall, frameChoices, frameBuffers, HasBack, frameRules, refusal, FrameAnswers}
-use Rattle.frame.specs.declared.Sizes.{Sizes}
-use Rattle.frame.specs.Spelling.{line2, line3, spellingRules, valueRules, Spelling, spelling-of, misspelt, misvalued, all-kept}
+use Rattle.frame_lines.specs.declared.Sizes.{Sizes}
+use Rattle.frame_lines.specs.Spelling.{line2, line3, spellingRules, valueRules, Spelling, spelling-of, misspelt, misvalued, all-kept}
 use Rattle.frame_text.specs.Digits.{Below}
-use Rattle.frame.specs.Words.{words-length}
-use Rattle.frame.specs.Reading.{Held, Readout}
-use Rattle.frame.specs.Writing.{resultOf, TwoByte, Fitted, fitted-take}
+use Rattle.frame_lines.specs.Words.{words-length}
+use Rattle.frame_lines.specs.Reading.{Held, Readout}
+use Rattle.frame_lines.specs.Writing.{resultOf, TwoByte, Fitted, fitted-take}
 
 -- ---- what was read: the used part of each buffer is the paper's, and has the exact length
 module _ {text : List ℕ} {b : Held} {z : Sizes} {g : Group} {a : Held} (r : Readout text b z g a) where

@@ -1,17 +1,6 @@
--- Answers first, then digits to words and lines; reading, writing and the way back; the move between them; that each promise allows one answer.
-pub mod Number
-pub mod Words
-pub mod Lines
-pub mod Spelling
-pub mod Entries
-pub mod Fill
-pub mod Scan
-pub mod Reading
-pub mod Writing
-pub mod RoundTrip
+-- What was read as a call, the values in it and the backward table; the move; that the promise allows one answer.
 pub mod Joined
 pub mod Values
 pub mod Back
 pub mod Run
-pub mod Worked
 pub mod Determined

@@ -21,14 +21,14 @@ use Rattle.paper.specs.Answer.Task.{table}
 use Rattle.paper.specs.Answer.Frame.{frameLattice, frameCall, frameChoices, frameBuffers, HasBack, refusal, FrameAnswers}
 use Rattle.paper.specs.Panel.Made.{callOf, choicesOf, buffersOf}
 use Rattle.steps.specs.Rule.{taskOf}
-use Rattle.frame.specs.declared.Sizes.{Sizes}
-use Rattle.frame.specs.declared.Found.{Found}
-use Rattle.frame.specs.declared.Found.the-variants.{Fault, Panel}
-use Rattle.frame.specs.declared.Written.{Written}
-use Rattle.frame.specs.declared.Written.the-variants.{Wrote, NoRoom}
-use Rattle.frame.specs.Spelling.{spellingRules, Spelling, spelling-of, misspelt, misvalued, all-kept, broken-small, misspelt-small}
-use Rattle.frame.specs.Reading.{Rooms, Held, Misread, Readout, FoundAs}
-use Rattle.frame.specs.Writing.{resultOf, TwoByte, Fitted, WrittenAs, RefusalAs, count, shorter, fitted-take, fitted-drop}
+use Rattle.frame_lines.specs.declared.Sizes.{Sizes}
+use Rattle.frame_lines.specs.declared.Found.{Found}
+use Rattle.frame_lines.specs.declared.Found.the-variants.{Fault, Panel}
+use Rattle.frame_lines.specs.declared.Written.{Written}
+use Rattle.frame_lines.specs.declared.Written.the-variants.{Wrote, NoRoom}
+use Rattle.frame_lines.specs.Spelling.{spellingRules, Spelling, spelling-of, misspelt, misvalued, all-kept, broken-small, misspelt-small}
+use Rattle.frame_lines.specs.Reading.{Rooms, Held, Misread, Readout, FoundAs}
+use Rattle.frame_lines.specs.Writing.{resultOf, TwoByte, Fitted, WrittenAs, RefusalAs, count, shorter, fitted-take, fitted-drop}
 use Rattle.frame.specs.Back.{Reversed, back-complete}
 use Rattle.frame.specs.Values.{values-kept, values-broken}
 use Rattle.frame.specs.Joined.{spins-count, fwd-count, perms-count, spins-part, fwd-part, perms-part, seen-small}

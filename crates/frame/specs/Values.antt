@@ -11,8 +11,8 @@ use Rattle.paper.specs.Refusal.Rules.{Ranged, Exact, Inverse, Chosen, rules}
 use Rattle.paper.specs.Law.ByTest.{never}
 use Rattle.paper.specs.Answer.Task.{table}
 use Rattle.paper.specs.Answer.Frame.{bytes, signed, frameLattice, frameCall, frameChoices, frameBuffers, groupBytes, HasBack}
-use Rattle.frame.specs.Spelling.{line2, line3, Spelling, valueRules}
-use Rattle.frame.specs.Words.{words-length}
+use Rattle.frame_lines.specs.Spelling.{line2, line3, Spelling, valueRules}
+use Rattle.frame_lines.specs.Words.{words-length}
 
 table-length : (m : ℕ) (f : ℕ → ℕ) → length (table m f) ≡ m
 unfolding table

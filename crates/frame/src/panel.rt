@@ -1,8 +1,6 @@
 // One perm move of a panel that was read, and its answer as text.
-use super::Sizes;
-use super::Written;
-use super::write;
-use super::write_refusal;
+use frame_lines::Sizes;
+use frame_lines::Written;
 use paper::Answer;
 use paper::Form;
 use paper::Group;
@@ -12,8 +10,8 @@ ghost use mathlib.Core.List.{List, []};
 ghost use Prim.Native.Nat.{ℕ, _*_};
 ghost use Rattle.lattice.specs.Backward.{Turnable};
 ghost use Rattle.paper.specs.Panel.Made.{buffersOf};
-ghost use Rattle.frame.specs.Reading.{Held, Readout};
-ghost use Rattle.frame.specs.Writing.{WrittenAs};
+ghost use Rattle.frame_lines.specs.Reading.{Held, Readout};
+ghost use Rattle.frame_lines.specs.Writing.{WrittenAs};
 ghost use Rattle.frame.specs.Run.{PermMoved, Writable, answerText, MoveWritten, PanelGiven, RunAs};
 
 // The move takes no couplings, cuts, flips or grey numbers: they are empty.
@@ -73,9 +71,9 @@ fn write_answer(r: Answer, labels: &[u32], counts: &[u32], spins: &[i8], out: &m
     ensures { λ w. ⌜ WrittenAs (answerText r (now (labels .entry)) (now (counts .entry)) (now (spins .entry))) (now (out .entry)) w (now (out .exit)) ⌝ }
 {
     match r {
-        Answer::Refused(c) => write_refusal(c, out),
-        Answer::Idle => write(labels, counts, spins, out),
-        Answer::Moved => write(labels, counts, spins, out),
+        Answer::Refused(c) => frame_lines::write_refusal(c, out),
+        Answer::Idle => frame_lines::write(labels, counts, spins, out),
+        Answer::Moved => frame_lines::write(labels, counts, spins, out),
     }
 }
 

@@ -1,6 +1,6 @@
 // Runs each text of standard input through frame::run and compares its answer with the one stored behind it, and writes how many agree and
 // how many do not. A case is two numbers of five decimal digits, the lengths of the text and of its answer, on a line of their own; then both.
-use frame::Written;
+use frame_lines::Written;
 use libc::STDIN_FILENO;
 use libc::STDOUT_FILENO;
 ghost use Prim.Native.Nat.{_≤_};

@@ -1,5 +1,5 @@
 // Reads the frames on standard input, runs their move and writes the answer's frames to standard output.
-use frame::Written;
+use frame_lines::Written;
 use frame_text::Part;
 use libc::STDIN_FILENO;
 use libc::STDOUT_FILENO;

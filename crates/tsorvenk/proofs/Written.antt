@@ -3,9 +3,9 @@ use Prim.Native.Nat.{ℕ}
 use mathlib.Core.Path.{_≡_, refl, sym, subst}
 use mathlib.Core.List.{List}
 use lib.ListN.{length, set}
-use Rattle.frame.specs.declared.Written.{Written}
-use Rattle.frame.specs.declared.Written.the-variants.{Wrote, NoRoom}
-use Rattle.frame.specs.Number.{writtenNumber, writtenValues}
+use Rattle.frame_lines.specs.declared.Written.{Written}
+use Rattle.frame_lines.specs.declared.Written.the-variants.{Wrote, NoRoom}
+use Rattle.frame_lines.specs.Number.{writtenNumber, writtenValues}
 use Rattle.frame.specs.Run.{RunAs}
 use Rattle.tsorvenk.specs.Number.{valuesTo}
 use Rattle.tsorvenk.specs.Frames.{framed, FramesNumbers}

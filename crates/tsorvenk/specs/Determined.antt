@@ -18,9 +18,10 @@ use Rattle.paper.specs.Law.Determined.{determined}
 use Rattle.paper.specs.Law.SweepDetermined.{SameSweep, sweep-determined}
 use Rattle.label.specs.Entry.{Request, Lent}
 use Rattle.label.specs.Determined.{components-determined}
-use Rattle.frame.specs.declared.Written.{Written}
-use Rattle.frame.specs.Number.{writtenValues}
-use Rattle.frame.specs.Determined.{SameWritten, run-determined}
+use Rattle.frame_lines.specs.declared.Written.{Written}
+use Rattle.frame_lines.specs.Number.{writtenValues}
+use Rattle.frame_lines.specs.Determined.{SameWritten}
+use Rattle.frame.specs.Determined.{run-determined}
 use Rattle.tsorvenk.specs.Number.{Coded, coded, Returned, valuesTo}
 use Rattle.tsorvenk.specs.Step.{StepAnswers}
 use Rattle.tsorvenk.specs.Energy.{energyRules, Metered, EnergyAs, EnergyAnswers}

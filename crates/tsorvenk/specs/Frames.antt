@@ -3,8 +3,8 @@ use Prim.Native.Nat.{ℕ}
 use mathlib.Core.Path.{_≡_}
 use mathlib.Core.List.{List}
 use lib.ListN.{length}
-use Rattle.frame.specs.declared.Written.{Written}
-use Rattle.frame.specs.Number.{writtenNumber, writtenValues}
+use Rattle.frame_lines.specs.declared.Written.{Written}
+use Rattle.frame_lines.specs.Number.{writtenNumber, writtenValues}
 use Rattle.frame.specs.Run.{RunAs}
 use Rattle.tsorvenk.specs.Number.{Returned, valuesTo}
 

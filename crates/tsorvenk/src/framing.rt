@@ -1,5 +1,5 @@
 // The frame program on texts in memory, as C and Rust call it.
-use frame::Written;
+use frame_lines::Written;
 ghost use Rattle.tsorvenk.specs.Frames.{framed, FramesNumbers};
 
 // The answer's frames go to the front of `out`, and their number of bytes to `written`.
