@@ -1,4 +1,4 @@
--- The list of the components' tallies.
+-- The list of the components' tallies, but of those that have one site.
 use Prim.Native.Nat.{ℕ, _+_, _≤_, _<_, zero-le}
 use mathlib.Core.Path.{_≡_, refl, sym, ap, _∙_}
 use mathlib.Core.Bool.{Bool, true, false, _&&_}
@@ -7,18 +7,18 @@ use lib.Seq.{getD-set-same, getD-set-other}
 use native.Mathlib.Nat.{lt-irrefl, not-suc-le-zero, add-zero, le-antisymm, le-trans, le-of-eq}
 use native.Mathlib.Omega.{arith}
 use lib.ListN.{length, getD, set, length-set}
-use Rattle.paper.specs.Component.Sizes.{bit, countWhere, counted, sizeOf, Sized}
+use Rattle.paper.specs.Component.Sizes.{bit, countWhere, sizeOf, Sized}
 use Rattle.label.specs.Counting.{bit-le, count-none, count-suc, count-no, count-ext, count-most}
-use Rattle.label.specs.Sizes.{Picking, Picked}
+use Rattle.label.specs.Sizes.{Picking, several, Picked}
 use Rattle.label.proofs.Stores.{AfterSet, AfterSet.here, AfterSet.there, after-set, lt-of-ne}
 
 pub size-le : {l tally : List ℕ} → Sized l tally → (r : ℕ) → r < length l → getD tally r 0 ≤ length l
 unfolding sizeOf
 size-le {l} {tally} h r rl = le-trans (le-of-eq (h .each r rl)) (count-most _ (length l))
 
--- how many of the components below i have a tally that passes
+-- how many of the components below i that have not one site have a tally that passes
 abbrev below : List ℕ → List ℕ → (ℕ → Bool) → ℕ → ℕ
-below l tally f i = countWhere (λ r. counted l r && f (getD tally r 0)) i
+below l tally f i = countWhere (λ r. several l tally r && f (getD tally r 0)) i
 
 -- `gather_sizes` has listed the components below i
 pub record Pick (l tally : List ℕ) (room : ℕ) (list : List ℕ) (m i : ℕ) : Type 0 where
@@ -34,7 +34,7 @@ pick-none l tally list = record {
   reached = zero-le;
   short = zero-le;
   low = λ t h. absurd (not-suc-le-zero h);
-  same = λ f. count-none (λ t. f (getD list t 0)) ∙ sym (count-none (λ r. counted l r && f (getD tally r 0)));
+  same = λ f. count-none (λ t. f (getD list t 0)) ∙ sym (count-none (λ r. several l tally r && f (getD tally r 0)));
 }
 
 module _ {l tally : List ℕ} {room : ℕ} {list : List ℕ} {m i : ℕ} (h : Pick l tally room list m i) (g : Picking l tally room) (il : i < length l) where
@@ -57,13 +57,13 @@ module _ {l tally : List ℕ} {room : ℕ} {list : List ℕ} {m i : ℕ} (h : Pi
   lows b t tl (here e q) = rw q (size-le (g .sized) i il)
   lows b t tl (there ne q) = rw q (h .low t (lt-of-ne (omega (arith, bit-le b)) ne))
 
-  sames : (b : Bool) → counted l i ≡ b → (f : ℕ → Bool) → countWhere (λ t. f (getD new t 0)) (m + bit b) ≡ below l tally f (i + 1)
+  sames : (b : Bool) → several l tally i ≡ b → (f : ℕ → Bool) → countWhere (λ t. f (getD new t 0)) (m + bit b) ≡ below l tally f (i + 1)
   sames true e f =
       count-suc (λ t. f (getD new t 0)) m
-      ∙ (rw (old f, last) (sym (count-suc (λ r. counted l r && f (getD tally r 0)) i ∙ rw e)))
-  sames false e f = rw (add-zero m) (old f ∙ sym (count-no (λ r. counted l r && f (getD tally r 0)) i (rw e)))
+      ∙ (rw (old f, last) (sym (count-suc (λ r. several l tally r && f (getD tally r 0)) i ∙ rw e)))
+  sames false e f = rw (add-zero m) (old f ∙ sym (count-no (λ r. several l tally r && f (getD tally r 0)) i (rw e)))
 
-  pub pick-more : (b : Bool) → counted l i ≡ b → (o : ℕ) → o ≡ bit b → Pick l tally room new (m + o) (i + 1)
+  pub pick-more : (b : Bool) → several l tally i ≡ b → (o : ℕ) → o ≡ bit b → Pick l tally room new (m + o) (i + 1)
   pick-more b e o eo = rw eo (record {
     long = simp length-set (h .long);
     reached = omega arith;

@@ -1,7 +1,8 @@
 -- The places of the four largest sizes, as another size joins.
 use Prim.Native.Nat.{ℕ, _+_, _≤_, _<_, zero-le}
-use mathlib.Core.Path.{_≡_, refl, sym}
+use mathlib.Core.Path.{_≡_, refl}
 use mathlib.Core.Logic.{_⊎_, inl, inr, ⊎-elim}
+use mathlib.Core.Bool.{Bool, true, false, cond}
 use mathlib.Core.List.{List}
 use native.Mathlib.Nat.{le-refl, le-trans}
 use native.Mathlib.Omega.{arith}
@@ -11,7 +12,7 @@ use lib.ListN.{getD}
 use Rattle.paper.specs.Component.Sizes.{bit}
 use Rattle.paper.specs.Law.Unique.{count-le}
 use Rattle.label.specs.Counting.{bit-le, count-none, count-suc}
-use Rattle.label.specs.Sizes.{orMore, Place, Top4, with, Falling}
+use Rattle.label.specs.Sizes.{orMore, onesOrMore, allOrMore, Place, Top4, with, Falling}
 
 below-bit : (v x : ℕ) → v ≤ x → bit (leb v x) ≡ 1
 below-bit v x h = rw (le-leb v x h)
@@ -125,24 +126,86 @@ module _ (G : ℕ → ℕ) (falls : Falling G) (x : ℕ) where
     }
 
 -- ---- the sizes of a list
-pub or-more-falls : (sizes : List ℕ) (m : ℕ) → Falling (orMore sizes m)
+or-more-falls : (sizes : List ℕ) (m : ℕ) → Falling (orMore sizes m)
 or-more-falls sizes m v w h = count-le (λ t. leb w (getD sizes t 0)) (λ t. leb v (getD sizes t 0)) m
     (λ t e. le-leb v (getD sizes t 0) (le-trans h (leb-true w (getD sizes t 0) e)))
 
--- `top4_sizes` has taken the first i
-pub top-none : (sizes : List ℕ) → Top4 (orMore sizes 0) 0 0 0 0
-top-none sizes = record {
-  first = none 0;
-  second = none 1;
-  third = none 2;
-  fourth = none 3;
-  ba = zero-le;
-  cb = zero-le;
-  dc = zero-le;
-}
-  where
-    none : (t : ℕ) → Place (orMore sizes 0) t 0
-    none t = record { larger = omega (arith, count-none (λ t. leb 1 (getD sizes t 0))); reached = inl refl }
+-- so many sizes 1: those at the places before that number are there
+module _ (ones : ℕ) where
+  ones-there : (t : ℕ) → t < ones → Place (onesOrMore ones) t 1
+  ones-there t l = record { larger = zero-le; reached = inr l }
 
-pub top-more : (sizes : List ℕ) (i : ℕ) {a b c d : ℕ} → Top4 (with (orMore sizes i) (getD sizes i 0)) a b c d → Top4 (orMore sizes (i + 1)) a b c d
-top-more sizes i r = top-ext (λ v. sym (count-suc (λ t. leb v (getD sizes t 0)) i)) r
+  ones-past : (t : ℕ) → ones ≤ t → Place (onesOrMore ones) t 0
+  ones-past t l = record { larger = l; reached = inl refl }
+
+  pub no-ones : ones ≡ 0 → Top4 (onesOrMore ones) 0 0 0 0
+  no-ones e = record {
+    first = ones-past 0 (omega arith);
+    second = ones-past 1 (omega arith);
+    third = ones-past 2 (omega arith);
+    fourth = ones-past 3 (omega arith);
+    ba = zero-le;
+    cb = zero-le;
+    dc = zero-le;
+  }
+
+  pub one-one : ones ≡ 1 → Top4 (onesOrMore ones) 1 0 0 0
+  one-one e = record {
+    first = ones-there 0 (omega arith);
+    second = ones-past 1 (omega arith);
+    third = ones-past 2 (omega arith);
+    fourth = ones-past 3 (omega arith);
+    ba = zero-le;
+    cb = zero-le;
+    dc = zero-le;
+  }
+
+  pub two-ones : ones ≡ 2 → Top4 (onesOrMore ones) 1 1 0 0
+  two-ones e = record {
+    first = ones-there 0 (omega arith);
+    second = ones-there 1 (omega arith);
+    third = ones-past 2 (omega arith);
+    fourth = ones-past 3 (omega arith);
+    ba = le-refl 1;
+    cb = zero-le;
+    dc = zero-le;
+  }
+
+  pub three-ones : ones ≡ 3 → Top4 (onesOrMore ones) 1 1 1 0
+  three-ones e = record {
+    first = ones-there 0 (omega arith);
+    second = ones-there 1 (omega arith);
+    third = ones-there 2 (omega arith);
+    fourth = ones-past 3 (omega arith);
+    ba = le-refl 1;
+    cb = le-refl 1;
+    dc = zero-le;
+  }
+
+  pub more-ones : 3 < ones → Top4 (onesOrMore ones) 1 1 1 1
+  more-ones l = record {
+    first = ones-there 0 (omega arith);
+    second = ones-there 1 (omega arith);
+    third = ones-there 2 (omega arith);
+    fourth = ones-there 3 l;
+    ba = le-refl 1;
+    cb = le-refl 1;
+    dc = le-refl 1;
+  }
+
+  ones-fall : Falling (onesOrMore ones)
+  ones-fall v w h = go (leb w 1) refl
+    where
+      go : (b : Bool) → leb w 1 ≡ b → cond b ones 0 ≤ onesOrMore ones v
+      go true e = rw (le-leb v 1 (le-trans h (leb-true w 1 e))) (le-refl ones)
+      go false e = zero-le
+
+  pub all-fall : (sizes : List ℕ) (m : ℕ) → Falling (allOrMore ones sizes m)
+  all-fall sizes m v w h = omega (arith, ones-fall v w h, or-more-falls sizes m v w h)
+
+  -- `top4_sizes` has taken the first i
+  pub top-none : (sizes : List ℕ) {a b c d : ℕ} → Top4 (onesOrMore ones) a b c d → Top4 (allOrMore ones sizes 0) a b c d
+  top-none sizes r = top-ext (λ v. omega (arith, count-none (λ t. leb v (getD sizes t 0)))) r
+
+  pub top-more : (sizes : List ℕ) (i : ℕ) {a b c d : ℕ} → Top4 (with (allOrMore ones sizes i) (getD sizes i 0)) a b c d → Top4 (allOrMore ones sizes (i + 1)) a b c d
+  top-more sizes i r = top-ext (λ v. omega (arith, count-suc (λ t. leb v (getD sizes t 0)) i)) r

@@ -1,18 +1,18 @@
 -- What the steps of `count` come to.
-use Prim.Native.Nat.{ℕ, _+_, _≤_, _<_}
-use mathlib.Core.Path.{_≡_, refl, ap, _∙_}
-use mathlib.Core.Bool.{Bool, true, false, _&&_}
+use Prim.Native.Nat.{ℕ, zero, suc, _+_, _≤_, _<_}
+use mathlib.Core.Path.{_≡_, refl, sym, ap, _∙_}
+use mathlib.Core.Bool.{Bool, true, false, not, cond, _&&_}
 use mathlib.Core.List.{List}
-use native.Mathlib.Nat.{lt-irrefl}
+use native.Mathlib.Nat.{lt-irrefl, le-trans}
 use native.Mathlib.Omega.{arith}
 use borrow.Author.Count.{below-none, below-more}
-use borrow.Author.Tests.{ne-eqb}
+use borrow.Author.Tests.{ne-eqb, eqb-true}
 use lib.Dec.{eqb, leb}
 use lib.ListN.{length, getD, set, take, length-set}
 use lib.Seq.{length-take-le, getD-take, getD-set-same, getD-set-other}
-use Rattle.paper.specs.Component.Sizes.{countWhere, labelOf, counted, sizeOf, ofSize, atLeast, Counted, Rank, Largest, Sized}
-use Rattle.label.specs.Counting.{count-zero, count-pos, count-ext}
-use Rattle.label.specs.Sizes.{Picked, Histogramming, Histogram, orMore, Place, Top4}
+use Rattle.paper.specs.Component.Sizes.{bit, countWhere, labelOf, counted, sizeOf, ofSize, atLeast, Counted, Rank, Largest, Sized}
+use Rattle.label.specs.Counting.{count-zero, count-pos, count-most, count-ext}
+use Rattle.label.specs.Sizes.{single, several, Picked, Histogramming, onesPass, Histogram, allOrMore, Place, Top4}
 use Rattle.label.proofs.Ranks.{top-ext}
 
 -- a component has a site
@@ -24,33 +24,62 @@ no-empty l = count-zero (λ r. counted l r && eqb (sizeOf l r) 0) (length l) (λ
     go r rl true e = ne-eqb (sizeOf l r) 0 (λ z. lt-irrefl 0 (rw z at (count-pos (λ i. eqb (labelOf l i) r) (length l) r rl e)))
     go r rl false e = refl
 
-module _ {l tally list : List ℕ} {m : ℕ} (z : Sized l tally) (p : Picked l tally list m) (fits : m ≤ length list) where
+-- another component, which is counted or not, with one site or not
+turn : (c q a b : Bool) (x y z : ℕ) → (q ≡ true → a ≡ b) → cond a x 0 + y ≡ z
+    → cond a (x + bit (c && q)) 0 + (y + bit ((c && not q) && b)) ≡ z + bit (c && b)
+turn false q true b x y z e h = omega (arith, h)
+turn false q false b x y z e h = omega (arith, h)
+turn true true true b x y z e h = rw (← e refl) (omega (arith, h))
+turn true true false b x y z e h = rw (← e refl) (omega (arith, h))
+turn true false true b x y z e h = omega (arith, h)
+turn true false false b x y z e h = omega (arith, h)
+
+-- those of one site and the others are all
+parts : (l tally : List ℕ) (f : ℕ → Bool) (m : ℕ)
+    → onesPass (countWhere (single l tally) m) f + countWhere (λ r. several l tally r && f (getD tally r 0)) m ≡ countWhere (λ r. counted l r && f (getD tally r 0)) m
+unfolding countWhere
+parts l tally f zero = none (f 1)
+  where
+    none : (b : Bool) → cond b 0 0 + 0 ≡ 0
+    none true = refl
+    none false = refl
+parts l tally f (suc m) = turn (counted l m) (eqb (getD tally m 0) 1) (f 1) (f (getD tally m 0)) _ _ _ (λ e. ap f (sym (eqb-true _ _ e))) (parts l tally f m)
+
+module _ {l tally list : List ℕ} {ones m : ℕ} (z : Sized l tally) (s : ones ≡ countWhere (single l tally) (length l)) (p : Picked l tally list m)
+    (fits : m ≤ length list) where
   pub part-long : length (take m list) ≡ m
   part-long = length-take-le m list fits
 
-  -- as many of the list pass a test as components
-  passing : (f : ℕ → Bool) → countWhere (λ t. f (getD (take m list) t 0)) (length (take m list)) ≡ countWhere (λ r. counted l r && f (sizeOf l r)) (length l)
-  passing f =
-      rw part-long (count-ext (λ t. f (getD (take m list) t 0)) (λ t. f (getD list t 0)) m (λ t tl. ap f (getD-take m list t 0 tl)))
-      ∙ (p .same f ∙ count-ext (λ r. counted l r && f (getD tally r 0)) (λ r. counted l r && f (sizeOf l r)) (length l)
-      (λ r rl. ap (λ (y : ℕ). counted l r && f y) (z .each r rl)))
+  -- as many of the list and of the sizes 1 pass a test as components
+  passing : (f : ℕ → Bool)
+      → onesPass ones f + countWhere (λ t. f (getD (take m list) t 0)) (length (take m list)) ≡ countWhere (λ r. counted l r && f (sizeOf l r)) (length l)
+  passing f = rw (s, listed) (parts l tally f (length l)) ∙ count-ext (λ r. counted l r && f (getD tally r 0)) (λ r. counted l r && f (sizeOf l r)) (length l)
+      (λ r rl. ap (λ (y : ℕ). counted l r && f y) (z .each r rl))
+    where
+      listed : countWhere (λ t. f (getD (take m list) t 0)) (length (take m list)) ≡ countWhere (λ r. several l tally r && f (getD tally r 0)) (length l)
+      listed = rw part-long (count-ext (λ t. f (getD (take m list) t 0)) (λ t. f (getD list t 0)) m (λ t tl. ap f (getD-take m list t 0 tl))) ∙ p .same f
 
-  pub histogramming : length l ≤ 4096 → Histogramming (take m list) (length l + 1)
+  few : ones ≤ length l
+  few = rw s (count-most (single l tally) (length l))
+
+  pub histogramming : length l ≤ 4096 → Histogramming (take m list) ones (length l + 1)
   histogramming h = record {
     few = omega (arith, part-long, p .short);
     low = λ t tl. low t (rw part-long at tl);
+    few-ones = le-trans few h;
+    ones-low = omega (arith, few);
   }
     where
       low : (t : ℕ) → t < m → getD (take m list) t 0 < length l + 1
       low t tl = rw (getD-take m list t 0 tl) (omega (arith, p .low t tl))
 
-  pub counted-are : {counts : List ℕ} → Histogram (take m list) counts (length l + 1) → Counted l counts
+  pub counted-are : {counts : List ℕ} → Histogram (take m list) ones counts (length l + 1) → Counted l counts
   counted-are {counts} h = record { long = h .long; zeroth = each 0 (omega arith) ∙ no-empty l; each = each }
     where
       each : (s : ℕ) → s ≤ length l → getD counts s 0 ≡ ofSize l s
       each s sl = h .each s (omega arith) ∙ passing (λ x. eqb x s)
 
-  pub largest-are : {a b c d : ℕ} → Top4 (orMore (take m list) (length (take m list))) a b c d → Top4 (atLeast l) a b c d
+  pub largest-are : {a b c d : ℕ} → Top4 (allOrMore ones (take m list) (length (take m list))) a b c d → Top4 (atLeast l) a b c d
   largest-are = top-ext (λ v. passing (leb v))
 
 -- ---- the four sizes are written

@@ -2,7 +2,7 @@
 use Prim.Native.Nat.{ℕ, _+_, _≤_, _<_}
 use mathlib.Core.Path.{_≡_}
 use mathlib.Core.Logic.{_⊎_}
-use mathlib.Core.Bool.{Bool, _&&_}
+use mathlib.Core.Bool.{Bool, not, cond, _&&_}
 use mathlib.Core.List.{List}
 use lib.Dec.{eqb, leb}
 use lib.ListN.{length, getD}
@@ -17,24 +17,49 @@ pub record Picking (l tally : List ℕ) (room : ℕ) : Type 0 where
   pub sized : Sized l tally
   pub fits : length l ≤ room
 
--- the first m of the list are the tallies of the components: as many pass each test
+-- r is the label of a component of one site; of another size
+abbrev pub single : List ℕ → List ℕ → ℕ → Bool
+single l tally r = counted l r && eqb (getD tally r 0) 1
+
+abbrev pub several : List ℕ → List ℕ → ℕ → Bool
+several l tally r = counted l r && not (eqb (getD tally r 0) 1)
+
+-- the first m of the list are the tallies of the components that have not one site: as many pass each test
 pub record Picked (l tally list : List ℕ) (m : ℕ) : Type 0 where
   pub short : m ≤ length l
   pub low : (t : ℕ) → t < m → getD list t 0 ≤ length l
-  pub same : (f : ℕ → Bool) → countWhere (λ t. f (getD list t 0)) m ≡ countWhere (λ r. counted l r && f (getD tally r 0)) (length l)
+  pub same : (f : ℕ → Bool) → countWhere (λ t. f (getD list t 0)) m ≡ countWhere (λ r. several l tally r && f (getD tally r 0)) (length l)
 
-pub record Histogramming (sizes : List ℕ) (n : ℕ) : Type 0 where
+-- how many of so many sizes 1 pass a test
+abbrev pub onesPass : ℕ → (ℕ → Bool) → ℕ
+onesPass ones f = cond (f 1) ones 0
+
+-- entry s is the number of sizes s, of so many sizes 1; n entries
+pub record Started (ones n : ℕ) (counts : List ℕ) : Type 0 where
+  pub long : length counts ≡ n
+  pub each : (s : ℕ) → s < n → getD counts s 0 ≡ onesPass ones (λ x. eqb x s)
+
+pub record Histogramming (sizes : List ℕ) (ones n : ℕ) : Type 0 where
   pub few : length sizes ≤ 4096
   pub low : (t : ℕ) → t < length sizes → getD sizes t 0 < n
+  pub few-ones : ones ≤ 4096
+  pub ones-low : ones < n
 
--- entry s is the number of sizes s
-pub record Histogram (sizes counts : List ℕ) (n : ℕ) : Type 0 where
+-- entry s is the number of sizes s, of those in the list and of so many sizes 1
+pub record Histogram (sizes : List ℕ) (ones : ℕ) (counts : List ℕ) (n : ℕ) : Type 0 where
   pub long : length counts ≡ n
-  pub each : (s : ℕ) → s < n → getD counts s 0 ≡ countWhere (λ t. eqb (getD sizes t 0) s) (length sizes)
+  pub each : (s : ℕ) → s < n → getD counts s 0 ≡ onesPass ones (λ x. eqb x s) + countWhere (λ t. eqb (getD sizes t 0) s) (length sizes)
 
 -- how many of the first m sizes are v or more
 abbrev pub orMore : List ℕ → ℕ → ℕ → ℕ
 orMore sizes m v = countWhere (λ t. leb v (getD sizes t 0)) m
+
+-- how many of so many sizes 1; of both
+abbrev pub onesOrMore : ℕ → ℕ → ℕ
+onesOrMore ones v = onesPass ones (leb v)
+
+abbrev pub allOrMore : ℕ → List ℕ → ℕ → ℕ → ℕ
+allOrMore ones sizes m v = onesOrMore ones v + orMore sizes m v
 
 -- G v counts the sizes of v or more. a is the size at place t, from 0, of all in falling order, or 0 where there are not so many
 pub record Place (G : ℕ → ℕ) (t a : ℕ) : Type 0 where

@@ -2,13 +2,13 @@
 ghost use mathlib.Core.Path.{_≡_};
 ghost use Prim.Native.Nat.{ℕ, _+_, _≤_, _<_};
 ghost use lib.ListN.{length};
-ghost use Rattle.paper.specs.Component.Sizes.{bit};
+ghost use Rattle.paper.specs.Component.Sizes.{bit, countWhere};
 ghost use Rattle.paper.specs.Component.Marks.{marked, Tells};
 ghost use Rattle.label.specs.Closure.{Only};
 ghost use Rattle.label.specs.Contract.{Given, Labelled, Countable, Reported, Room, Seen};
 ghost use Rattle.label.specs.Forest.{Adds};
 ghost use Rattle.label.specs.Entry.{ExactLengths, Below, Answers};
-ghost use Rattle.label.specs.Sizes.{Cleared, Picking, Picked, Histogramming, Histogram, orMore, Top4, with, Falling};
+ghost use Rattle.label.specs.Sizes.{Cleared, Picking, single, Picked, Started, Histogramming, Histogram, onesOrMore, allOrMore, Top4, with, Falling};
 ghost use Rattle.label.specs.Steps.{Own, Climbing, Gathering, Gathered, Listing, Listed, Part, Block, Ends, Bonding, Flattening, Flattened};
 
 fn wide(x: u32) -> usize
@@ -170,7 +170,22 @@ fn clear(xs: &mut [u32])
     }
 }
 
-// Lists the sizes of the components, as `gather` lists sites.
+// How many components have one site. Where few sites act these are most, and to count them size by size is a chain of stores to one place.
+fn count_singles(labels: &[u32], tally: &[u32]) -> u32
+    requires { ⌜ Picking (now labels) (now tally) (length (now labels)) ⌝ }
+    ensures { λ r. ⌜ r ≡ countWhere (single (now (labels .entry)) (now (tally .entry))) (length (now (labels .entry))) ⌝ }
+{
+    let mut ones: u32 = 0;
+    let mut i = 0;
+    while i < labels.len() {
+        let own = labels[i] == i as u32;
+        ones += (own & (tally[i] == 1)) as u32;
+        i += 1;
+    }
+    ones
+}
+
+// Lists the sizes of the other components, as `gather` lists sites.
 fn gather_sizes(labels: &[u32], tally: &[u32], list: &mut [u32]) -> usize
     requires { ⌜ Picking (now labels) (now tally) (length (now list)) ⌝ }
     ensures { λ r. ⌜ Picked (now (labels .entry)) (now (tally .entry)) (now (list .exit)) r ⌝ }
@@ -178,19 +193,32 @@ fn gather_sizes(labels: &[u32], tally: &[u32], list: &mut [u32]) -> usize
     let mut len = 0;
     let mut i = 0;
     while i < labels.len() {
-        list[len] = tally[i];
-        len += one(wide(labels[i]) == i);
+        let size = tally[i];
+        list[len] = size;
+        len += one((wide(labels[i]) == i) & (size != 1));
         i += 1;
     }
     len
 }
 
-// Writes how often each size stands in the list.
-fn uf_histogram(sizes: &[u32], counts: &mut [u32])
-    requires { ⌜ Histogramming (now sizes) (length (now counts)) ⌝ }
-    ensures { λ _. ⌜ Histogram (now (sizes .entry)) (now (counts .exit)) (length (now (counts .entry))) ⌝ }
+// Every count is 0 but that of the size 1.
+fn start_counts(ones: u32, counts: &mut [u32])
+    requires { ⌜ ones < length (now counts) ⌝ }
+    ensures { λ _. ⌜ Started ones (length (now (counts .entry))) (now (counts .exit)) ⌝ }
 {
     clear(counts);
+    if ones == 0 {
+        return;
+    }
+    counts[1] = ones;
+}
+
+// Writes how often each size stands in the list, and the size 1 so often more.
+fn uf_histogram(sizes: &[u32], ones: u32, counts: &mut [u32])
+    requires { ⌜ Histogramming (now sizes) ones (length (now counts)) ⌝ }
+    ensures { λ _. ⌜ Histogram (now (sizes .entry)) ones (now (counts .exit)) (length (now (counts .entry))) ⌝ }
+{
+    start_counts(ones, counts);
     let mut i = 0;
     while i < sizes.len() {
         let s = wide(sizes[i]);
@@ -225,11 +253,30 @@ fn insert(t: Top, x: u32) -> Top
     Top(x, a, b, c)
 }
 
-// The four largest sizes of the list, zero filled.
-fn top4_sizes(sizes: &[u32]) -> Top
-    ensures { λ r. ⌜ Top4 (orMore (now (sizes .entry)) (length (now (sizes .entry)))) (r .0) (r .1) (r .2) (r .3) ⌝ }
+// The four largest of so many sizes 1, zero filled.
+fn top_ones(ones: u32) -> Top
+    ensures { λ r. ⌜ Top4 (onesOrMore ones) (r .0) (r .1) (r .2) (r .3) ⌝ }
 {
-    let mut t = Top(0, 0, 0, 0);
+    if ones == 0 {
+        return Top(0, 0, 0, 0);
+    }
+    if ones == 1 {
+        return Top(1, 0, 0, 0);
+    }
+    if ones == 2 {
+        return Top(1, 1, 0, 0);
+    }
+    if ones == 3 {
+        return Top(1, 1, 1, 0);
+    }
+    Top(1, 1, 1, 1)
+}
+
+// The four largest sizes of the list and of so many sizes 1, zero filled.
+fn top4_sizes(sizes: &[u32], ones: u32) -> Top
+    ensures { λ r. ⌜ Top4 (allOrMore ones (now (sizes .entry)) (length (now (sizes .entry)))) (r .0) (r .1) (r .2) (r .3) ⌝ }
+{
+    let mut t = top_ones(ones);
     let mut i = 0;
     while i < sizes.len() {
         t = insert(t, sizes[i]);
@@ -244,9 +291,10 @@ pub fn count(labels: &[u32], tally: &[u32], counts: &mut [u32], sizes: &mut [u32
     ensures { λ _. ⌜ Reported (now (labels .entry)) (now (counts .exit)) (now (sizes .exit)) ⌝ }
 {
     let mut list = [0u32; 4096];
+    let ones = count_singles(labels, tally);
     let len = gather_sizes(labels, tally, &mut list);
-    uf_histogram(&list[..len], counts);
-    let t = top4_sizes(&list[..len]);
+    uf_histogram(&list[..len], ones, counts);
+    let t = top4_sizes(&list[..len], ones);
     sizes[0] = t.0;
     sizes[1] = t.1;
     sizes[2] = t.2;

@@ -1,10 +1,10 @@
 -- `gather_sizes` meets its contract.
 use Prim.Native.Nat.{ℕ, _-_, _<_}
 use mathlib.Core.Path.{sym, ap}
-use mathlib.Core.Bool.{Bool}
+use mathlib.Core.Bool.{Bool, not, _&&_}
 use native.Mathlib.Omega.{arith}
 use lib.Dec.{eqb}
-use lib.ListN.{length}
+use lib.ListN.{length, getD}
 use Rattle.label.specs.Counting.{bit-le}
 use Rattle.label.proofs.Picks.{Pick, pick-none, pick-room, pick-more, pick-end}
 use borrow.Author.Needs.{needs}
@@ -23,21 +23,24 @@ S c = c .before .before .before .before .before
 room : (c : tie.In-loop Inv-loop μ-loop) → c .before .loop .len < length (c .before .loop .list)
 room c = pick-room (c .before .loop .inv) (S c .pre) (c .loop-test .taken)
 
--- the test of a site's label
+-- the test of a site's label and size, where the label is z
+abbrev test : tie.In-loop Inv-loop μ-loop → ℕ → Bool
+test t z = eqb z (t .before .loop .i) && not (eqb (getD (S t .args .tally .now) (t .before .loop .i) 0) 1)
+
 abbrev own : tie.After-wide Inv-loop μ-loop → Bool
-own c = eqb (c .wide .result) (c .before .before .before .before .loop .i)
+own c = test (c .before .before .before) (c .wide .result)
 
 loop-holds : tie.Need-loop-holds Inv-loop μ-loop
 loop-holds c = pick-none _ _ _
 
+mul-size : tie.Need-mul-size Inv-loop μ-loop
+mul-size c = omega (arith, S c .pre .sized .long)
+
+shared-slice-read-size : tie.Need-shared-slice-read-size Inv-loop μ-loop
+shared-slice-read-size c = omega (arith, S (c .before) .pre .sized .long)
+
 mul-list : tie.Need-mul-list Inv-loop μ-loop
-mul-list c = omega (arith, S c .pre .sized .long)
-
-shared-slice-read-list : tie.Need-shared-slice-read-list Inv-loop μ-loop
-shared-slice-read-list c = omega (arith, S (c .before) .pre .sized .long)
-
-mul-list-2 : tie.Need-mul-list-2 Inv-loop μ-loop
-mul-list-2 c = omega (arith, room (c .before))
+mul-list c = omega (arith, room (c .before))
 
 slice-write-list : tie.Need-slice-write-list Inv-loop μ-loop
 slice-write-list c = room (c .before)
@@ -67,8 +70,7 @@ loop-again : tie.Need-loop-again Inv-loop μ-loop
 loop-again c =
     let w = c .before in
     let t = w .before .before .before in
-    pick-more (t .before .loop .inv) (S t .pre) (t .loop-test .taken) (own w) (ap (λ (z : ℕ). eqb z (t .before .loop .i)) (sym (w .wide .ensures))) _
-    (c .one .ensures)
+    pick-more (t .before .loop .inv) (S t .pre) (t .loop-test .taken) (own w) (ap (test t) (sym (w .wide .ensures))) _ (c .one .ensures)
 
 same-length : tie.Need-same-length Inv-loop μ-loop
 same-length c = search needs
@@ -83,9 +85,9 @@ gather-sizes-spec =
     Inv-loop
     μ-loop
     loop-holds
+    mul-size
+    shared-slice-read-size
     mul-list
-    shared-slice-read-list
-    mul-list-2
     slice-write-list
     mul-wide
     shared-slice-read-wide

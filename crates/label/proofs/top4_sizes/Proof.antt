@@ -3,20 +3,23 @@ use Prim.Native.Nat.{_-_, _≤_}
 use native.Mathlib.Omega.{arith}
 use native.Mathlib.Nat.{le-antisymm}
 use lib.ListN.{length}
-use Rattle.label.specs.Sizes.{orMore, Top4}
-use Rattle.label.proofs.Ranks.{or-more-falls, top-none, top-more}
+use Rattle.label.specs.Sizes.{allOrMore, Top4}
+use Rattle.label.proofs.Ranks.{all-fall, top-none, top-more}
 use borrow.Author.Needs.{needs}
 use Rattle.label.proofs.top4_sizes.Statement.{statement}
 use Rattle.label.proofs.top4_sizes.Tie as tie
 
 abbrev Inv-loop : tie.InvT-loop
-Inv-loop sizes t₀ i₀ t i = (i ≤ length sizes) × Top4 (orMore sizes i) (t .0) (t .1) (t .2) (t .3)
+Inv-loop sizes ones t₀ i₀ t i = (i ≤ length sizes) × Top4 (allOrMore ones sizes i) (t .0) (t .1) (t .2) (t .3)
 
 abbrev μ-loop : tie.MeasureT-loop
-μ-loop sizes t₀ i₀ t i = length sizes - i
+μ-loop sizes ones t₀ i₀ t i = length sizes - i
 
 loop-holds : tie.Need-loop-holds Inv-loop μ-loop
-loop-holds c = (omega arith, top-none (c .before .args .sizes .now))
+loop-holds c = (omega arith, top-none _ (c .before .before .args .sizes .now) (c .top-ones .ensures))
+
+top-ones-requires : tie.Need-top-ones-requires Inv-loop μ-loop
+top-ones-requires c κs = search needs
 
 mul-insert : tie.Need-mul-insert Inv-loop μ-loop
 mul-insert c = search needs
@@ -36,9 +39,10 @@ loop-less c = search needs
 loop-again : tie.Need-loop-again Inv-loop μ-loop
 loop-again c =
     let t = c .before .before in
-    let xs = t .before .before .before .args .sizes .now in
+    let xs = t .before .before .before .before .args .sizes .now in
+    let k = t .before .before .before .before .args .ones in
     let i = t .before .loop .i in
-    (omega arith, top-more xs i (c .insert .ensures (orMore xs i) (or-more-falls xs i) (t .before .loop .inv .1)))
+    (omega arith, top-more k xs i (c .insert .ensures (allOrMore k xs i) (all-fall k xs i) (t .before .loop .inv .1)))
 
 returns : tie.Need-returns Inv-loop μ-loop
 returns c = rw (le-antisymm (c .before .loop .inv .0) (c .loop-test .left)) at (c .before .loop .inv .1)
@@ -49,6 +53,7 @@ top4-sizes-spec =
     (tie.spec
     Inv-loop
     μ-loop
+    top-ones-requires
     loop-holds
     mul-insert
     shared-slice-read-insert

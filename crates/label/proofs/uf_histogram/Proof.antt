@@ -9,26 +9,26 @@ use Rattle.label.proofs.uf_histogram.Statement.{statement}
 use Rattle.label.proofs.uf_histogram.Tie as tie
 
 abbrev Inv-loop : tie.InvT-loop
-Inv-loop sizes counts₀ i₀ counts i = Bins sizes (length counts₀) counts i
+Inv-loop sizes ones counts₀ i₀ counts i = Bins sizes ones (length counts₀) counts i
 
 abbrev μ-loop : tie.MeasureT-loop
-μ-loop sizes counts₀ i₀ counts i = length sizes - i
+μ-loop sizes ones counts₀ i₀ counts i = length sizes - i
 
 abbrev S : tie.In-loop Inv-loop μ-loop → tie.Start Inv-loop μ-loop
 S c = c .before .before .before .before .before .before .before .before
 
-clear-requires : tie.Need-clear-requires Inv-loop μ-loop
-clear-requires c κs = search needs
+start-counts-requires : tie.Need-start-counts-requires Inv-loop μ-loop
+start-counts-requires c κs = c .before .before .before .pre .ones-low
 
 -- the cleared counts are as long as the lent ones
-asked : (c : tie.In-loop Inv-loop μ-loop) → Histogramming (S c .args .sizes .now) (length (c .before .before .before .before .clear .last .0))
-asked c = rw (← c .before .before .before .before .clear .ensures .long) at (S c .pre)
+asked : (c : tie.In-loop Inv-loop μ-loop) → Histogramming (S c .args .sizes .now) (S c .args .ones) (length (c .before .before .before .before .start-counts .last .1 .0))
+asked c = rw (← c .before .before .before .before .start-counts .ensures .long) at (S c .pre)
 
 bin : (c : tie.After-wide Inv-loop μ-loop) → c .wide .result < length (c .before .before .before .loop .counts)
 bin c = let t = c .before .before in bin-lt (t .before .loop .inv) (asked t) (t .loop-test .taken) _ (c .wide .ensures)
 
 loop-holds : tie.Need-loop-holds Inv-loop μ-loop
-loop-holds c = let e = c .before .before in bins-none _ _ _ (rw (← e .clear .ensures .long) at (e .clear .ensures))
+loop-holds c = let e = c .before .before in bins-none _ _ _ _ (rw (← e .start-counts .ensures .long) at (e .start-counts .ensures))
 
 mul-wide : tie.Need-mul-wide Inv-loop μ-loop
 mul-wide c = search needs
@@ -68,7 +68,7 @@ same-length : tie.Need-same-length Inv-loop μ-loop
 same-length c = search needs
 
 returns : tie.Need-returns Inv-loop μ-loop
-returns c = let e = c .before .before .before .before in rw (e .clear .ensures .long) at (bins-end (c .before .loop .inv) (c .loop-test .left))
+returns c = let e = c .before .before .before .before in rw (e .start-counts .ensures .long) at (bins-end (c .before .loop .inv) (c .loop-test .left))
 
 pub uf-histogram-spec : {M : Type 1} → statement M
 uf-histogram-spec =
@@ -76,7 +76,7 @@ uf-histogram-spec =
     (tie.spec
     Inv-loop
     μ-loop
-    clear-requires
+    start-counts-requires
     loop-holds
     mul-wide
     shared-slice-read-wide
