@@ -12,16 +12,21 @@ use lib.ListN.{length, getD, set, take, length-set}
 use lib.Seq.{length-take-le, getD-take, getD-set-same, getD-set-other}
 use Rattle.paper.specs.Component.Sizes.{bit, countWhere, labelOf, counted, sizeOf, ofSize, atLeast, Counted, Rank, Largest, Sized}
 use Rattle.label.specs.Counting.{count-zero, count-pos, count-most, count-ext}
+use Rattle.label.specs.Contract.{isOne}
 use Rattle.label.specs.Sizes.{single, several, Picked, Histogramming, onesPass, Histogram, allOrMore, Place, Top4}
 use Rattle.label.proofs.Ranks.{top-ext}
 
+first-of : (a b : Bool) → (a && b) ≡ true → a ≡ true
+first-of true b e = refl
+first-of false b e = e
+
 -- a component has a site
-no-empty : (l : List ℕ) → ofSize l 0 ≡ 0
+no-empty : (mark : ℕ → Bool) (l : List ℕ) → ofSize mark l 0 ≡ 0
 unfolding sizeOf
-no-empty l = count-zero (λ r. counted l r && eqb (sizeOf l r) 0) (length l) (λ r rl. go r rl (counted l r) refl)
+no-empty mark l = count-zero (λ r. counted mark l r && eqb (sizeOf l r) 0) (length l) (λ r rl. go r rl (counted mark l r) refl)
   where
-    go : (r : ℕ) → r < length l → (b : Bool) → counted l r ≡ b → b && eqb (sizeOf l r) 0 ≡ false
-    go r rl true e = ne-eqb (sizeOf l r) 0 (λ z. lt-irrefl 0 (rw z at (count-pos (λ i. eqb (labelOf l i) r) (length l) r rl e)))
+    go : (r : ℕ) → r < length l → (b : Bool) → counted mark l r ≡ b → b && eqb (sizeOf l r) 0 ≡ false
+    go r rl true e = ne-eqb (sizeOf l r) 0 (λ z. lt-irrefl 0 (rw z at (count-pos (λ i. eqb (labelOf l i) r) (length l) r rl (first-of _ _ e))))
     go r rl false e = refl
 
 -- another component, which is counted or not, with one site or not
@@ -35,32 +40,40 @@ turn true false true b x y z e h = omega (arith, h)
 turn true false false b x y z e h = omega (arith, h)
 
 -- those of one site and the others are all
-parts : (l tally : List ℕ) (f : ℕ → Bool) (m : ℕ)
-    → onesPass (countWhere (single l tally) m) f + countWhere (λ r. several l tally r && f (getD tally r 0)) m ≡ countWhere (λ r. counted l r && f (getD tally r 0)) m
+parts : (l tally marks : List ℕ) (f : ℕ → Bool) (m : ℕ)
+    → onesPass (countWhere (single l tally marks) m) f + countWhere (λ r. several l tally marks r && f (getD tally r 0)) m
+    ≡ countWhere (λ r. counted (isOne marks) l r && f (getD tally r 0)) m
 unfolding countWhere
-parts l tally f zero = none (f 1)
+parts l tally marks f zero = none (f 1)
   where
     none : (b : Bool) → cond b 0 0 + 0 ≡ 0
     none true = refl
     none false = refl
-parts l tally f (suc m) = turn (counted l m) (eqb (getD tally m 0) 1) (f 1) (f (getD tally m 0)) _ _ _ (λ e. ap f (sym (eqb-true _ _ e))) (parts l tally f m)
+parts l tally marks f (suc m) =
+    turn (counted (isOne marks) l m) (eqb (getD tally m 0) 1) (f 1) (f (getD tally m 0)) _ _ _ (λ e. ap f (sym (eqb-true _ _ e))) (parts l tally marks f m)
 
-module _ {l tally list : List ℕ} {ones m : ℕ} (z : Sized l tally) (s : ones ≡ countWhere (single l tally) (length l)) (p : Picked l tally list m)
-    (fits : m ≤ length list) where
+module _
+    {l tally marks list : List ℕ} {ones m : ℕ} (z : Sized l tally) (s : ones ≡ countWhere (single l tally marks) (length l))
+    (p : Picked l tally marks list m) (fits : m ≤ length list)
+  where
   pub part-long : length (take m list) ≡ m
   part-long = length-take-le m list fits
 
   -- as many of the list and of the sizes 1 pass a test as components
   passing : (f : ℕ → Bool)
-      → onesPass ones f + countWhere (λ t. f (getD (take m list) t 0)) (length (take m list)) ≡ countWhere (λ r. counted l r && f (sizeOf l r)) (length l)
-  passing f = rw (s, listed) (parts l tally f (length l)) ∙ count-ext (λ r. counted l r && f (getD tally r 0)) (λ r. counted l r && f (sizeOf l r)) (length l)
-      (λ r rl. ap (λ (y : ℕ). counted l r && f y) (z .each r rl))
+      → onesPass ones f + countWhere (λ t. f (getD (take m list) t 0)) (length (take m list))
+      ≡ countWhere (λ r. counted (isOne marks) l r && f (sizeOf l r)) (length l)
+  passing f =
+      rw (s, listed) (parts l tally marks f (length l))
+      ∙ count-ext (λ r. counted (isOne marks) l r && f (getD tally r 0)) (λ r. counted (isOne marks) l r && f (sizeOf l r)) (length l)
+      (λ r rl. ap (λ (y : ℕ). counted (isOne marks) l r && f y) (z .each r rl))
     where
-      listed : countWhere (λ t. f (getD (take m list) t 0)) (length (take m list)) ≡ countWhere (λ r. several l tally r && f (getD tally r 0)) (length l)
+      listed : countWhere (λ t. f (getD (take m list) t 0)) (length (take m list))
+          ≡ countWhere (λ r. several l tally marks r && f (getD tally r 0)) (length l)
       listed = rw part-long (count-ext (λ t. f (getD (take m list) t 0)) (λ t. f (getD list t 0)) m (λ t tl. ap f (getD-take m list t 0 tl))) ∙ p .same f
 
   few : ones ≤ length l
-  few = rw s (count-most (single l tally) (length l))
+  few = rw s (count-most (single l tally marks) (length l))
 
   pub histogramming : length l ≤ 4096 → Histogramming (take m list) ones (length l + 1)
   histogramming h = record {
@@ -73,13 +86,13 @@ module _ {l tally list : List ℕ} {ones m : ℕ} (z : Sized l tally) (s : ones 
       low : (t : ℕ) → t < m → getD (take m list) t 0 < length l + 1
       low t tl = rw (getD-take m list t 0 tl) (omega (arith, p .low t tl))
 
-  pub counted-are : {counts : List ℕ} → Histogram (take m list) ones counts (length l + 1) → Counted l counts
-  counted-are {counts} h = record { long = h .long; zeroth = each 0 (omega arith) ∙ no-empty l; each = each }
+  pub counted-are : {counts : List ℕ} → Histogram (take m list) ones counts (length l + 1) → Counted (isOne marks) l counts
+  counted-are {counts} h = record { long = h .long; zeroth = each 0 (omega arith) ∙ no-empty (isOne marks) l; each = each }
     where
-      each : (s : ℕ) → s ≤ length l → getD counts s 0 ≡ ofSize l s
+      each : (s : ℕ) → s ≤ length l → getD counts s 0 ≡ ofSize (isOne marks) l s
       each s sl = h .each s (omega arith) ∙ passing (λ x. eqb x s)
 
-  pub largest-are : {a b c d : ℕ} → Top4 (allOrMore ones (take m list) (length (take m list))) a b c d → Top4 (atLeast l) a b c d
+  pub largest-are : {a b c d : ℕ} → Top4 (allOrMore ones (take m list) (length (take m list))) a b c d → Top4 (atLeast (isOne marks) l) a b c d
   largest-are = top-ext (λ v. passing (leb v))
 
 -- ---- the four sizes are written
@@ -92,15 +105,15 @@ at xs i v long l = getD-set-same xs i v 0 (omega arith)
 abbrev pub written : List ℕ → ℕ → ℕ → ℕ → ℕ → List ℕ
 written xs a b c d = set (set (set (set xs 0 a) 1 b) 2 c) 3 d
 
-module _ (l xs : List ℕ) (long : length xs ≡ 4) {a b c d : ℕ} (h : Top4 (atLeast l) a b c d) where
-  rank : {t x : ℕ} → Place (atLeast l) t x → getD (written xs a b c d) t 0 ≡ x → Rank l t (getD (written xs a b c d) t 0)
+module _ {mark : ℕ → Bool} (l xs : List ℕ) (long : length xs ≡ 4) {a b c d : ℕ} (h : Top4 (atLeast mark l) a b c d) where
+  rank : {t x : ℕ} → Place (atLeast mark l) t x → getD (written xs a b c d) t 0 ≡ x → Rank mark l t (getD (written xs a b c d) t 0)
   rank p e = rw e (record { larger = p .larger; reached = p .reached })
 
-  pub largest-written : Largest l (written xs a b c d)
+  pub largest-written : Largest mark l (written xs a b c d)
   largest-written = record { long = simp length-set long; each = below-more P 3 (below-more P 2 (below-more P 1 (below-more P 0 (below-none P) p0) p1) p2) p3 }
     where
       P : ℕ → Type 0
-      P t = Rank l t (getD (written xs a b c d) t 0)
+      P t = Rank mark l t (getD (written xs a b c d) t 0)
 
       s1 : List ℕ
       s1 = set xs 0 a

@@ -1,12 +1,14 @@
 -- What `label` and `count` ask and promise.
 use Prim.Native.Nat.{ℕ, _+_, _*_, _≤_, _<_}
 use mathlib.Core.Path.{_≡_}
+use mathlib.Core.Bool.{Bool}
 use mathlib.Core.List.{List}
+use lib.Dec.{eqb}
 use lib.ListN.{length, getD}
 use Rattle.paper.specs.Panel.Input.{Graph}
 use Rattle.paper.specs.Component.Labels.{Labels}
 use Rattle.paper.specs.Component.Marks.{marked}
-use Rattle.paper.specs.Component.Sizes.{Sized, Counted, Largest}
+use Rattle.paper.specs.Component.Sizes.{everyOne, Sized, Counted, Largest}
 
 abbrev pub graphOf : ℕ → ℕ → List ℕ → Graph
 graphOf n d fwd = record { n = n; d = d; fwd = fwd }
@@ -26,17 +28,22 @@ pub record Labelled (n d : ℕ) (fwd holds l tally : List ℕ) : Type 0 where
   pub labels : Labels (graphOf n d fwd) (marked d holds) l
   pub sized : Sized l tally
 
--- labels with their tally, and places for the counts and the four sizes
-pub record Countable (labels tally : List ℕ) (counts sizes : ℕ) : Type 0 where
+-- the byte at r is 1
+abbrev pub isOne : List ℕ → ℕ → Bool
+isOne marks r = eqb (getD marks r 0) 1
+
+-- labels with their tally, a byte for each site, and places for the counts and the four sizes
+pub record Countable (labels tally marks : List ℕ) (counts sizes : ℕ) : Type 0 where
   pub n-high : length labels ≤ 4096
   pub sized : Sized labels tally
+  pub marked : length marks ≡ length labels
   pub counts-long : counts ≡ length labels + 1
   pub sizes-long : sizes ≡ 4
 
--- the number of components of each size, and the four largest sizes
-pub record Reported (labels counts sizes : List ℕ) : Type 0 where
-  pub counted : Counted labels counts
-  pub largest : Largest labels sizes
+-- the number of counted components of each size, and the four largest sizes of these
+pub record Reported (mark : ℕ → Bool) (labels counts sizes : List ℕ) : Type 0 where
+  pub counted : Counted mark labels counts
+  pub largest : Largest mark labels sizes
 
 -- both steps: places for all that is written, and for a tally of all sites
 pub record Room (n d : ℕ) (fwd holds : List ℕ) (labels counts sizes tally : ℕ) : Type 0 where
@@ -47,4 +54,4 @@ pub record Room (n d : ℕ) (fwd holds : List ℕ) (labels counts sizes tally : 
 
 pub record Seen (n d : ℕ) (fwd holds l counts sizes : List ℕ) : Type 0 where
   pub labels : Labels (graphOf n d fwd) (marked d holds) l
-  pub reported : Reported l counts sizes
+  pub reported : Reported everyOne l counts sizes

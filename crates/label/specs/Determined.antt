@@ -1,6 +1,7 @@
 -- How tight the promises are: what each allows for one input is one answer and one content of every lent buffer.
 use Prim.Native.Nat.{ℕ}
 use mathlib.Core.Path.{_≡_, refl, sym, _∙_, ap}
+use mathlib.Core.Bool.{Bool}
 use mathlib.Core.List.{List}
 use lib.Seq.{ext-getD}
 use Rattle.paper.specs.Component.Marks.{marked}
@@ -26,7 +27,7 @@ label-determined n d fwd holds l l′ t t′ h h′ = record { first = same; sec
     same : l ≡ l′
     same = labels-unique (graphOf n d fwd) (marked d holds) l l′ (h .labels) (h′ .labels)
 
-pub count-determined : (l c c′ s s′ : List ℕ) → Reported l c s → Reported l c′ s′ → SameTwo c c′ s s′
+pub count-determined : {mark : ℕ → Bool} (l c c′ s s′ : List ℕ) → Reported mark l c s → Reported mark l c′ s′ → SameTwo c c′ s s′
 count-determined l c c′ s s′ h h′ = record { first = counts-unique l c c′ (h .counted) (h′ .counted); second = sizes-unique l s s′ (h .largest) (h′ .largest) }
 
 pub record Same (a a′ : Labelling) (b b′ : Lent) : Type 0 where

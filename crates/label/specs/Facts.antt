@@ -12,7 +12,7 @@ use lib.ListN.{length, getD}
 use Rattle.paper.specs.Panel.Input.{Graph}
 use Rattle.paper.specs.Component.Labels.{Joined, Labels}
 use Rattle.paper.specs.Component.Marks.{marked}
-use Rattle.paper.specs.Component.Sizes.{countWhere, labelOf, counted, sizeOf, Counted}
+use Rattle.paper.specs.Component.Sizes.{countWhere, labelOf, counted, everyOne, sizeOf, Counted}
 use Rattle.paper.specs.Law.Unique.{same-label, label-lt}
 use Rattle.label.specs.Contract.{graphOf, Labelled}
 use Rattle.label.specs.Counting.{count-most}
@@ -28,14 +28,14 @@ module _ (l : List ℕ) (n : ℕ) (long : length l ≡ n) (below : (i : ℕ) →
     (flat : (i : ℕ) → i < n → labelOf l (labelOf l i) ≡ labelOf l i) where
   -- the component r has s sites; the site i has the label r, which is a component's
   of-size : ℕ → ℕ → Bool
-  of-size s r = counted l r && eqb (sizeOf l r) s
+  of-size s r = counted everyOne l r && eqb (sizeOf l r) s
 
   within : ℕ → ℕ → Bool
-  within r i = counted l r && eqb (labelOf l i) r
+  within r i = counted everyOne l r && eqb (labelOf l i) r
 
   -- the sites of component r, if it is one
   sites : ℕ → ℕ
-  sites r = cond (counted l r) (sizeOf l r) 0
+  sites r = cond (counted everyOne l r) (sizeOf l r) 0
 
   size-le : (r : ℕ) → sizeOf l r ≤ n
   unfolding sizeOf
@@ -44,7 +44,7 @@ module _ (l : List ℕ) (n : ℕ) (long : length l ≡ n) (below : (i : ℕ) →
   -- of all sizes one is r's
   by-size : (r : ℕ) → total (λ s. cond (of-size s r) s 0) (n + 1) ≡ sites r
   unfolding of-size sites
-  by-size r = go (counted l r)
+  by-size r = go (counted everyOne l r)
     where
       swap : (s : ℕ) (b : Bool) → eqb (sizeOf l r) s ≡ b → cond b s 0 ≡ cond b (sizeOf l r) 0
       swap s true e = sym (eqb-true (sizeOf l r) s e)
@@ -60,7 +60,7 @@ module _ (l : List ℕ) (n : ℕ) (long : length l ≡ n) (below : (i : ℕ) →
   -- the sites of r one by one
   by-site : (r : ℕ) → sites r ≡ total (λ i. cond (within r i) 1 0) n
   unfolding sites within sizeOf
-  by-site r = go (counted l r)
+  by-site r = go (counted everyOne l r)
     where
       go : (b : Bool) → cond b (countWhere (λ i. eqb (labelOf l i) r) (length l)) 0 ≡ total (λ i. cond (b && eqb (labelOf l i) r) 1 0) n
       go true = rw long (sym (one-mul (countWhere (λ i. eqb (labelOf l i) r) n)) ∙ total-count 1 (λ i. eqb (labelOf l i) r) n)
@@ -69,16 +69,16 @@ module _ (l : List ℕ) (n : ℕ) (long : length l ≡ n) (below : (i : ℕ) →
   -- of all components one is i's
   by-label : (i : ℕ) → i < n → total (λ r. cond (within r i) 1 0) n ≡ 1
   unfolding within
-  by-label i il = total-one (λ r. counted l r && eqb (labelOf l i) r) 1 n (labelOf l i) (below i il) own (λ k _ ne. other k ne (counted l k))
+  by-label i il = total-one (λ r. counted everyOne l r && eqb (labelOf l i) r) 1 n (labelOf l i) (below i il) own (λ k _ ne. other k ne (counted everyOne l k))
     where
-      own : (counted l (labelOf l i) && eqb (labelOf l i) (labelOf l i)) ≡ true
+      own : (counted everyOne l (labelOf l i) && eqb (labelOf l i) (labelOf l i)) ≡ true
       own = rw (eq-eqb (labelOf l (labelOf l i)) (labelOf l i) (flat i il)) (eq-eqb (labelOf l i) (labelOf l i) refl)
 
       other : (k : ℕ) → k ≢ labelOf l i → (b : Bool) → (b && eqb (labelOf l i) k) ≡ false
       other k ne true = ne-eqb (labelOf l i) k (λ e. ne (sym e))
       other k ne false = refl
 
-  pub sizes-total : (counts : List ℕ) → Counted l counts → total (λ s. s * getD counts s 0) (n + 1) ≡ n
+  pub sizes-total : (counts : List ℕ) → Counted everyOne l counts → total (λ s. s * getD counts s 0) (n + 1) ≡ n
   unfolding of-size
   sizes-total counts h =
       total-ext (λ s. s * getD counts s 0) (λ s. total (λ r. cond (of-size s r) s 0) n) (n + 1) each
@@ -91,7 +91,7 @@ module _ (l : List ℕ) (n : ℕ) (long : length l ≡ n) (below : (i : ℕ) →
       each s sl = ap (λ (x : ℕ). s * x) (h .each s (omega arith)) ∙ rw (← long) (total-count s (of-size s) (length l))
 
 -- the number of sites is the sum over all sizes s of s times count s
-pub counts-total : (t : Graph) (holding : ℕ → ℕ → Bool) (l counts : List ℕ) → Labels t holding l → Counted l counts
+pub counts-total : (t : Graph) (holding : ℕ → ℕ → Bool) (l counts : List ℕ) → Labels t holding l → Counted everyOne l counts
     → total (λ s. s * getD counts s 0) (t .n + 1) ≡ t .n
 counts-total t holding l counts h = sizes-total l (t .n) (h .long) (label-lt t holding l h) flat counts
   where

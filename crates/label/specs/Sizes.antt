@@ -7,28 +7,30 @@ use mathlib.Core.List.{List}
 use lib.Dec.{eqb, leb}
 use lib.ListN.{length, getD}
 use Rattle.paper.specs.Component.Sizes.{bit, countWhere, counted, Sized}
+use Rattle.label.specs.Contract.{isOne}
 
 pub record Cleared (n : ℕ) (xs : List ℕ) : Type 0 where
   pub long : length xs ≡ n
   pub zeros : (x : ℕ) → x < n → getD xs x 0 ≡ 0
 
-pub record Picking (l tally : List ℕ) (room : ℕ) : Type 0 where
+pub record Picking (l tally marks : List ℕ) (room : ℕ) : Type 0 where
   pub n-high : length l ≤ 4096
   pub sized : Sized l tally
+  pub marked : length marks ≡ length l
   pub fits : length l ≤ room
 
--- r is the label of a component of one site; of another size
-abbrev pub single : List ℕ → List ℕ → ℕ → Bool
-single l tally r = counted l r && eqb (getD tally r 0) 1
+-- r is the label of a counted component of one site; of another size
+abbrev pub single : List ℕ → List ℕ → List ℕ → ℕ → Bool
+single l tally marks r = counted (isOne marks) l r && eqb (getD tally r 0) 1
 
-abbrev pub several : List ℕ → List ℕ → ℕ → Bool
-several l tally r = counted l r && not (eqb (getD tally r 0) 1)
+abbrev pub several : List ℕ → List ℕ → List ℕ → ℕ → Bool
+several l tally marks r = counted (isOne marks) l r && not (eqb (getD tally r 0) 1)
 
--- the first m of the list are the tallies of the components that have not one site: as many pass each test
-pub record Picked (l tally list : List ℕ) (m : ℕ) : Type 0 where
+-- the first m of the list are the tallies of the counted components that have not one site: as many pass each test
+pub record Picked (l tally marks list : List ℕ) (m : ℕ) : Type 0 where
   pub short : m ≤ length l
   pub low : (t : ℕ) → t < m → getD list t 0 ≤ length l
-  pub same : (f : ℕ → Bool) → countWhere (λ t. f (getD list t 0)) m ≡ countWhere (λ r. several l tally r && f (getD tally r 0)) (length l)
+  pub same : (f : ℕ → Bool) → countWhere (λ t. f (getD list t 0)) m ≡ countWhere (λ r. several l tally marks r && f (getD tally r 0)) (length l)
 
 -- how many of so many sizes 1 pass a test
 abbrev pub onesPass : ℕ → (ℕ → Bool) → ℕ

@@ -5,7 +5,7 @@ ghost use lib.ListN.{length};
 ghost use Rattle.paper.specs.Component.Sizes.{bit, countWhere};
 ghost use Rattle.paper.specs.Component.Marks.{marked, Tells};
 ghost use Rattle.label.specs.Closure.{Only};
-ghost use Rattle.label.specs.Contract.{Given, Labelled, Countable, Reported, Room, Seen};
+ghost use Rattle.label.specs.Contract.{isOne, Given, Labelled, Countable, Reported, Room, Seen};
 ghost use Rattle.label.specs.Forest.{Adds};
 ghost use Rattle.label.specs.Entry.{ExactLengths, Below, Answers};
 ghost use Rattle.label.specs.Sizes.{Cleared, Picking, single, Picked, Started, Histogramming, Histogram, onesOrMore, allOrMore, Top4, with, Falling};
@@ -171,14 +171,14 @@ fn clear(xs: &mut [u32])
 }
 
 // How many components have one site. Where few sites act these are most, and to count them size by size is a chain of stores to one place.
-fn count_singles(labels: &[u32], tally: &[u32]) -> u32
-    requires { ⌜ Picking (now labels) (now tally) (length (now labels)) ⌝ }
-    ensures { λ r. ⌜ r ≡ countWhere (single (now (labels .entry)) (now (tally .entry))) (length (now (labels .entry))) ⌝ }
+fn count_singles(labels: &[u32], tally: &[u32], marks: &[u8]) -> u32
+    requires { ⌜ Picking (now labels) (now tally) (now marks) (length (now labels)) ⌝ }
+    ensures { λ r. ⌜ r ≡ countWhere (single (now (labels .entry)) (now (tally .entry)) (now (marks .entry))) (length (now (labels .entry))) ⌝ }
 {
     let mut ones: u32 = 0;
     let mut i = 0;
     while i < labels.len() {
-        let own = labels[i] == i as u32;
+        let own = (labels[i] == i as u32) & (marks[i] == 1);
         ones += (own & (tally[i] == 1)) as u32;
         i += 1;
     }
@@ -186,16 +186,17 @@ fn count_singles(labels: &[u32], tally: &[u32]) -> u32
 }
 
 // Lists the sizes of the other components, as `gather` lists sites.
-fn gather_sizes(labels: &[u32], tally: &[u32], list: &mut [u32]) -> usize
-    requires { ⌜ Picking (now labels) (now tally) (length (now list)) ⌝ }
-    ensures { λ r. ⌜ Picked (now (labels .entry)) (now (tally .entry)) (now (list .exit)) r ⌝ }
+fn gather_sizes(labels: &[u32], tally: &[u32], marks: &[u8], list: &mut [u32]) -> usize
+    requires { ⌜ Picking (now labels) (now tally) (now marks) (length (now list)) ⌝ }
+    ensures { λ r. ⌜ Picked (now (labels .entry)) (now (tally .entry)) (now (marks .entry)) (now (list .exit)) r ⌝ }
 {
     let mut len = 0;
     let mut i = 0;
     while i < labels.len() {
         let size = tally[i];
         list[len] = size;
-        len += one((wide(labels[i]) == i) & (size != 1));
+        let own = (wide(labels[i]) == i) & (marks[i] == 1);
+        len += one(own & (size != 1));
         i += 1;
     }
     len
@@ -285,14 +286,14 @@ fn top4_sizes(sizes: &[u32], ones: u32) -> Top
     t
 }
 
-// Writes the number of components of each size and the four largest sizes.
-pub fn count(labels: &[u32], tally: &[u32], counts: &mut [u32], sizes: &mut [u32])
-    requires { ⌜ Countable (now labels) (now tally) (length (now counts)) (length (now sizes)) ⌝ }
-    ensures { λ _. ⌜ Reported (now (labels .entry)) (now (counts .exit)) (now (sizes .exit)) ⌝ }
+// Writes the number of components of each size and the four largest sizes, of those whose smallest site has the mark 1.
+pub fn count(labels: &[u32], tally: &[u32], marks: &[u8], counts: &mut [u32], sizes: &mut [u32])
+    requires { ⌜ Countable (now labels) (now tally) (now marks) (length (now counts)) (length (now sizes)) ⌝ }
+    ensures { λ _. ⌜ Reported (isOne (now (marks .entry))) (now (labels .entry)) (now (counts .exit)) (now (sizes .exit)) ⌝ }
 {
     let mut list = [0u32; 4096];
-    let ones = count_singles(labels, tally);
-    let len = gather_sizes(labels, tally, &mut list);
+    let ones = count_singles(labels, tally, marks);
+    let len = gather_sizes(labels, tally, marks, &mut list);
     uf_histogram(&list[..len], ones, counts);
     let t = top4_sizes(&list[..len], ones);
     sizes[0] = t.0;
@@ -344,7 +345,8 @@ fn label_and_count(
     ensures { λ _. ⌜ Seen n d (now (fwd .entry)) (now (holds .entry)) (now (labels .exit)) (now (counts .exit)) (now (sizes .exit)) ⌝ }
 {
     label(n, d, fwd, holds, labels, &mut tally[..n]);
-    count(labels, &tally[..n], counts, sizes);
+    let every = [1u8; 4096];
+    count(labels, &tally[..n], &every[..n], counts, sizes);
 }
 
 // A refusal with its number, or all is written.

@@ -12,19 +12,21 @@ use Rattle.label.proofs.count.Statement.{statement}
 use Rattle.label.proofs.count.Tie as tie
 
 abbrev S : tie.After-gather-sizes → tie.Start
-S c = c .before .before .before .before .before .before .before
+S c = c .before .before .before .before .before .before .before .before
 
 -- the list has room for the components
-fits : (c : tie.After-gather-sizes) → c .gather-sizes .result ≤ length (c .gather-sizes .last .1 .1 .0)
+fits : (c : tie.After-gather-sizes) → c .gather-sizes .result ≤ length (c .gather-sizes .last .1 .1 .1 .0)
 fits c = omega (arith, S c .pre .n-high, c .gather-sizes .ensures .short)
 
 -- the components of one site were counted before
 singles : (c : tie.After-gather-sizes) → c .before .before .count-singles .result
-    ≡ countWhere (single (S c .args .labels .now) (S c .args .tally .now)) (length (S c .args .labels .now))
+    ≡ countWhere (single (S c .args .labels .now) (S c .args .tally .now) (S c .args .marks .now)) (length (S c .args .labels .now))
 singles c = c .before .before .count-singles .ensures
 
 count-singles-requires : tie.Need-count-singles-requires
-count-singles-requires c κs = let s = c .before .before .before .before in record { n-high = s .pre .n-high; sized = s .pre .sized; fits = le-refl _ }
+count-singles-requires c κs =
+    let s = c .before .before .before .before .before in
+    record { n-high = s .pre .n-high; sized = s .pre .sized; marked = s .pre .marked; fits = le-refl _ }
 
 slice-aggregate-gather-sizes : tie.Need-slice-aggregate-gather-sizes
 slice-aggregate-gather-sizes c = search needs

@@ -5,6 +5,7 @@ use mathlib.Core.Bool.{Bool, not, _&&_}
 use native.Mathlib.Omega.{arith}
 use lib.Dec.{eqb}
 use lib.ListN.{length, getD}
+use Rattle.label.specs.Contract.{isOne}
 use Rattle.label.specs.Counting.{bit-le}
 use Rattle.label.proofs.Picks.{Pick, pick-none, pick-room, pick-more, pick-end}
 use borrow.Author.Needs.{needs}
@@ -12,26 +13,26 @@ use Rattle.label.proofs.gather_sizes.Statement.{statement}
 use Rattle.label.proofs.gather_sizes.Tie as tie
 
 abbrev Inv-loop : tie.InvT-loop
-Inv-loop labels tally list₀ len₀ i₀ list len i = Pick labels tally (length list₀) list len i
+Inv-loop labels tally marks list₀ len₀ i₀ list len i = Pick labels tally marks (length list₀) list len i
 
 abbrev μ-loop : tie.MeasureT-loop
-μ-loop labels tally list₀ len₀ i₀ list len i = length labels - i
+μ-loop labels tally marks list₀ len₀ i₀ list len i = length labels - i
 
 abbrev S : tie.In-loop Inv-loop μ-loop → tie.Start Inv-loop μ-loop
-S c = c .before .before .before .before .before
+S c = c .before .before .before .before .before .before
 
 room : (c : tie.In-loop Inv-loop μ-loop) → c .before .loop .len < length (c .before .loop .list)
 room c = pick-room (c .before .loop .inv) (S c .pre) (c .loop-test .taken)
 
 -- the test of a site's label and size, where the label is z
 abbrev test : tie.In-loop Inv-loop μ-loop → ℕ → Bool
-test t z = eqb z (t .before .loop .i) && not (eqb (getD (S t .args .tally .now) (t .before .loop .i) 0) 1)
+test t z = (eqb z (t .before .loop .i) && isOne (S t .args .marks .now) (t .before .loop .i)) && not (eqb (getD (S t .args .tally .now) (t .before .loop .i) 0) 1)
 
 abbrev own : tie.After-wide Inv-loop μ-loop → Bool
 own c = test (c .before .before .before) (c .wide .result)
 
 loop-holds : tie.Need-loop-holds Inv-loop μ-loop
-loop-holds c = pick-none _ _ _
+loop-holds c = pick-none _ _ _ _
 
 mul-size : tie.Need-mul-size Inv-loop μ-loop
 mul-size c = omega (arith, S c .pre .sized .long)
@@ -54,11 +55,14 @@ shared-slice-read-wide c = search needs
 wide-requires : tie.Need-wide-requires Inv-loop μ-loop
 wide-requires c κs = search needs
 
+shared-slice-read-own : tie.Need-shared-slice-read-own Inv-loop μ-loop
+shared-slice-read-own c = let t = c .before .before .before .before in omega (arith, S t .pre .marked, t .loop-test .taken)
+
 one-requires : tie.Need-one-requires Inv-loop μ-loop
 one-requires c κs = search needs
 
 add-len : tie.Need-add-len Inv-loop μ-loop
-add-len c = omega (arith, bit-le (own (c .before)))
+add-len c = omega (arith, bit-le (own (c .before .before)))
 
 add-i : tie.Need-add-i Inv-loop μ-loop
 add-i c = search needs
@@ -68,7 +72,7 @@ loop-less c = search needs
 
 loop-again : tie.Need-loop-again Inv-loop μ-loop
 loop-again c =
-    let w = c .before in
+    let w = c .before .before in
     let t = w .before .before .before in
     pick-more (t .before .loop .inv) (S t .pre) (t .loop-test .taken) (own w) (ap (test t) (sym (w .wide .ensures))) _ (c .one .ensures)
 
@@ -92,6 +96,7 @@ gather-sizes-spec =
     mul-wide
     shared-slice-read-wide
     wide-requires
+    shared-slice-read-own
     one-requires
     add-len
     add-i

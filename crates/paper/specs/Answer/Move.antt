@@ -10,7 +10,7 @@ use Rattle.paper.specs.Panel.Takes.{takesGreys}
 use Rattle.paper.specs.Site.Acting.{SomeActs, NoneActs}
 use Rattle.paper.specs.Site.Bonds.{holds, holdsGrey}
 use Rattle.paper.specs.Component.Labels.{Labels}
-use Rattle.paper.specs.Component.Sizes.{Counted, Largest}
+use Rattle.paper.specs.Component.Sizes.{everyOne, Counted, Largest}
 use Rattle.paper.specs.Move.Moving.{Moves}
 use Rattle.paper.specs.Refusal.Rule.{Broken}
 use Rattle.paper.specs.Refusal.Rules.{When, rules}
@@ -21,8 +21,8 @@ pub record Seen (c : Call) (b b′ : Buffers) : Type 0 where
   pub labels : Labels (graph c) (holds c (b .spins)) (b′ .labels)
   pub grey-labels : When (takesGreys c) (Labels (graph c) (holdsGrey c (b .spins)) (b′ .greyLabels))
   pub grey-kept : takesGreys c ≡ false → b′ .greyLabels ≡ b .greyLabels
-  pub counts : Counted (b′ .labels) (b′ .counts)
-  pub sizes : Largest (b′ .labels) (b′ .sizes)
+  pub counts : Counted everyOne (b′ .labels) (b′ .counts)
+  pub sizes : Largest everyOne (b′ .labels) (b′ .sizes)
 
 -- refused with the number r: nothing is written
 pub record Refuses (c : Call) (p : Choices) (b : Buffers) (r : ℕ) (b′ : Buffers) : Type 0 where

@@ -13,7 +13,7 @@ use Rattle.paper.specs.Panel.Input.{graph, Call, Choices, Buffers, spin,
 use Rattle.paper.specs.Site.Acting.{acts, SomeActs, NoneActs}
 use Rattle.paper.specs.Site.Bonds.{holds}
 use Rattle.paper.specs.Component.Labels.{Labels}
-use Rattle.paper.specs.Component.Sizes.{Counted, Largest}
+use Rattle.paper.specs.Component.Sizes.{everyOne, Counted, Largest}
 use Rattle.paper.specs.Move.Moving.{final}
 use Rattle.paper.specs.Refusal.Rules.{Spin, Spins, Exact, Chosen, Seeded}
 use Rattle.paper.specs.Refusal.Kept.{Sound, Fit, Valid, valid-kept}
@@ -68,7 +68,7 @@ some-or-none f (suc m) = go (f m) refl (some-or-none f m)
 
 module _
     {c : Call} {r : Choices} {d : Buffers} (v : Reversible (c .mode) (size c)) (k : Valid c r d) (l counts sizes : List ℕ)
-    (labels : Labels (graph c) (holds c (d .spins)) l) (tally : Counted l counts) (four : Largest l sizes)
+    (labels : Labels (graph c) (holds c (d .spins)) l) (tally : Counted everyOne l counts) (four : Largest everyOne l sizes)
   where
     left : List ℤ → Buffers
     left ys = record { spins = ys; labels = l; greyLabels = d .greyLabels; counts = counts; sizes = sizes }

@@ -16,7 +16,7 @@ use Rattle.paper.specs.Site.Acting.{acts, NoneActs}
 use Rattle.paper.specs.Site.Bonds.{holds, holdsGrey}
 use Rattle.paper.specs.Component.Links.{Linked.stay, Linked.along, Linked.against}
 use Rattle.paper.specs.Component.Labels.{Bond, Joined, Labels}
-use Rattle.paper.specs.Component.Sizes.{labelOf, ofSize, atLeast, Counted, Rank, Largest}
+use Rattle.paper.specs.Component.Sizes.{labelOf, everyOne, ofSize, atLeast, Counted, Rank, Largest}
 use Rattle.paper.specs.Move.Moving.{final}
 use Rattle.paper.specs.Refusal.Rule.{Kept}
 use Rattle.paper.specs.Refusal.Rules.{When, rules}
@@ -82,20 +82,20 @@ module _ {t : Graph} {holding : ℕ → ℕ → Bool} {parents l : List ℕ} (f 
   }
 
 -- ---- counts and sizes
-abbrev pub counted : (l counts : List ℕ) → Decided (Counted l counts)
-counted l counts =
+abbrev pub counted : (mark : ℕ → Bool) (l counts : List ℕ) → Decided (Counted mark l counts)
+counted mark l counts =
     iff (λ (a, (b, c)). record { long = a; zeroth = b; each = λ s h. c s (omega arith) }) (λ r. (r .long, (r .zeroth, λ s h. r .each s (omega arith))))
-    (both (eq (length counts) (length l + 1)) (both (eq (getD counts 0 0) 0) (all (length l + 1) (λ s. eq (getD counts s 0) (ofSize l s)))))
+    (both (eq (length counts) (length l + 1)) (both (eq (getD counts 0 0) 0) (all (length l + 1) (λ s. eq (getD counts s 0) (ofSize mark l s)))))
 
-abbrev pub rank : (l : List ℕ) (t a : ℕ) → Decided (Rank l t a)
-rank l t a =
+abbrev pub rank : (mark : ℕ → Bool) (l : List ℕ) (t a : ℕ) → Decided (Rank mark l t a)
+rank mark l t a =
     iff (λ (b, c). record { larger = b; reached = c }) (λ r. (r .larger, r .reached))
-    (both (le (atLeast l (a + 1)) t) (either (eq a 0) (lt t (atLeast l a))))
+    (both (le (atLeast mark l (a + 1)) t) (either (eq a 0) (lt t (atLeast mark l a))))
 
-abbrev pub largest : (l sizes : List ℕ) → Decided (Largest l sizes)
-largest l sizes =
+abbrev pub largest : (mark : ℕ → Bool) (l sizes : List ℕ) → Decided (Largest mark l sizes)
+largest mark l sizes =
     iff (λ (a, b). record { long = a; each = b }) (λ r. (r .long, r .each))
-    (both (eq (length sizes) 4) (all 4 (λ t. rank l t (getD sizes t 0))))
+    (both (eq (length sizes) 4) (all 4 (λ t. rank mark l t (getD sizes t 0))))
 
 -- ---- the answer: what is computed of it, with the parents of each site in its component and in its grey component
 abbrev pub Untouched : Call → List ℤ → List ℤ → ℕ → Type 0
@@ -116,8 +116,8 @@ pub record Worked (c : Call) (p : Choices) (b b′ : Buffers) (blue grey : List 
   pub others : (t : ℕ) → t < c .lattice .s → InGroup c t ⊎ Untouched c (b .spins) (b′ .spins) t
   pub labels : Forest (graph c) (holds c (b .spins)) blue (b′ .labels)
   pub grey-labels : When (takesGreys c) (Forest (graph c) (holdsGrey c (b .spins)) grey (b′ .greyLabels))
-  pub counts : Counted (b′ .labels) (b′ .counts)
-  pub sizes : Largest (b′ .labels) (b′ .sizes)
+  pub counts : Counted everyOne (b′ .labels) (b′ .counts)
+  pub sizes : Largest everyOne (b′ .labels) (b′ .sizes)
 
 abbrev pub worked : (c : Call) (p : Choices) (b b′ : Buffers) (blue grey : List ℕ) → Decided (Worked c p b b′ blue grey)
 worked c p b b′ blue grey =
@@ -141,8 +141,8 @@ worked c p b b′ blue grey =
     (all (c .lattice .n) (λ i. same (spin (c .lattice .n) (b′ .spins) t i) (spin (c .lattice .n) (b .spins) t i)))))
     (both (forest (graph c) (holds c (b .spins)) blue (b′ .labels))
     (both (when (takesGreys c) (forest (graph c) (holdsGrey c (b .spins)) grey (b′ .greyLabels)))
-    (both (counted (b′ .labels) (b′ .counts))
-    (largest (b′ .labels) (b′ .sizes)))))))))
+    (both (counted everyOne (b′ .labels) (b′ .counts))
+    (largest everyOne (b′ .labels) (b′ .sizes)))))))))
 
 module _
     (c : Call) (p : Choices) (b b′ : Buffers) (blue grey : List ℕ)

@@ -43,7 +43,7 @@ module _ (t : Graph) (holding : ℕ → ℕ → Bool) where
   label-lt l h i il = lt-of-le-of-lt (h .least i i il il stay) il
 
 -- ---- counts and sizes
-pub counts-unique : (l c₁ c₂ : List ℕ) → Counted l c₁ → Counted l c₂ → c₁ ≡ c₂
+pub counts-unique : {mark : ℕ → Bool} (l c₁ c₂ : List ℕ) → Counted mark l c₁ → Counted mark l c₂ → c₁ ≡ c₂
 counts-unique l c₁ c₂ h₁ h₂ =
     ext-getD 0 c₁ c₂ (h₁ .long ∙ sym (h₂ .long))
     (λ i il. let k : i ≤ length l = omega (arith, h₁ .long) in h₁ .each i k ∙ sym (h₂ .each i k))
@@ -57,29 +57,31 @@ count-le f g (suc m) h = omega (arith, count-le f g m h, step (f m) refl)
     step true e = rw (h m e) (le-refl 1)
     step false e = omega arith
 
-falls : (l : List ℕ) (v w : ℕ) → v ≤ w → atLeast l w ≤ atLeast l v
-falls l v w h = count-le (λ r. counted l r && leb w (sizeOf l r)) (λ r. counted l r && leb v (sizeOf l r)) (length l) (λ r. weaken (counted l r) (sizeOf l r))
+falls : (mark : ℕ → Bool) (l : List ℕ) (v w : ℕ) → v ≤ w → atLeast mark l w ≤ atLeast mark l v
+falls mark l v w h =
+    count-le (λ r. counted mark l r && leb w (sizeOf l r)) (λ r. counted mark l r && leb v (sizeOf l r)) (length l)
+    (λ r. weaken (counted mark l r) (sizeOf l r))
   where
     weaken : (b : Bool) (s : ℕ) → (b && leb w s) ≡ true → (b && leb v s) ≡ true
     weaken true s e = le-leb v s (omega (arith, leb-true w s e))
     weaken false s e = e
 
-rank-le : (l : List ℕ) (t a b : ℕ) → Rank l t a → Rank l t b → a ≤ b
-rank-le l t a b ra rb = go (ra .reached)
+rank-le : (mark : ℕ → Bool) (l : List ℕ) (t a b : ℕ) → Rank mark l t a → Rank mark l t b → a ≤ b
+rank-le mark l t a b ra rb = go (ra .reached)
   where
-    go : (a ≡ 0) ⊎ (t < atLeast l a) → a ≤ b
+    go : (a ≡ 0) ⊎ (t < atLeast mark l a) → a ≤ b
     go (inl e) = omega arith
     go (inr k) = at (decLe a b)
       where
         at : Dec (a ≤ b) → a ≤ b
         at (yes h) = h
-        at (no h) = omega (arith, lt-of-not-le h, falls l (b + 1) a (add-one-le (lt-of-not-le h)), rb .larger)
+        at (no h) = omega (arith, lt-of-not-le h, falls mark l (b + 1) a (add-one-le (lt-of-not-le h)), rb .larger)
 
-pub sizes-unique : (l s₁ s₂ : List ℕ) → Largest l s₁ → Largest l s₂ → s₁ ≡ s₂
-sizes-unique l s₁ s₂ h₁ h₂ = ext-getD 0 s₁ s₂ (h₁ .long ∙ sym (h₂ .long)) (λ t tl. same t (omega (arith, h₁ .long)))
+pub sizes-unique : {mark : ℕ → Bool} (l s₁ s₂ : List ℕ) → Largest mark l s₁ → Largest mark l s₂ → s₁ ≡ s₂
+sizes-unique {mark} l s₁ s₂ h₁ h₂ = ext-getD 0 s₁ s₂ (h₁ .long ∙ sym (h₂ .long)) (λ t tl. same t (omega (arith, h₁ .long)))
   where
     same : (t : ℕ) → t < 4 → getD s₁ t 0 ≡ getD s₂ t 0
-    same t k = le-antisymm (rank-le l t _ _ (h₁ .each t k) (h₂ .each t k)) (rank-le l t _ _ (h₂ .each t k) (h₁ .each t k))
+    same t k = le-antisymm (rank-le mark l t _ _ (h₁ .each t k) (h₂ .each t k)) (rank-le mark l t _ _ (h₂ .each t k) (h₁ .each t k))
 
 -- ---- spins: a number is f of some place below m, or of none
 abbrev pub Placed : ℕ → (ℕ → ℕ) → ℕ → Type 0
