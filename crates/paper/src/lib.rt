@@ -1,7 +1,7 @@
 // The types of document 01. Its definitions are in specs/, read in the order of specs/Lib.antt.
 ghost use mathlib.Core.Path.{_≡_};
 ghost use Rattle.paper.specs.Site.Bonds.{samplerOf};
-ghost use Rattle.paper.specs.Panel.Takes.{isPerm, isGperm, isCmr, isDrawn, isSw, isWolff, moves, flipsBy, permsBy, greysBy, entries};
+ghost use Rattle.paper.specs.Panel.Takes.{isPerm, isGperm, isCmr, isDrawn, isSw, isWolff, moves, flipsBy, permsBy, choicesBy, greysBy, entries, choiceWidth};
 
 // A group: its size and up to eight system numbers.
 pub struct Group {
@@ -93,6 +93,20 @@ impl Mode {
         form.moves() & self.is_perm()
     }
 
+    // Takes choices: flips or permutations.
+    pub fn takes_choices(self, form: Form) -> bool
+        ensures { λ r. ⌜ r ≡ choicesBy self form ⌝ }
+    {
+        self.takes_flips(form) | self.takes_perms(form)
+    }
+
+    // How many bytes one choice has, in a group of m.
+    pub fn choice_width(self, m: usize) -> usize
+        ensures { λ r. ⌜ r ≡ choiceWidth self m ⌝ }
+    {
+        if self.is_perm() { m } else { 1 }
+    }
+
     pub fn takes_greys(self, form: Form) -> bool
         ensures { λ r. ⌜ r ≡ greysBy self form ⌝ }
     {
@@ -178,8 +192,7 @@ pub struct Lengths {
     pub bwd: usize,
     pub couplings: usize,
     pub cuts: usize,
-    pub flips: usize,
-    pub perms: usize,
+    pub choices: usize,
     pub greys: usize,
     pub labels: usize,
     pub grey_labels: usize,

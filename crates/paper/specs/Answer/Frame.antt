@@ -14,7 +14,7 @@ use Rattle.paper.specs.declared.Answer.the-variants.{Refused}
 use Rattle.paper.specs.Panel.Input.{Lattice, Call, Choices, Buffers}
 use Rattle.paper.specs.Site.Bonds.{whole}
 use Rattle.paper.specs.Refusal.Rule.{Rule, rule, Broken}
-use Rattle.paper.specs.Refusal.Rules.{Spins, Inverse, Grouped, Chosen}
+use Rattle.paper.specs.Refusal.Rules.{AllSystems, Spins, Inverse, Grouped, Chosen}
 use Rattle.paper.specs.Refusal.Verdict.{Verdict}
 use Rattle.paper.specs.Answer.Number as numbers
 use Rattle.paper.specs.Answer.Move.{Answers, Accepted}
@@ -97,7 +97,7 @@ frameCall text bwd = record {
 }
 
 abbrev pub frameChoices : List ℕ → Choices
-frameChoices text = record { flips = []; perms = bytes (next (next (next (next text)))); greys = [] }
+frameChoices text = record { choices = bytes (next (next (next (next text)))); greys = [] }
 
 -- the program's own buffers, of 0 at first
 abbrev pub frameBuffers : List ℕ → Buffers
@@ -138,7 +138,7 @@ frameRules text =
     ∷ rule 1 (GroupSize (length (groupBytes text)))
     ∷ rule 11 (Frame 0x14 (frameLattice text [] .n * length (groupBytes text)) (next (next (next (next text)))))
     ∷ rule 11 (next (next (next (next (next text)))) ≡ [])
-    ∷ rule 3 (Spins (frameBuffers text .spins))
+    ∷ rule 3 (Spins (frameLattice text [] .n) (AllSystems (frameLattice text [] .s)) (frameBuffers text .spins))
     ∷ rule 4 (HasBack text)
     ∷ rule 5 (Grouped (frameLattice text [] .s) (frameCall text [] .group))
     ∷ rule 9 (Chosen (frameCall text []) (frameChoices text))

@@ -6,8 +6,8 @@ use lib.Ieee.{Float}
 use Rattle.paper.specs.declared.Plan.{Plan}
 use Rattle.paper.specs.Answer.Task.{Sweep}
 
-abbrev pub sweepOf : Plan → List ℕ → List ℕ → List ℤ → List ℕ → List ℕ → List Float → List Float → List ℕ → List ℕ → List ℕ → List ℕ → List ℕ → Sweep
-sweepOf q fwd bwd couplings order masks temperatures cuts references seeds flips perms greys = record {
+abbrev pub sweepOf : Plan → List ℕ → List ℕ → List ℤ → List ℕ → List ℕ → List Float → List Float → List ℕ → List ℕ → List ℕ → List ℕ → Sweep
+sweepOf q fwd bwd couplings order masks temperatures cuts references seeds choices greys = record {
   mode = q .mode;
   form = q .form;
   lattice = record { n = q .n; d = q .d; s = q .s; fwd = fwd; bwd = bwd; couplings = couplings };
@@ -20,8 +20,7 @@ sweepOf q fwd bwd couplings order masks temperatures cuts references seeds flips
   cuts = cuts;
   references = references;
   seeds = seeds;
-  flips = flips;
-  perms = perms;
+  choices = choices;
   greys = greys;
 }
 

@@ -7,7 +7,7 @@ use Rattle.paper.specs.declared.Mode.{Mode}
 use Rattle.paper.specs.declared.Answer.{Answer}
 use Rattle.paper.specs.declared.Answer.the-variants.{Refused, Idle, Moved}
 use Rattle.paper.specs.Panel.Input.{Lattice, Call, Choices, Buffers, size, system}
-use Rattle.paper.specs.Panel.Takes.{drawsBonds, takesCuts, takesFlips, takesPerms, takesGreys, takesReference, takesSeed}
+use Rattle.paper.specs.Panel.Takes.{drawsBonds, takesCuts, takesChoices, takesGreys, takesReference, takesSeed}
 use Rattle.paper.specs.Refusal.Rules.{When}
 use Rattle.paper.specs.Answer.Task.{Sweep, tasks, masked, taskCall, taskChoices}
 use Rattle.paper.specs.Answer.Sweep.{common}
@@ -33,8 +33,7 @@ pub record SameCall (c a : Call) : Type 0 where
   pub seed : When (takesSeed c) (a .seed ≡ c .seed)
 
 pub record SameChoices (c : Call) (p o : Choices) : Type 0 where
-  pub flips : When (takesFlips c) (o .flips ≡ p .flips)
-  pub perms : When (takesPerms c) (o .perms ≡ p .perms)
+  pub choices : When (takesChoices c) (o .choices ≡ p .choices)
   pub greys : When (takesGreys c) (o .greys ≡ p .greys)
 
 -- the call c choosing p and the call a choosing o: they have the same answers (Law/UntakenAnswers.antt)
@@ -80,7 +79,6 @@ pub record SameSwept (w v : Sweep) : Type 0 where
   pub cuts : When (takesCuts (common w)) (length (v .cuts) ≡ length (w .cuts))
   pub references : When (takesReference (common w)) (length (v .references) ≡ length (w .references))
   pub seeds : When (takesSeed (common w)) (length (v .seeds) ≡ length (w .seeds))
-  pub flips : When (takesFlips (common w)) (length (v .flips) ≡ length (w .flips))
-  pub perms : When (takesPerms (common w)) (length (v .perms) ≡ length (w .perms))
+  pub choices : When (takesChoices (common w)) (length (v .choices) ≡ length (w .choices))
   pub greys : When (takesGreys (common w)) (length (v .greys) ≡ length (w .greys))
   pub each : (k : ℕ) → k < tasks w → masked w k ≡ false → SameTaken (taskCall w k) (taskChoices w k) (taskCall v k) (taskChoices v k)

@@ -11,9 +11,9 @@ use Rattle.paper.specs.declared.Answer.{Answer}
 use Rattle.paper.specs.declared.SweepAnswer.{SweepAnswer}
 use Rattle.paper.specs.declared.SweepAnswer.the-variants.{Fault, Swept}
 use Rattle.paper.specs.Panel.Input.{Call, Buffers, spin, pattern, system}
-use Rattle.paper.specs.Panel.Takes.{takesCuts, takesFlips, takesPerms, takesGreys, takesReference, takesSeed, entries}
+use Rattle.paper.specs.Panel.Takes.{takesCuts, takesChoices, takesGreys, takesReference, takesSeed, entries, choiceBytes}
 use Rattle.paper.specs.Refusal.Rule.{Rule, rule, Broken}
-use Rattle.paper.specs.Refusal.Rules.{When, Ranged, Spins, Inverse, Permutes, SmallCouplings, Warm, choiceRules}
+use Rattle.paper.specs.Refusal.Rules.{When, Ranged, AllSystems, Spins, Inverse, Permutes, SmallCouplings, Warm, choiceRules}
 use Rattle.paper.specs.Refusal.Verdict.{Verdict}
 use Rattle.paper.specs.Answer.Number.{sweepNumber, sweepValues}
 use Rattle.paper.specs.Answer.Move.{Answers}
@@ -37,8 +37,7 @@ pub record SweepExact (w : Sweep) (b : Buffers) : Type 0 where
   pub couplings : When (takesCuts (common w)) (length (w .lattice .couplings) ≡ w .lattice .n * w .lattice .d)
   pub temperatures : When (takesCuts (common w)) (length (w .temperatures) ≡ w .t)
   pub cuts : When (takesCuts (common w)) (length (w .cuts) ≡ tasks w * (w .lattice .n * w .lattice .d))
-  pub flips : When (takesFlips (common w)) (length (w .flips) ≡ tasks w * w .lattice .n)
-  pub perms : When (takesPerms (common w)) (length (w .perms) ≡ tasks w * (entries (w .form) (w .lattice .n) * w .members))
+  pub choices : When (takesChoices (common w)) (length (w .choices) ≡ tasks w * choiceBytes (w .mode) (w .form) (w .lattice .n) (w .members))
   pub greys : When (takesGreys (common w)) (length (w .greys) ≡ tasks w * entries (w .form) (w .lattice .n))
   pub references : When (takesReference (common w)) (length (w .references) ≡ tasks w)
   pub seeds : When (takesSeed (common w)) (length (w .seeds) ≡ tasks w)
@@ -56,7 +55,7 @@ abbrev pub sweepRules : Sweep → Buffers → List Rule
 sweepRules w b =
     rule 1 (SweepRanged w)
     ∷ rule 2 (SweepExact w b)
-    ∷ rule 3 (Spins (b .spins))
+    ∷ rule 3 (Spins (w .lattice .n) (AllSystems (w .lattice .s)) (b .spins))
     ∷ rule 4 (Inverse (w .lattice .n) (w .lattice .d) (w .lattice .fwd) (w .lattice .bwd))
     ∷ rule 5 (Permutes (w .lattice .s) (λ k. getD (w .order) k 0))
     ∷ rule 6 (When (takesCuts (common w)) (SmallCouplings (w .lattice .couplings)))

@@ -10,11 +10,11 @@ use Rattle.paper.specs.declared.Group.{Group}
 use Rattle.paper.specs.declared.Mode.{Mode}
 use Rattle.paper.specs.declared.Form.{Form}
 use Rattle.paper.specs.Panel.Input.{Lattice, Call, Choices, Buffers}
-use Rattle.paper.specs.Panel.Takes.{entries}
+use Rattle.paper.specs.Panel.Takes.{entries, choiceBytes}
 use Rattle.paper.specs.Site.Acting.{acts}
 use Rattle.paper.specs.Component.Sizes.{countWhere}
 
--- t temperatures of r replicas; groups of `members` systems. The last six are the tasks' areas, at the task's number
+-- t temperatures of r replicas; groups of `members` systems. The last five are the tasks' areas, at the task's number
 pub record Sweep : Type 0 where
   pub mode : Mode
   pub form : Form
@@ -28,8 +28,7 @@ pub record Sweep : Type 0 where
   pub cuts : List Float
   pub references : List ℕ
   pub seeds : List ℕ
-  pub flips : List ℕ
-  pub perms : List ℕ
+  pub choices : List ℕ
   pub greys : List ℕ
 
 -- groups at each temperature, and tasks
@@ -76,8 +75,7 @@ taskCall w k = record {
 
 abbrev pub taskChoices : Sweep → ℕ → Choices
 taskChoices w k = record {
-  flips = part k (w .lattice .n) (w .flips);
-  perms = part k (entries (w .form) (w .lattice .n) * w .members) (w .perms);
+  choices = part k (choiceBytes (w .mode) (w .form) (w .lattice .n) (w .members)) (w .choices);
   greys = part k (entries (w .form) (w .lattice .n)) (w .greys);
 }
 

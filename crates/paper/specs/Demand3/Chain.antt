@@ -1,12 +1,11 @@
 -- After an accepted move of a reversible mode the next is accepted too, if its own choices and buffers are right, and it has an outcome.
-use Prim.Native.Nat.{ℕ, zero, suc, _+_, _*_, _/_, _%_, _<_}
+use Prim.Native.Nat.{ℕ, zero, suc, _<_}
 use mathlib.Core.Path.{_≡_, refl, sym, _∙_, ap}
 use mathlib.Core.Logic.{_⊎_, inl, inr}
 use mathlib.Core.Bool.{Bool, true, false}
 use mathlib.Core.List.{List}
 use native.Mathlib.Omega.{arith}
 use native.Mathlib.Decide.{ℕ-discrete}
-use native.Mathlib.Nat.{div-add-mod', mod-lt}
 use lib.ListN.{length}
 use lib.IntN.{ℤ}
 use Rattle.paper.specs.Panel.Input.{graph, Call, Choices, Buffers, spin, size, system}
@@ -15,7 +14,7 @@ use Rattle.paper.specs.Site.Bonds.{holds}
 use Rattle.paper.specs.Component.Labels.{Labels}
 use Rattle.paper.specs.Component.Sizes.{everyOne, Counted, Largest}
 use Rattle.paper.specs.Move.Moving.{final}
-use Rattle.paper.specs.Refusal.Rules.{Spin, Spins, Exact, Chosen, Seeded}
+use Rattle.paper.specs.Refusal.Rules.{Spin, AllSystems, Spins, Exact, Chosen, Seeded}
 use Rattle.paper.specs.Refusal.Kept.{Sound, Fit, Valid, valid-kept}
 use Rattle.paper.specs.Answer.Move.{Seen}
 use Rattle.paper.specs.Law.ByTest.{never}
@@ -29,18 +28,12 @@ use Rattle.paper.specs.Demand3.Such.{outcome}
 
 module _ {c : Call} {p : Choices} {xs : List ℤ} {l : List ℕ} {ys : List ℤ} (s : Step c p xs l ys) where
   -- every spin is +1 or -1 after the move
-  spins-after : Spins xs → Spins ys
-  spins-after h x lx = rw (← div-add-mod' x n) (cell (x / n) (x % n) (mod-lt x (s .some-site)) (rw (div-add-mod' x n) (omega (arith, s .long))))
+  spins-after : Spins (c .lattice .n) (AllSystems (c .lattice .s)) xs → Spins (c .lattice .n) (AllSystems (c .lattice .s)) ys
+  spins-after h t i below hi = at (place (size c) (system c) t)
     where
-      n : ℕ
-      n = c .lattice .n
-
-      at : (t i : ℕ) → i < c .lattice .n → t * c .lattice .n + i < length xs → Placed (size c) (system c) t ⊎ Outside c t → Spin (spin (c .lattice .n) ys t i)
-      at t i hi q (inl r) = rw (r .2) (spins-kept s i hi (r .0) (r .1))
-      at t i hi q (inr r) = rw (s .others i t hi r) (h (t * c .lattice .n + i) q)
-
-      cell : (t i : ℕ) → i < c .lattice .n → t * c .lattice .n + i < length xs → Spin (spin (c .lattice .n) ys t i)
-      cell t i hi q = at t i hi q (place (size c) (system c) t)
+      at : Placed (size c) (system c) t ⊎ Outside c t → Spin (spin (c .lattice .n) ys t i)
+      at (inl r) = rw (r .2) (spins-kept s i hi (r .0) (r .1))
+      at (inr r) = rw (s .others i t hi r) (h t i below hi)
 
   some-before : SomeActs c ys → SomeActs c xs
   some-before q = record { site = q .site; below = q .below; does = sym (acts-kept s (q .site) (q .below)) ∙ q .does }
@@ -141,8 +134,7 @@ module _ {c : Call} {p : Choices} {b b′ : Buffers} (v : Reversible (c .mode) (
     bwd = e .bwd;
     couplings = e .couplings;
     cuts = e .cuts;
-    flips = z .flips;
-    perms = z .perms;
+    choices = z .choices;
     greys = λ t. never (sym (no-greys c v) ∙ t);
     labels = e .labels;
     grey-labels = e .grey-labels;
@@ -157,8 +149,7 @@ module _ {c : Call} {p : Choices} {b b′ : Buffers} (v : Reversible (c .mode) (
     bwd = e .bwd;
     couplings = e .couplings;
     cuts = e .cuts;
-    flips = z .flips;
-    perms = z .perms;
+    choices = z .choices;
     greys = λ t. never (sym (no-greys c v) ∙ t);
     labels = seen-of m .labels .long;
     grey-labels = λ t. never (sym (no-greys c v) ∙ t);

@@ -105,20 +105,20 @@ module _ (c : Call) (e : isPerm (c .mode) ≡ true) (f : moves (c .form) ≡ tru
 
   pub perm-composes : (p q : Choices) → ComposedAll c p q (composite c p q)
   perm-composes p q l hl k hk =
-      rw (perm-is (composite c p q) l k, perm-is p l (chosen c q l k), perm-is q l k)
+      rw (perm-is (composite c p q) l k, perm-is p l (chosen c q l k), perm-is q l k, e)
       (rows-at c (λ r k. permRow c p r (permRow c q r k)) (entry (c .form) l) k (here l hl) hk)
 
   pub perm-cancels : (p : Choices) → ((r : ℕ) → r < entries (c .form) (c .lattice .n) → Permutes (size c) (permRow c p r)) → CancelsAll c p (inverse c p)
   perm-cancels p h l hl k hk =
       let r = entry (c .form) l in
       let at = rows-at c (λ r. placeOf (size c) (permRow c p r)) r k (here l hl) hk in
-      rw (perm-is p l (chosen c (inverse c p) l k), perm-is (inverse c p) l k, at) (there (size c) (permRow c p r) (h r (here l hl)) k hk .is)
+      rw (perm-is p l (chosen c (inverse c p) l k), perm-is (inverse c p) l k, e, at) (there (size c) (permRow c p r) (h r (here l hl)) k hk .is)
 
   pub perm-stays : (l k : ℕ) → l < c .lattice .n → k < size c → chosen c (identity c) l k ≡ k
-  perm-stays l k hl hk = perm-is (identity c) l k ∙ rows-at c (λ r k. k) (entry (c .form) l) k (here l hl) hk
+  perm-stays l k hl hk = perm-is (identity c) l k ∙ rw e (rows-at c (λ r k. k) (entry (c .form) l) k (here l hl) hk)
 
 -- the rows as tests see them
-module _ (c : Call) (r : ℕ) (hr : r < entries (c .form) (c .lattice .n)) where
+module _ (c : Call) (e : isPerm (c .mode) ≡ true) (r : ℕ) (hr : r < entries (c .form) (c .lattice .n)) where
   pub composite-row :
       (p q : Choices)
       → Permutes (size c) (permRow c p r)
@@ -126,18 +126,18 @@ module _ (c : Call) (r : ℕ) (hr : r < entries (c .form) (c .lattice .n)) where
       → Permutes (size c) (permRow c (composite c p q) r)
   composite-row p q hp hq =
       permutes-ext (size c) (λ k. permRow c p r (permRow c q r k)) (permRow c (composite c p q) r)
-      (λ k hk. rows-at c (λ r k. permRow c p r (permRow c q r k)) r k hr hk)
+      (λ k hk. rw e (rows-at c (λ r k. permRow c p r (permRow c q r k)) r k hr hk))
       (twice (size c) (permRow c p r) (permRow c q r) hp hq)
 
   pub composite-moves : (p q : Choices) → NotIdentity (size c) (λ k. permRow c p r (permRow c q r k)) → NotIdentity (size c) (permRow c (composite c p q) r)
   composite-moves p q w =
       moves-ext (size c) (λ k. permRow c p r (permRow c q r k)) (permRow c (composite c p q) r)
-      (λ k hk. rows-at c (λ r k. permRow c p r (permRow c q r k)) r k hr hk) w
+      (λ k hk. rw e (rows-at c (λ r k. permRow c p r (permRow c q r k)) r k hr hk)) w
 
   pub inverse-row : (p : Choices) → Permutes (size c) (permRow c p r) → Permutes (size c) (permRow c (inverse c p) r)
   inverse-row p hp =
       permutes-ext (size c) (placeOf (size c) (permRow c p r)) (permRow c (inverse c p) r)
-      (λ k hk. rows-at c (λ r. placeOf (size c) (permRow c p r)) r k hr hk)
+      (λ k hk. rw e (rows-at c (λ r. placeOf (size c) (permRow c p r)) r k hr hk))
       (back-permutes (size c) (permRow c p r) hp)
 
   pub inverse-moves :
@@ -147,10 +147,10 @@ module _ (c : Call) (r : ℕ) (hr : r < entries (c .form) (c .lattice .n)) where
       → NotIdentity (size c) (permRow c (inverse c p) r)
   inverse-moves p hp w =
       moves-ext (size c) (placeOf (size c) (permRow c p r)) (permRow c (inverse c p) r)
-      (λ k hk. rows-at c (λ r. placeOf (size c) (permRow c p r)) r k hr hk)
+      (λ k hk. rw e (rows-at c (λ r. placeOf (size c) (permRow c p r)) r k hr hk))
       (back-moves (size c) (permRow c p r) hp w)
 
   pub identity-row : Permutes (size c) (permRow c (identity c) r)
   identity-row =
-      permutes-ext (size c) (λ k. k) (permRow c (identity c) r) (λ k hk. rows-at c (λ r k. k) r k hr hk)
+      permutes-ext (size c) (λ k. k) (permRow c (identity c) r) (λ k hk. rw e (rows-at c (λ r k. k) r k hr hk))
       (record { within = λ k h. h; distinct = λ a b _ _ e. e })

@@ -65,13 +65,13 @@ module _ (c : Call) (v : Reversible (c .mode) (size c)) (e : isPerm (c .mode) �
   pub add-composes :
       (p q r : Choices)
       → c .form ≡ Sw
-      → ((l : ℕ) → l < c .lattice .n → getD (p .flips) l 0 ≤ 1)
-      → ((l : ℕ) → l < c .lattice .n → getD (q .flips) l 0 ≤ 1)
-      → ((l : ℕ) → l < c .lattice .n → getD (r .flips) l 0 ≡ (getD (p .flips) l 0 + getD (q .flips) l 0) % 2)
+      → ((l : ℕ) → l < c .lattice .n → getD (p .choices) l 0 ≤ 1)
+      → ((l : ℕ) → l < c .lattice .n → getD (q .choices) l 0 ≤ 1)
+      → ((l : ℕ) → l < c .lattice .n → getD (r .choices) l 0 ≡ (getD (p .choices) l 0 + getD (q .choices) l 0) % 2)
       → ComposedAll c p q r
   add-composes p q r sw hp hq hr l hl k hk =
       rw (flip-is r l k, flip-both p q l k, flip-is q l k, sw)
-      (flips-add (size c) (getD (p .flips) l 0) (getD (q .flips) l 0) (getD (r .flips) l 0) k (hp l hl) (hq l hl) (hr l hl))
+      (flips-add (size c) (getD (p .choices) l 0) (getD (q .choices) l 0) (getD (r .choices) l 0) k (hp l hl) (hq l hl) (hr l hl))
 
   -- the same flips cancel
   pub same-cancels : (p q : Choices) → ((l : ℕ) → flipOf c q l ≡ flipOf c p l) → CancelsAll c p q

@@ -23,11 +23,11 @@ Spinning m f = (k : ℕ) → k < m → Spin (f k)
 
 -- the permutation chosen on the component r
 abbrev pub permOf : Call → Choices → ℕ → ℕ → ℕ
-permOf c p r = permAt (c .form) (size c) (p .perms) r
+permOf c p r = permAt (c .form) (size c) (p .choices) r
 
 -- the flip chosen there
 abbrev pub flipOf : Call → Choices → ℕ → Bool
-flipOf c p r = flipBy (c .form) (p .flips) r
+flipOf c p r = flipBy (c .form) (p .choices) r
 
 pub not-cmr : (m : Mode) (s : ℕ) → Reversible m s → isCmr m ≡ false
 not-cmr Houd s v = refl

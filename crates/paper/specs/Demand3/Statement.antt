@@ -102,11 +102,14 @@ pub record SameOutputs (b′ d′ : Buffers) : Type 0 where
 abbrev pub permsOf : Call → (ℕ → ℕ → ℕ) → List ℕ
 permsOf c f = table (entries (c .form) (c .lattice .n) * size c) (λ x. f (x / size c) (x % size c))
 
+-- flips of which that of the component l is f l
+abbrev pub flipsOf : Call → (ℕ → ℕ) → List ℕ
+flipsOf c f = table (c .lattice .n) f
+
 -- k to p(q(k)); "Pair and houd choices add modulo 2"
 abbrev pub composite : Call → Choices → Choices → Choices
 composite c p q = record {
-  flips = table (c .lattice .n) (λ l. (getD (p .flips) l 0 + getD (q .flips) l 0) % 2);
-  perms = permsOf c (λ r k. permRow c p r (permRow c q r k));
+  choices = cond (isPerm (c .mode)) (permsOf c (λ r k. permRow c p r (permRow c q r k))) (flipsOf c (λ l. (getD (p .choices) l 0 + getD (q .choices) l 0) % 2));
   greys = [];
 }
 
@@ -117,11 +120,11 @@ placeOf (suc m) f v = cond (eqb (f m) v) m (placeOf m f v)
 
 -- the inverses: of permutations, the other way round; of flips, the same flips
 abbrev pub inverse : Call → Choices → Choices
-inverse c p = record { flips = p .flips; perms = permsOf c (λ r k. placeOf (size c) (permRow c p r) k); greys = [] }
+inverse c p = record { choices = cond (isPerm (c .mode)) (permsOf c (λ r k. placeOf (size c) (permRow c p r) k)) (p .choices); greys = [] }
 
 -- the identity: permutations 0 to N - 1, flips 0
 abbrev pub identity : Call → Choices
-identity c = record { flips = table (c .lattice .n) (λ l. 0); perms = permsOf c (λ r k. k); greys = [] }
+identity c = record { choices = cond (isPerm (c .mode)) (permsOf c (λ r k. k)) (flipsOf c (λ l. 0)); greys = [] }
 
 -- every such move choosing r is accepted on the buffers b, and all leave the same; it leaves the spins ys
 pub record Outcome (c : Call) (r : Choices) (b : Buffers) : Type 0 where

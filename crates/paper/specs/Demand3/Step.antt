@@ -57,13 +57,7 @@ entry-lt Observe n r e h = never e
 
 module _ {c : Call} {p : Choices} {b : Buffers} (valid : Valid c p b) where
   pub spin-of : (i : ℕ) → i < c .lattice .n → Spinning (size c) (pattern c (b .spins) i)
-  spin-of i h k l = valid .sound .spins (system c k * c .lattice .n + i) inside
-    where
-      below : suc (system c k) ≤ c .lattice .s
-      below = valid .sound .grouped .below k l
-
-      inside : system c k * c .lattice .n + i < length (b .spins)
-      inside = omega (arith, valid .sound .exact .spins, mul-le-mul-right (c .lattice .n) below, suc-mul (system c k) (c .lattice .n))
+  spin-of i h k l = valid .sound .spins (system c k) i (valid .sound .grouped .below k l) h
 
   pub perms-of : takesPerms c ≡ true → (r : ℕ) → r < c .lattice .n → Permutes (size c) (permOf c p r)
   perms-of e r h = valid .fit .chosen .perms e (entry (c .form) r) (entry-lt (c .form) (c .lattice .n) r (and-left (moves (c .form)) _ e) h)

@@ -26,7 +26,7 @@ itself c p = record {
     reference = λ _. refl;
     seed = λ _. refl;
   };
-  choices = record { flips = λ _. refl; perms = λ _. refl; greys = λ _. refl };
+  choices = record { choices = λ _. refl; greys = λ _. refl };
 }
 
 pub outcome : {c : Call} {r : Choices} {b : Buffers} (after : Buffers) → Move c r b after → Outcome c r b

@@ -117,7 +117,7 @@ demand3 c v = record {
     undone : {p : Choices} {b b′ : Buffers} → moves (c .form) ≡ true → Move c p b b′ → Leaves c (inverse c p) b′ (b .spins)
     undone {p} {b} {b′} f m =
         let h = valid-move m .fit .chosen in
-        let o = next v m refl (exact-next v m (inverse-sized c p (valid-move m .sound .exact .flips))) (inverse-chosen c v h) in
+        let o = next v m refl (exact-next v m (inverse-sized c p (record { choices = valid-move m .sound .exact .choices }))) (inverse-chosen c v h) in
         record {
           outcome = o;
           bytes = two-back (step v m) (step v (own o)) (cancels-all (step v m) (inverse-cancels c v h f));

@@ -15,7 +15,7 @@ use Rattle.paper.specs.Site.Bonds.{holds, holdsGrey}
 use Rattle.paper.specs.Component.Labels.{Labels}
 use Rattle.paper.specs.Component.Sizes.{labelOf}
 use Rattle.paper.specs.Move.Moving.{reached, final, Moves}
-use Rattle.paper.specs.Refusal.Rules.{Spins, Exact, Seeded, Permutes}
+use Rattle.paper.specs.Refusal.Rules.{AllSystems, Spins, Exact, Seeded, Permutes}
 use Rattle.paper.specs.Refusal.Kept.{Valid, valid-of, valid-kept}
 use Rattle.paper.specs.Answer.Move.{Seen, Goes, Answers, Accepted, Accepted.idle, Accepted.moved}
 use Rattle.paper.specs.Law.Unique.{GroupIs, OthersOf, label-lt, spins-equal}
@@ -37,7 +37,7 @@ pub record Rows (c : Call) (xs to ys : List ℤ) : Type 0 where
 -- xs are spins with the group's rows of the buffers b
 pub record Instead (c : Call) (b : Buffers) (xs : List ℤ) : Type 0 where
   pub long : length xs ≡ length (b .spins)
-  pub spinning : Spins xs
+  pub spinning : Spins (c .lattice .n) (AllSystems (c .lattice .s)) xs
   pub same : (i : ℕ) → i < c .lattice .n → Agree (size c) (pattern c xs i) (pattern c (b .spins) i)
 
 module _ {c : Call} {p : Choices} {b : Buffers} {xs : List ℤ} (s : Instead c b xs) (v : Valid c p b) where
@@ -66,8 +66,7 @@ module _ {c : Call} {p : Choices} {b : Buffers} {xs : List ℤ} (s : Instead c b
     bwd = e .bwd;
     couplings = e .couplings;
     cuts = e .cuts;
-    flips = e .flips;
-    perms = e .perms;
+    choices = e .choices;
     greys = e .greys;
     labels = e .labels;
     grey-labels = e .grey-labels;
@@ -140,7 +139,7 @@ module _ {c : Call} {p : Choices} {b : Buffers} {xs : List ℤ} (s : Instead c b
 
 -- whatever the other systems' rows are
 module _
-    (c : Call) (p : Choices) (b b′ : Buffers) (xs : List ℤ) (long : length xs ≡ length (b .spins)) (spinning : Spins xs)
+    (c : Call) (p : Choices) (b b′ : Buffers) (xs : List ℤ) (long : length xs ≡ length (b .spins)) (spinning : Spins (c .lattice .n) (AllSystems (c .lattice .s)) xs)
     (same : (i : ℕ) → i < c .lattice .n → Agree (size c) (pattern c xs i) (pattern c (b .spins) i))
   where
     s : Instead c b xs

@@ -1,12 +1,16 @@
 -- Tests, and what it tells that they pass.
-use Prim.Native.Nat.{ℕ, zero, suc, _<_}
+use Prim.Native.Nat.{ℕ, zero, suc, _*_, _<_}
 use mathlib.Core.Path.{_≡_, refl, ap}
-use mathlib.Core.Bool.{Bool, true, false, _&&_}
+use mathlib.Core.Bool.{Bool, true, false, not, cond, _&&_, _||_}
 use native.Mathlib.Omega.{arith}
 use native.Mathlib.Decide.{ℕ-discrete}
 use borrow.Author.Tests.{eqb-true, ltb-true}
 use lib.Dec.{ltb}
 use lib.IntN.{ℤ, pos, negsuc}
+use Rattle.paper.specs.declared.Mode.{Mode}
+use Rattle.paper.specs.declared.Form.{Form}
+use Rattle.paper.specs.declared.Form.the-variants.{Sw, Wolff, Observe}
+use Rattle.paper.specs.Panel.Takes.{isPerm, isSw, moves, flipsBy, permsBy, choicesBy, entries, choiceBytes}
 use Rattle.paper.specs.Site.Acting.{eqZ}
 
 pub never : {P : Type 0} → false ≡ true → P
@@ -23,6 +27,29 @@ and-right false b e = never e
 pub and-no : (b : Bool) → (b && false) ≡ false
 and-no true = refl
 and-no false = refl
+
+pub or-right : (a b : Bool) → b ≡ true → (a || b) ≡ true
+or-right true b e = refl
+or-right false b e = e
+
+-- ---- choices of either kind are choices, and so many bytes
+pub flips-taken : (m : Mode) (f : Form) → flipsBy m f ≡ true → choicesBy m f ≡ true
+flips-taken m f e = rw e refl
+
+pub perms-taken : (m : Mode) (f : Form) → permsBy m f ≡ true → choicesBy m f ≡ true
+perms-taken m f e = or-right (flipsBy m f) (permsBy m f) e
+
+pub flips-bytes : (m : Mode) (f : Form) (n s : ℕ) → flipsBy m f ≡ true → choiceBytes m f n s ≡ n
+flips-bytes m f n s = go f (isPerm m)
+  where
+    go : (f : Form) (p : Bool) → (isSw f && not p) ≡ true → entries f n * cond p s 1 ≡ n
+    go Sw true e = never e
+    go Sw false e = omega arith
+    go Wolff p e = never e
+    go Observe p e = never e
+
+pub perms-bytes : (m : Mode) (f : Form) (n s : ℕ) → permsBy m f ≡ true → choiceBytes m f n s ≡ entries f n * s
+perms-bytes m f n s e = rw (and-right (moves f) (isPerm m) e) refl
 
 pub is-same : (a b : ℤ) → eqZ a b ≡ true → a ≡ b
 is-same (pos a) (pos b) e = ap pos (eqb-true a b e)

@@ -4,7 +4,7 @@ use mathlib.Core.Path.{_≡_}
 use mathlib.Core.List.{List, []}
 use lib.ListN.{length}
 use Rattle.paper.specs.Refusal.Rule.{Kept}
-use Rattle.paper.specs.Refusal.Rules.{Spins, Grouped, Chosen}
+use Rattle.paper.specs.Refusal.Rules.{AllSystems, Spins, Grouped, Chosen}
 use Rattle.paper.specs.Answer.Frame.{Frame, Spelt, next, groupBytes, frameLattice, frameCall, frameChoices, frameBuffers}
 use Rattle.paper.specs.Answer.Frame.{FrameSizes, HasBack, GroupSize, frameRules}
 
@@ -18,7 +18,7 @@ pub record FrameValid (text : List ℕ) : Type 0 where
   pub group-size : GroupSize (length (groupBytes text))
   pub perms-line : Frame 0x14 (frameLattice text [] .n * length (groupBytes text)) (next (next (next (next text))))
   pub ended : next (next (next (next (next text)))) ≡ []
-  pub spins : Spins (frameBuffers text .spins)
+  pub spins : Spins (frameLattice text [] .n) (AllSystems (frameLattice text [] .s)) (frameBuffers text .spins)
   pub back : HasBack text
   pub grouped : Grouped (frameLattice text [] .s) (frameCall text [] .group)
   pub chosen : Chosen (frameCall text []) (frameChoices text)

@@ -11,7 +11,7 @@ use lib.IntN.{ℤ, pos}
 use Rattle.paper.specs.declared.Answer.{Answer}
 use Rattle.paper.specs.Panel.Input.{Call, Buffers, pattern, spin, size, system}
 use Rattle.paper.specs.Refusal.Rule.{Kept}
-use Rattle.paper.specs.Refusal.Rules.{Spins}
+use Rattle.paper.specs.Refusal.Rules.{AllSystems, Spins}
 use Rattle.paper.specs.Answer.Move.{Answers, Accepted}
 use Rattle.paper.specs.Law.Unique.{Placed, place, Outside}
 use Rattle.paper.specs.Law.Cells.{row-of, tabulate, length-tabulate, tabulate-at}
@@ -137,7 +137,7 @@ module _ (c : Call) (xs to : List ℤ) (same : length to ≡ length xs) where
 -- task k ran on the spins xs, whose rows of its group were still those before the sweep, and left ys; its rows stayed so until the end, b′
 pub done :
     (w : Sweep) (b b′ : Buffers) (k : ℕ) (a : Answer) (xs ys : List ℤ)
-    → Spins (b .spins)
+    → Spins (w .lattice .n) (AllSystems (w .lattice .s)) (b .spins)
     → length (b .spins) ≡ length xs
     → length ys ≡ length xs
     → ((i : ℕ) → i < w .lattice .n → Agree (w .members) (pattern (taskCall w k) (b .spins) i) (pattern (taskCall w k) xs i))

@@ -10,7 +10,7 @@ use lib.Ieee.{nan}
 use Rattle.paper.specs.Panel.Input.{Buffers}
 use Rattle.paper.specs.Panel.Takes.{takesCuts}
 use Rattle.paper.specs.Refusal.Rule.{Rule, Kept}
-use Rattle.paper.specs.Refusal.Rules.{When, Spins, Inverse, Permutes, SmallCouplings, Warm, choiceRules}
+use Rattle.paper.specs.Refusal.Rules.{When, AllSystems, Spins, Inverse, Permutes, SmallCouplings, Warm, choiceRules}
 use Rattle.paper.specs.Refusal.Kept.{Fit, fit-of, fit-kept}
 use Rattle.paper.specs.Refusal.Verdict.{kept-both}
 use Rattle.paper.specs.Answer.Task.{Sweep, tasks, masked, taskCall, taskChoices}
@@ -21,7 +21,7 @@ use Rattle.paper.specs.Law.ByTest.{never}
 pub record SweepValid (w : Sweep) (b : Buffers) : Type 0 where
   pub ranged : SweepRanged w
   pub exact : SweepExact w b
-  pub spins : Spins (b .spins)
+  pub spins : Spins (w .lattice .n) (AllSystems (w .lattice .s)) (b .spins)
   pub inverse : Inverse (w .lattice .n) (w .lattice .d) (w .lattice .fwd) (w .lattice .bwd)
   pub order : Permutes (w .lattice .s) (λ k. getD (w .order) k 0)
   pub couplings : When (takesCuts (common w)) (SmallCouplings (w .lattice .couplings))

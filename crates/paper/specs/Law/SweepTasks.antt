@@ -9,7 +9,7 @@ use borrow.Author.Tests.{lt-ltb}
 use lib.Dec.{ltb}
 use lib.ListN.{length, length-take, length-drop}
 use Rattle.paper.specs.Panel.Input.{Buffers, system}
-use Rattle.paper.specs.Panel.Takes.{entries}
+use Rattle.paper.specs.Panel.Takes.{entries, choiceBytes}
 use Rattle.paper.specs.Refusal.Rule.{Kept}
 use Rattle.paper.specs.Refusal.Rules.{Exact, Grouped, rules}
 use Rattle.paper.specs.Refusal.Kept.{valid-kept}
@@ -65,8 +65,7 @@ module _ (w : Sweep) (b : Buffers) (v : Kept (sweepRules w b)) (k : ℕ) (below 
     bwd = e .bwd;
     couplings = e .couplings;
     cuts = λ t. part-length (tasks w) (w .lattice .n * w .lattice .d) k (w .cuts) below (e .cuts t);
-    flips = λ t. part-length (tasks w) (w .lattice .n) k (w .flips) below (e .flips t);
-    perms = λ t. part-length (tasks w) (entries (w .form) (w .lattice .n) * w .members) k (w .perms) below (e .perms t);
+    choices = λ t. part-length (tasks w) (choiceBytes (w .mode) (w .form) (w .lattice .n) (w .members)) k (w .choices) below (e .choices t);
     greys = λ t. part-length (tasks w) (entries (w .form) (w .lattice .n)) k (w .greys) below (e .greys t);
     labels = part-length (tasks w) (w .lattice .n) k (b .labels) below (e .labels);
     grey-labels = λ t. part-length (tasks w) (w .lattice .n) k (b .greyLabels) below (e .grey-labels t);

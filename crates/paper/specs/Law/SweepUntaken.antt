@@ -13,7 +13,7 @@ use lib.Ieee.{Float, nan}
 use Rattle.paper.specs.declared.SweepAnswer.{SweepAnswer}
 use Rattle.paper.specs.declared.SweepAnswer.the-variants.{Fault, Swept}
 use Rattle.paper.specs.Panel.Input.{Buffers}
-use Rattle.paper.specs.Panel.Takes.{takesCuts, takesFlips, takesPerms, takesGreys, takesReference, takesSeed, entries}
+use Rattle.paper.specs.Panel.Takes.{takesCuts, takesChoices, takesGreys, takesReference, takesSeed, entries, choiceBytes}
 use Rattle.paper.specs.Site.Acting.{acts}
 use Rattle.paper.specs.Component.Sizes.{countWhere}
 use Rattle.paper.specs.Refusal.Rules.{SmallCouplings, Warm, choiceRules}
@@ -47,8 +47,7 @@ over w v = record {
   cuts = v .cuts;
   references = v .references;
   seeds = v .seeds;
-  flips = v .flips;
-  perms = v .perms;
+  choices = v .choices;
   greys = v .greys;
 }
 
@@ -73,8 +72,7 @@ is-over {w} {v} h = λ i. record {
   cuts = v .cuts;
   references = v .references;
   seeds = v .seeds;
-  flips = v .flips;
-  perms = v .perms;
+  choices = v .choices;
   greys = v .greys;
 }
 
@@ -100,8 +98,8 @@ module _ {w v : Sweep} (same : SameSwept w v) where
         let couplings = taken-same (takesCuts (common w)) (λ (z : List ℤ). length z ≡ w .lattice .n * w .lattice .d) (same .panel .couplings) in
         let temperatures = taken-same (takesCuts (common w)) (λ (z : List Float). length z ≡ w .t) (same .temperatures) in
         let cuts = taken-same (takesCuts (common w)) (λ (x : ℕ). x ≡ tasks w * (w .lattice .n * w .lattice .d)) (same .cuts) in
-        let flips = taken-same (takesFlips (common w)) (λ (x : ℕ). x ≡ tasks w * w .lattice .n) (same .flips) in
-        let perms = taken-same (takesPerms (common w)) (λ (x : ℕ). x ≡ tasks w * (entries (w .form) (w .lattice .n) * w .members)) (same .perms) in
+        let bytes = choiceBytes (w .mode) (w .form) (w .lattice .n) (w .members) in
+        let choices = taken-same (takesChoices (common w)) (λ (x : ℕ). x ≡ tasks w * bytes) (same .choices) in
         let greys = taken-same (takesGreys (common w)) (λ (x : ℕ). x ≡ tasks w * entries (w .form) (w .lattice .n)) (same .greys) in
         let references = taken-same (takesReference (common w)) (λ (x : ℕ). x ≡ tasks w) (same .references) in
         let seeds = taken-same (takesSeed (common w)) (λ (x : ℕ). x ≡ tasks w) (same .seeds) in (
@@ -114,8 +112,7 @@ module _ {w v : Sweep} (same : SameSwept w v) where
             couplings = couplings .0 (h .couplings);
             temperatures = temperatures .0 (h .temperatures);
             cuts = cuts .0 (h .cuts);
-            flips = flips .0 (h .flips);
-            perms = perms .0 (h .perms);
+            choices = choices .0 (h .choices);
             greys = greys .0 (h .greys);
             references = references .0 (h .references);
             seeds = seeds .0 (h .seeds);
@@ -133,8 +130,7 @@ module _ {w v : Sweep} (same : SameSwept w v) where
             couplings = couplings .1 (h .couplings);
             temperatures = temperatures .1 (h .temperatures);
             cuts = cuts .1 (h .cuts);
-            flips = flips .1 (h .flips);
-            perms = perms .1 (h .perms);
+            choices = choices .1 (h .choices);
             greys = greys .1 (h .greys);
             references = references .1 (h .references);
             seeds = seeds .1 (h .seeds);
@@ -232,8 +228,7 @@ module _ {w v : Sweep} (same : SameSwept w v) where
     cuts = λ t. sym (same .cuts t);
     references = λ t. sym (same .references t);
     seeds = λ t. sym (same .seeds t);
-    flips = λ t. sym (same .flips t);
-    perms = λ t. sym (same .perms t);
+    choices = λ t. sym (same .choices t);
     greys = λ t. sym (same .greys t);
     each = λ k h e. taken-back (each k h e);
   })

@@ -7,7 +7,7 @@ use lib.ListN.{length, getD}
 use lib.Dec.{ltb}
 use lib.Ieee.{nan}
 use Rattle.paper.specs.Panel.Input.{Buffers}
-use Rattle.paper.specs.Panel.Takes.{takesCuts, takesFlips, takesPerms, takesGreys, takesReference, takesSeed, entries}
+use Rattle.paper.specs.Panel.Takes.{takesCuts, takesChoices, takesGreys, takesReference, takesSeed, entries, choiceBytes}
 use Rattle.paper.specs.Refusal.Rule.{Rule, Kept, Broken}
 use Rattle.paper.specs.Refusal.Rules.{choiceRules}
 use Rattle.paper.specs.Refusal.Verdict.{Verdict}
@@ -27,7 +27,7 @@ sweepRanged w =
 abbrev pub sweepExact : (w : Sweep) (b : Buffers) → Decided (SweepExact w b)
 sweepExact w b =
     iff
-    (λ (x1, (x2, (x3, (x4, (x5, (x6, (x7, (x8, (x9, (x10, (x11, (x12, (x13, (x14, (x15, (x16, x17)))))))))))))))). record {
+    (λ (x1, (x2, (x3, (x4, (x5, (x6, (x7, (x8, (x9, (x10, (x11, (x12, (x13, (x14, (x15, x16))))))))))))))). record {
       spins = x1;
       fwd = x2;
       bwd = x3;
@@ -36,15 +36,14 @@ sweepExact w b =
       couplings = x6;
       temperatures = x7;
       cuts = x8;
-      flips = x9;
-      perms = x10;
-      greys = x11;
-      references = x12;
-      seeds = x13;
-      labels = x14;
-      grey-labels = x15;
-      counts = x16;
-      sizes = x17;
+      choices = x9;
+      greys = x10;
+      references = x11;
+      seeds = x12;
+      labels = x13;
+      grey-labels = x14;
+      counts = x15;
+      sizes = x16;
     })
     (λ r. (
       r .spins,
@@ -60,7 +59,7 @@ sweepExact w b =
                 r .couplings,
                 (
                   r .temperatures,
-                  (r .cuts, (r .flips, (r .perms, (r .greys, (r .references, (r .seeds, (r .labels, (r .grey-labels, (r .counts, r .sizes))))))))),
+                  (r .cuts, (r .choices, (r .greys, (r .references, (r .seeds, (r .labels, (r .grey-labels, (r .counts, r .sizes)))))))),
                 ),
               ),
             ),
@@ -76,15 +75,14 @@ sweepExact w b =
     (both (when (takesCuts (common w)) (eq (length (w .lattice .couplings)) (w .lattice .n * w .lattice .d)))
     (both (when (takesCuts (common w)) (eq (length (w .temperatures)) (w .t)))
     (both (when (takesCuts (common w)) (eq (length (w .cuts)) (tasks w * (w .lattice .n * w .lattice .d))))
-    (both (when (takesFlips (common w)) (eq (length (w .flips)) (tasks w * w .lattice .n)))
-    (both (when (takesPerms (common w)) (eq (length (w .perms)) (tasks w * (entries (w .form) (w .lattice .n) * w .members))))
+    (both (when (takesChoices (common w)) (eq (length (w .choices)) (tasks w * choiceBytes (w .mode) (w .form) (w .lattice .n) (w .members))))
     (both (when (takesGreys (common w)) (eq (length (w .greys)) (tasks w * entries (w .form) (w .lattice .n))))
     (both (when (takesReference (common w)) (eq (length (w .references)) (tasks w)))
     (both (when (takesSeed (common w)) (eq (length (w .seeds)) (tasks w)))
     (both (eq (length (b .labels)) (tasks w * w .lattice .n))
     (both (when (takesGreys (common w)) (eq (length (b .greyLabels)) (tasks w * w .lattice .n)))
     (both (eq (length (b .counts)) (tasks w * (w .lattice .n + 1)))
-    (eq (length (b .sizes)) (tasks w * 4))))))))))))))))))
+    (eq (length (b .sizes)) (tasks w * 4)))))))))))))))))
 
 -- unmasked tasks in ascending order
 abbrev pub inTurn : (t : Bool) (rs : List Rule) → DecidedAll rs → DecidedAll (cond t [] rs)
@@ -103,7 +101,7 @@ sweepDecided w b = (
   (
     sweepExact w b,
     (
-      spins (b .spins),
+      spins (w .lattice .n) (w .lattice .s) (b .spins),
       (
         inverse (w .lattice .n) (w .lattice .d) (w .lattice .fwd) (w .lattice .bwd),
         (

@@ -6,7 +6,7 @@ use lib.Ieee.{Float}
 use Rattle.paper.specs.declared.Mode.{Mode}
 use Rattle.paper.specs.declared.Form.{Form}
 use Rattle.paper.specs.declared.Sampler.{Sampler}
-use Rattle.paper.specs.Panel.Takes.{isPerm, isGperm, isCmr, isDrawn, isSw, isWolff, moves, flipsBy, permsBy, greysBy, entries}
+use Rattle.paper.specs.Panel.Takes.{isPerm, isGperm, isCmr, isDrawn, isSw, isWolff, moves, flipsBy, permsBy, choicesBy, greysBy, entries, choiceWidth}
 use Rattle.paper.specs.Site.Bonds.{samplerOf}
 
 -- two results that equal one value are equal
@@ -42,6 +42,12 @@ takes-flips-determined m f a b = one-value
 
 pub takes-perms-determined : (m : Mode) (f : Form) (a b : Bool) → a ≡ permsBy m f → b ≡ permsBy m f → a ≡ b
 takes-perms-determined m f a b = one-value
+
+pub takes-choices-determined : (m : Mode) (f : Form) (a b : Bool) → a ≡ choicesBy m f → b ≡ choicesBy m f → a ≡ b
+takes-choices-determined m f a b = one-value
+
+pub choice-width-determined : (m : Mode) (s a b : ℕ) → a ≡ choiceWidth m s → b ≡ choiceWidth m s → a ≡ b
+choice-width-determined m s a b = one-value
 
 pub takes-greys-determined : (m : Mode) (f : Form) (a b : Bool) → a ≡ greysBy m f → b ≡ greysBy m f → a ≡ b
 takes-greys-determined m f a b = one-value

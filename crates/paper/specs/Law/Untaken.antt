@@ -17,7 +17,7 @@ use Rattle.paper.specs.Component.Sizes.{labelOf}
 use Rattle.paper.specs.Move.Moving.{flipBy, actBy, reachedBy, reached, after, final}
 use Rattle.paper.specs.Refusal.Rules.{Permutes}
 use Rattle.paper.specs.Answer.Same.{SameCall, SameChoices}
-use Rattle.paper.specs.Law.ByTest.{and-right}
+use Rattle.paper.specs.Law.ByTest.{and-right, flips-taken, perms-taken}
 use Rattle.paper.specs.Law.Sums.{sum-ext}
 use Rattle.paper.specs.Law.Local.{Agree, term-ext, act-ext, kind-ext}
 use Rattle.paper.specs.Demand3.Reversible.{permOf, flipOf}
@@ -94,7 +94,7 @@ module _ (c a : Call) (p o : Choices) where
   choice-in :
       (m : Mode) (r : ℕ) (P f : Pattern)
       → (isPerm m ≡ false → flipOf c o r ≡ flipOf c p r)
-      → (isPerm m ≡ true → o .perms ≡ p .perms)
+      → (isPerm m ≡ true → o .choices ≡ p .choices)
       → (k : ℕ)
       → actBy m (over c a) o P r f k ≡ actBy m c p P r f k
   choice-in Houd r P f flips perms k = rw (flips refl)
@@ -184,8 +184,8 @@ module _ {c a : Call} (same : SameCall c a) (xs : List ℤ) where
         go true e =
             rw (reached-same l i, e)
             (choice-in c a p o (c .mode) (labelOf l i) (pattern (over c a) xs (a .reference)) (pattern (over c a) xs i)
-            (λ q. flip-in (c .form) (c .mode) (p .flips) (o .flips) (labelOf l i) q (chosen .flips))
-            (λ q. chosen .perms (rw (form-moves (c .form) c l i (and-right (acts c xs i) _ e), q))) k
+            (λ q. flip-in (c .form) (c .mode) (p .choices) (o .choices) (labelOf l i) q (λ t. chosen .choices (flips-taken (c .mode) (c .form) t)))
+            (λ q. chosen .choices (perms-taken (c .mode) (c .form) (rw (form-moves (c .form) c l i (and-right (acts c xs i) _ e), q)))) k
             ∙ act-ext (c .mode) c p (labelOf l i) (pattern (over c a) xs (a .reference)) (pattern c xs (c .reference)) (pattern (over c a) xs i)
             (pattern c xs i) (perms e) reference-same (pattern-same i) k hk)
         go false e = rw (reached-same l i, e) (pattern-same i k hk)

@@ -142,8 +142,7 @@ pub taken-back : {c a : Call} {p o : Choices} → SameTaken c p a o → SameTake
 taken-back h = record {
   call = call-back (h .call);
   choices = record {
-    flips = λ t. sym (h .choices .flips (rw (h .call .mode, h .call .form) at t));
-    perms = λ t. sym (h .choices .perms (rw (h .call .mode, h .call .form) at t));
+    choices = λ t. sym (h .choices .choices (rw (h .call .mode, h .call .form) at t));
     greys = λ t. sym (h .choices .greys (rw (h .call .mode, h .call .form) at t));
   };
 }

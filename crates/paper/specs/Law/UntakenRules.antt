@@ -7,11 +7,11 @@ use mathlib.Core.List.{List}
 use lib.ListN.{length, getD}
 use lib.IntN.{ℤ}
 use Rattle.paper.specs.Panel.Input.{Call, Choices, Buffers, size}
-use Rattle.paper.specs.Panel.Takes.{isWolff, takesCuts, takesFlips, takesPerms, takesGreys, takesReference, takesSeed, entries}
+use Rattle.paper.specs.Panel.Takes.{isWolff, takesCuts, takesFlips, takesPerms, takesChoices, takesGreys, takesReference, takesSeed, entries, choiceBytes}
 use Rattle.paper.specs.Site.Acting.{acts, SomeActs}
 use Rattle.paper.specs.Refusal.Rules.{Exact, Grouped, Permutes, SmallCouplings, Warm, Cuts, NotIdentity, Chosen, Seeded, choiceRules, rules}
 use Rattle.paper.specs.Answer.Same.{SameTaken, SameLent}
-use Rattle.paper.specs.Law.ByTest.{and-left}
+use Rattle.paper.specs.Law.ByTest.{and-left, flips-taken, perms-taken}
 use Rattle.paper.specs.Law.Matched.{Matched, taken-same, itself}
 use Rattle.paper.specs.Law.Untaken.{over, onto, acts-same}
 
@@ -47,11 +47,14 @@ module _ {c a : Call} {p o : Choices} (same : SameTaken c p a o) where
   abbrev InPanel : ℕ → Type 0
   InPanel x = x < c .lattice .n
 
+  perms-same : takesPerms c ≡ true → o .choices ≡ p .choices
+  perms-same t = same .choices .choices (perms-taken (c .mode) (c .form) t)
+
   chosen-same : Chosen c p ↔ Chosen (over c a) o
   chosen-same =
-      let perms = taken-same (takesPerms c) AllPermute (same .choices .perms) in
-      let moving = taken-same (takesPerms c && isWolff (c .form)) FirstMoves (λ t. same .choices .perms (and-left (takesPerms c) _ t)) in
-      let flips = taken-same (takesFlips c) AllFlips (same .choices .flips) in
+      let perms = taken-same (takesPerms c) AllPermute perms-same in
+      let moving = taken-same (takesPerms c && isWolff (c .form)) FirstMoves (λ t. perms-same (and-left (takesPerms c) _ t)) in
+      let flips = taken-same (takesFlips c) AllFlips (λ t. same .choices .choices (flips-taken (c .mode) (c .form) t)) in
       let greys = taken-same (takesGreys c) AllGreys (same .choices .greys) in
       let some = taken-same (takesGreys c && isWolff (c .form)) FirstGreys (λ t. same .choices .greys (and-left (takesGreys c) _ t)) in
       let site = taken-same (takesReference c) InPanel (same .call .reference) in (
@@ -104,8 +107,7 @@ module _ {c a : Call} {p o : Choices} (same : SameTaken c p a o) where
         let nd = c .lattice .n * c .lattice .d in
         let couplings = taken-same (takesCuts c) (Long nd) (same .call .panel .couplings) in
         let cuts = taken-same (takesCuts c) (Long nd) (same .call .cuts) in
-        let flips = taken-same (takesFlips c) (Long (c .lattice .n)) (same .choices .flips) in
-        let perms = taken-same (takesPerms c) (Long (entries (c .form) (c .lattice .n) * size c)) (same .choices .perms) in
+        let choices = taken-same (takesChoices c) (Long (choiceBytes (c .mode) (c .form) (c .lattice .n) (size c))) (same .choices .choices) in
         let greys = taken-same (takesGreys c) (Long (entries (c .form) (c .lattice .n))) (same .choices .greys) in (
           (λ h. record {
             spins = h .spins;
@@ -113,8 +115,7 @@ module _ {c a : Call} {p o : Choices} (same : SameTaken c p a o) where
             bwd = h .bwd;
             couplings = couplings .0 (h .couplings);
             cuts = cuts .0 (h .cuts);
-            flips = flips .0 (h .flips);
-            perms = perms .0 (h .perms);
+            choices = choices .0 (h .choices);
             greys = greys .0 (h .greys);
             labels = lent .labels ∙ h .labels;
             grey-labels = λ t. lent .grey-labels t ∙ h .grey-labels t;
@@ -127,8 +128,7 @@ module _ {c a : Call} {p o : Choices} (same : SameTaken c p a o) where
             bwd = h .bwd;
             couplings = couplings .1 (h .couplings);
             cuts = cuts .1 (h .cuts);
-            flips = flips .1 (h .flips);
-            perms = perms .1 (h .perms);
+            choices = choices .1 (h .choices);
             greys = greys .1 (h .greys);
             labels = sym (lent .labels) ∙ h .labels;
             grey-labels = λ t. sym (lent .grey-labels t) ∙ h .grey-labels t;

@@ -10,12 +10,12 @@ use Rattle.paper.specs.declared.Group.{Group}
 use Rattle.paper.specs.declared.Mode.{Mode}
 use Rattle.paper.specs.declared.Form.{Form}
 use Rattle.paper.specs.declared.Lengths.{Lengths}
-use Rattle.paper.specs.Panel.Input.{Lattice, Call, Choices, Buffers, size, member}
-use Rattle.paper.specs.Panel.Takes.{isCmr, isWolff, drawsBonds, flipsBy, permsBy, greysBy, entries}
+use Rattle.paper.specs.Panel.Input.{Lattice, Call, Choices, Buffers, size, member, spin}
+use Rattle.paper.specs.Panel.Takes.{isCmr, isWolff, drawsBonds, choicesBy, greysBy, entries, choiceBytes}
 use Rattle.paper.specs.Panel.Takes.{takesCuts, takesFlips, takesPerms, takesGreys, takesReference, takesSeed}
 use Rattle.paper.specs.Site.Acting.{acts, SomeActs}
 use Rattle.paper.specs.Refusal.Rule.{Kept, Broken}
-use Rattle.paper.specs.Refusal.Rules.{Sizes, Ranged, Fits, lengthsOf, Spins, Back, Inverse, Distinct, Grouped, SmallCouplings, Warm}
+use Rattle.paper.specs.Refusal.Rules.{Sizes, Ranged, Fits, lengthsOf, AllSystems, Spins, Back, Inverse, Distinct, Grouped, SmallCouplings, Warm}
 use Rattle.paper.specs.Refusal.Rules.{isCut, Cuts, Permutes, NotIdentity, permRow, Chosen, Seeded, choiceRules, rules}
 use Rattle.paper.specs.Refusal.Verdict.{Verdict}
 use Rattle.paper.specs.Answer.Meter.{meterRules}
@@ -39,14 +39,13 @@ ranged n d s mode m =
 abbrev pub fits : (mode : Mode) (form : Form) (n d s m : ℕ) (l : Lengths) → Decided (Fits mode form n d s m l)
 fits mode form n d s m l =
     iff
-    (λ (a, (b, (c, (e, (f, (g, (h, (i, (j, (k, (o, p))))))))))). record {
+    (λ (a, (b, (c, (e, (f, (g, (i, (j, (k, (o, p)))))))))). record {
       spins = a;
       fwd = b;
       bwd = c;
       couplings = e;
       cuts = f;
-      flips = g;
-      perms = h;
+      choices = g;
       greys = i;
       labels = j;
       grey-labels = k;
@@ -59,7 +58,7 @@ fits mode form n d s m l =
         r .fwd,
         (
           r .bwd,
-          (r .couplings, (r .cuts, (r .flips, (r .perms, (r .greys, (r .labels, (r .grey-labels, (r .counts, r .sizes)))))))),
+          (r .couplings, (r .cuts, (r .choices, (r .greys, (r .labels, (r .grey-labels, (r .counts, r .sizes))))))),
         ),
       ),
     ))
@@ -68,17 +67,18 @@ fits mode form n d s m l =
     (both (eq (l .bwd) (n * d))
     (both (when (drawsBonds mode) (eq (l .couplings) (n * d)))
     (both (when (drawsBonds mode) (eq (l .cuts) (n * d)))
-    (both (when (flipsBy mode form) (eq (l .flips) n))
-    (both (when (permsBy mode form) (eq (l .perms) (entries form n * m)))
+    (both (when (choicesBy mode form) (eq (l .choices) (choiceBytes mode form n m)))
     (both (when (greysBy mode form) (eq (l .greys) (entries form n)))
     (both (eq (l .labels) n)
     (both (when (greysBy mode form) (eq (l .«grey_labels») n))
     (both (eq (l .counts) (n + 1))
-    (eq (l .sizes) 4))))))))))))
+    (eq (l .sizes) 4)))))))))))
 
 -- ---- 3 to 7
-abbrev pub spins : (xs : List ℤ) → Decided (Spins xs)
-spins xs = all (length xs) (λ i. either (same (getD xs i (pos 0)) (pos 1)) (same (getD xs i (pos 0)) (negsuc 0)))
+abbrev pub spins : (n s : ℕ) (xs : List ℤ) → Decided (Spins n (AllSystems s) xs)
+spins n s xs =
+    iff (λ h t i ht hi. h t ht i hi) (λ h t ht i hi. h t i ht hi)
+    (all s (λ t. all n (λ i. either (same (spin n xs t i) (pos 1)) (same (spin n xs t i) (negsuc 0)))))
 
 abbrev pub goesBack : (n d : ℕ) (a b : List ℕ) → Decided ((i e : ℕ) → i < n → e < d → Back n d a b i e)
 goesBack n d a b =
@@ -127,7 +127,7 @@ chosen c p =
     (λ r. (r .perms, (r .not-identity, (r .flips, (r .greys, (r .grey-some, r .reference))))))
     (both (when (takesPerms c) (all (entries (c .form) (c .lattice .n)) (λ r. permutes (size c) (permRow c p r))))
     (both (when (takesPerms c && isWolff (c .form)) (notIdentity (size c) (permRow c p 0)))
-    (both (when (takesFlips c) (all (c .lattice .n) (λ r. le (getD (p .flips) r 0) 1)))
+    (both (when (takesFlips c) (all (c .lattice .n) (λ r. le (getD (p .choices) r 0) 1)))
     (both (when (takesGreys c) (all (entries (c .form) (c .lattice .n)) (λ r. le (getD (p .greys) r 0) 3)))
     (both (when (takesGreys c && isWolff (c .form)) (le 1 (getD (p .greys) 0 0)))
     (when (takesReference c) (lt (c .reference) (c .lattice .n))))))))
@@ -153,7 +153,7 @@ decided c p b = (
   (
     fits (c .mode) (c .form) (c .lattice .n) (c .lattice .d) (c .lattice .s) (size c) (lengthsOf c p b),
     (
-      spins (b .spins),
+      spins (c .lattice .n) (c .lattice .s) (b .spins),
       (
         inverse (c .lattice .n) (c .lattice .d) (c .lattice .fwd) (c .lattice .bwd),
         (
@@ -190,7 +190,7 @@ meterDecided t xs k = (
         (both (eq (length (t .fwd)) (t .n * t .d))
         (both (eq (length (t .bwd)) (t .n * t .d))
         (eq (length (t .couplings)) (t .n * t .d))))),
-    (spins xs, (inverse (t .n) (t .d) (t .fwd) (t .bwd), (lt k (t .s), (smallCouplings (t .couplings), tt)))),
+    (spins (t .n) (t .s) xs, (inverse (t .n) (t .d) (t .fwd) (t .bwd), (lt k (t .s), (smallCouplings (t .couplings), tt)))),
   ),
 )
 

@@ -20,13 +20,13 @@ use Rattle.paper.specs.Component.Sizes.{labelOf, sizeOf}
 
 -- a flip? SW reads it, Wolff flips the seed's component
 abbrev pub flipBy : Form → List ℕ → ℕ → Bool
-flipBy Sw flips r = eqb (getD flips r 0) 1
-flipBy Wolff flips r = true
-flipBy Observe flips r = false
+flipBy Sw choices r = eqb (getD choices r 0) 1
+flipBy Wolff choices r = true
+flipBy Observe choices r = false
 
 -- the permutation's value at the place k
 abbrev pub permAt : Form → ℕ → List ℕ → ℕ → ℕ → ℕ
-permAt form m perms r k = getD perms (entry form r * m + k) 0
+permAt form m choices r k = getD choices (entry form r * m + k) 0
 
 abbrev pub greyAt : Form → List ℕ → ℕ → ℕ
 greyAt form greys r = getD greys (entry form r) 0
@@ -55,11 +55,11 @@ gauged P p f k = P k *ℤ P (p k) *ℤ f (p k)
 
 -- the places that the component's choice makes of the places 0 to N - 1, in the modes that exchange spins between replicas
 abbrev pub chosenBy : Mode → Call → Choices → ℕ → ℕ → ℕ
-chosenBy Houd c p r k = cond (flipBy (c .form) (p .flips) r) (partner (size c) k) k
-chosenBy Pair c p r k = cond (flipBy (c .form) (p .flips) r) (partner (size c) k) k
-chosenBy Jorg c p r k = cond (flipBy (c .form) (p .flips) r) (partner (size c) k) k
-chosenBy Perm c p r k = permAt (c .form) (size c) (p .perms) r k
-chosenBy Gperm c p r k = permAt (c .form) (size c) (p .perms) r k
+chosenBy Houd c p r k = cond (flipBy (c .form) (p .choices) r) (partner (size c) k) k
+chosenBy Pair c p r k = cond (flipBy (c .form) (p .choices) r) (partner (size c) k) k
+chosenBy Jorg c p r k = cond (flipBy (c .form) (p .choices) r) (partner (size c) k) k
+chosenBy Perm c p r k = permAt (c .form) (size c) (p .choices) r k
+chosenBy Gperm c p r k = permAt (c .form) (size c) (p .choices) r k
 chosenBy Cmr c p r k = k
 
 abbrev pub chosen : Call → Choices → ℕ → ℕ → ℕ
@@ -67,12 +67,12 @@ chosen c p = chosenBy (c .mode) c p
 
 -- with P at the reference site. CMR's is the blue flip, of both replicas
 abbrev pub actBy : Mode → Call → Choices → Pattern → ℕ → Pattern → Pattern
-actBy Houd c p P r f = flipSome (λ k. flipBy (c .form) (p .flips) r && ltb k (2 * (size c / 2))) f
+actBy Houd c p P r f = flipSome (λ k. flipBy (c .form) (p .choices) r && ltb k (2 * (size c / 2))) f
 actBy Pair c p P r f = permute (chosenBy Pair c p r) f
 actBy Jorg c p P r f = permute (chosenBy Jorg c p r) f
 actBy Perm c p P r f = permute (chosenBy Perm c p r) f
 actBy Gperm c p P r f = gauged P (chosenBy Gperm c p r) f
-actBy Cmr c p P r f = flipSome (λ k. flipBy (c .form) (p .flips) r) f
+actBy Cmr c p P r f = flipSome (λ k. flipBy (c .form) (p .choices) r) f
 
 -- CMR: bit 0 of the grey number flips the first replica, bit 1 the second
 abbrev pub greyBit : ℕ → ℕ → Bool

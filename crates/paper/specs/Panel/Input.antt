@@ -37,10 +37,10 @@ pub record Call : Type 0 where
   pub reference : ℕ
   pub seed : ℕ
 
--- the choices by component: SW has one entry for each label, Wolff one entry in all (and no flips)
+-- the choices by component: SW has one entry for each label, Wolff one entry in all. An entry is a flip, or in perm and gperm a permutation;
+-- Wolff takes no flip. CMR's grey components have a number each
 pub record Choices : Type 0 where
-  pub flips : List ℕ
-  pub perms : List ℕ
+  pub choices : List ℕ
   pub greys : List ℕ
 
 -- the lent buffers, before the call or after it

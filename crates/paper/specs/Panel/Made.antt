@@ -18,8 +18,8 @@ callOf t fwd bwd couplings cuts = record {
   seed = t .seed;
 }
 
-abbrev pub choicesOf : List ℕ → List ℕ → List ℕ → Choices
-choicesOf flips perms greys = record { flips = flips; perms = perms; greys = greys }
+abbrev pub choicesOf : List ℕ → List ℕ → Choices
+choicesOf choices greys = record { choices = choices; greys = greys }
 
 abbrev pub buffersOf : List ℤ → List ℕ → List ℕ → List ℕ → List ℕ → Buffers
 buffersOf spins labels greyLabels counts sizes = record { spins = spins; labels = labels; greyLabels = greyLabels; counts = counts; sizes = sizes }

@@ -1,6 +1,6 @@
 -- Which inputs each mode and form takes.
-use Prim.Native.Nat.{ℕ}
-use mathlib.Core.Bool.{Bool, true, false, not, _&&_}
+use Prim.Native.Nat.{ℕ, _*_}
+use mathlib.Core.Bool.{Bool, true, false, not, cond, _&&_, _||_}
 use Rattle.paper.specs.declared.Mode.{Mode}
 use Rattle.paper.specs.declared.Mode.the-variants.{Houd, Pair, Perm, Gperm, Jorg, Cmr}
 use Rattle.paper.specs.declared.Form.{Form}
@@ -59,11 +59,15 @@ moves Observe = false
 abbrev pub drawsBonds : Mode → Bool
 drawsBonds mode = isDrawn mode
 
+-- choices are flips, or in the modes that permute permutations
 abbrev pub flipsBy : Mode → Form → Bool
 flipsBy mode form = isSw form && not (isPerm mode)
 
 abbrev pub permsBy : Mode → Form → Bool
 permsBy mode form = moves form && isPerm mode
+
+abbrev pub choicesBy : Mode → Form → Bool
+choicesBy mode form = flipsBy mode form || permsBy mode form
 
 -- grey numbers and grey labels
 abbrev pub greysBy : Mode → Form → Bool
@@ -77,6 +81,9 @@ takesFlips c = flipsBy (c .mode) (c .form)
 
 abbrev pub takesPerms : Call → Bool
 takesPerms c = permsBy (c .mode) (c .form)
+
+abbrev pub takesChoices : Call → Bool
+takesChoices c = choicesBy (c .mode) (c .form)
 
 abbrev pub takesGreys : Call → Bool
 takesGreys c = greysBy (c .mode) (c .form)
@@ -97,3 +104,10 @@ abbrev pub entry : Form → ℕ → ℕ
 entry Sw r = r
 entry Wolff r = 0
 entry Observe r = 0
+
+-- a flip is one byte, a permutation of m places m bytes; so many bytes hold the choices of n sites
+abbrev pub choiceWidth : Mode → ℕ → ℕ
+choiceWidth mode m = cond (isPerm mode) m 1
+
+abbrev pub choiceBytes : Mode → Form → ℕ → ℕ → ℕ
+choiceBytes mode form n m = entries form n * choiceWidth mode m

@@ -4,13 +4,13 @@ use lib.IntN.{ℤ}
 use Rattle.paper.specs.Panel.Input.{Call, Choices, Buffers, size}
 use Rattle.paper.specs.Panel.Takes.{takesCuts}
 use Rattle.paper.specs.Refusal.Rule.{Kept}
-use Rattle.paper.specs.Refusal.Rules.{When, Ranged, Exact, Spins, Inverse, Grouped, SmallCouplings, Warm, Cuts, Chosen, Seeded, choiceRules, rules}
+use Rattle.paper.specs.Refusal.Rules.{When, Ranged, Exact, AllSystems, Spins, Inverse, Grouped, SmallCouplings, Warm, Cuts, Chosen, Seeded, choiceRules, rules}
 
 -- 1 to 7
 pub record Sound (c : Call) (p : Choices) (b : Buffers) : Type 0 where
   pub ranged : Ranged (c .lattice .n) (c .lattice .d) (c .lattice .s) (c .mode) (size c)
   pub exact : Exact c p b
-  pub spins : Spins (b .spins)
+  pub spins : Spins (c .lattice .n) (AllSystems (c .lattice .s)) (b .spins)
   pub inverse : Inverse (c .lattice .n) (c .lattice .d) (c .lattice .fwd) (c .lattice .bwd)
   pub grouped : Grouped (c .lattice .s) (c .group)
   pub couplings : When (takesCuts c) (SmallCouplings (c .lattice .couplings))

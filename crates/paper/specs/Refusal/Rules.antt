@@ -12,8 +12,8 @@ use Rattle.paper.specs.declared.Group.{Group}
 use Rattle.paper.specs.declared.Mode.{Mode}
 use Rattle.paper.specs.declared.Form.{Form}
 use Rattle.paper.specs.declared.Lengths.{Lengths}
-use Rattle.paper.specs.Panel.Input.{Call, Choices, Buffers, size, member}
-use Rattle.paper.specs.Panel.Takes.{isCmr, isWolff, drawsBonds, flipsBy, permsBy, greysBy, entries}
+use Rattle.paper.specs.Panel.Input.{Call, Choices, Buffers, size, member, spin}
+use Rattle.paper.specs.Panel.Takes.{isCmr, isWolff, drawsBonds, choicesBy, greysBy, entries, choiceBytes}
 use Rattle.paper.specs.Panel.Takes.{takesCuts, takesFlips, takesPerms, takesGreys, takesReference, takesSeed}
 use Rattle.paper.specs.Site.Acting.{acts, SomeActs}
 use Rattle.paper.specs.Site.Bonds.{whole}
@@ -46,8 +46,7 @@ pub record Fits (mode : Mode) (form : Form) (n d s m : ℕ) (l : Lengths) : Type
   pub bwd : l .bwd ≡ n * d
   pub couplings : When (drawsBonds mode) (l .couplings ≡ n * d)
   pub cuts : When (drawsBonds mode) (l .cuts ≡ n * d)
-  pub flips : When (flipsBy mode form) (l .flips ≡ n)
-  pub perms : When (permsBy mode form) (l .perms ≡ entries form n * m)
+  pub choices : When (choicesBy mode form) (l .choices ≡ choiceBytes mode form n m)
   pub greys : When (greysBy mode form) (l .greys ≡ entries form n)
   pub labels : l .labels ≡ n
   pub grey-labels : When (greysBy mode form) (l .«grey_labels» ≡ n)
@@ -61,8 +60,7 @@ lengthsOf c p b = record {
   bwd = length (c .lattice .bwd);
   couplings = length (c .lattice .couplings);
   cuts = length (c .cuts);
-  flips = length (p .flips);
-  perms = length (p .perms);
+  choices = length (p .choices);
   greys = length (p .greys);
   labels = length (b .labels);
   «grey_labels» = length (b .greyLabels);
@@ -77,8 +75,13 @@ Exact c p b = Fits (c .mode) (c .form) (c .lattice .n) (c .lattice .d) (c .latti
 abbrev pub Spin : ℤ → Type 0
 Spin z = (z ≡ pos 1) ⊎ (z ≡ negsuc 0)
 
-abbrev pub Spins : List ℤ → Type 0
-Spins xs = (i : ℕ) → i < length xs → Spin (getD xs i (pos 0))
+-- the systems whose rows test 3 looks at: all s of the panel
+abbrev pub AllSystems : ℕ → ℕ → Type 0
+AllSystems s t = t < s
+
+-- the rows of the systems that are named hold spins
+abbrev pub Spins : ℕ → (ℕ → Type 0) → List ℤ → Type 0
+Spins n Named xs = (t i : ℕ) → Named t → i < n → Spin (spin n xs t i)
 
 -- the neighbour of site i by the table a is a site, and the table b leads back from it
 pub record Back (n d : ℕ) (a b : List ℕ) (i e : ℕ) : Type 0 where
@@ -125,14 +128,14 @@ pub record NotIdentity (m : ℕ) (p : ℕ → ℕ) : Type 0 where
   pub below : place < m
   pub moved : p place ≡ place → ⊥
 
--- the entry r of the permutations; every entry is tested, also one that no component uses
+-- the entry r, a permutation; every entry is tested, also one that no component uses
 abbrev pub permRow : Call → Choices → ℕ → ℕ → ℕ
-permRow c p r k = getD (p .perms) (r * size c + k) 0
+permRow c p r k = getD (p .choices) (r * size c + k) 0
 
 pub record Chosen (c : Call) (p : Choices) : Type 0 where
   pub perms : When (takesPerms c) ((r : ℕ) → r < entries (c .form) (c .lattice .n) → Permutes (size c) (permRow c p r))
   pub not-identity : When (takesPerms c && isWolff (c .form)) (NotIdentity (size c) (permRow c p 0))
-  pub flips : When (takesFlips c) ((r : ℕ) → r < c .lattice .n → getD (p .flips) r 0 ≤ 1)
+  pub flips : When (takesFlips c) ((r : ℕ) → r < c .lattice .n → getD (p .choices) r 0 ≤ 1)
   pub greys : When (takesGreys c) ((r : ℕ) → r < entries (c .form) (c .lattice .n) → getD (p .greys) r 0 ≤ 3)
   pub grey-some : When (takesGreys c && isWolff (c .form)) (1 ≤ getD (p .greys) 0 0)
   pub reference : When (takesReference c) (c .reference < c .lattice .n)
@@ -151,7 +154,7 @@ abbrev pub rules : Call → Choices → Buffers → List Rule
 rules c p b =
     rule 1 (Ranged (c .lattice .n) (c .lattice .d) (c .lattice .s) (c .mode) (size c))
     ∷ rule 2 (Exact c p b)
-    ∷ rule 3 (Spins (b .spins))
+    ∷ rule 3 (Spins (c .lattice .n) (AllSystems (c .lattice .s)) (b .spins))
     ∷ rule 4 (Inverse (c .lattice .n) (c .lattice .d) (c .lattice .fwd) (c .lattice .bwd))
     ∷ rule 5 (Grouped (c .lattice .s) (c .group))
     ∷ rule 6 (When (takesCuts c) (SmallCouplings (c .lattice .couplings)))

@@ -78,13 +78,13 @@ abbrev pub frame : Mode → Call
 frame mode = plain mode Sw (line 3 2 (1 ∷ 2 ∷ 0 ∷ []) (2 ∷ 0 ∷ 1 ∷ []) []) (record { len = 2; systems = 0 ∷ 1 ∷ 0 ∷ 0 ∷ 0 ∷ 0 ∷ 0 ∷ 0 ∷ [] })
 
 abbrev pub noChoices : Choices
-noChoices = record { flips = []; perms = []; greys = [] }
+noChoices = record { choices = []; greys = [] }
 
 abbrev pub framePerms : Choices
-framePerms = record { flips = []; perms = 1 ∷ 0 ∷ 1 ∷ 0 ∷ 1 ∷ 0 ∷ []; greys = [] }
+framePerms = record { choices = 1 ∷ 0 ∷ 1 ∷ 0 ∷ 1 ∷ 0 ∷ []; greys = [] }
 
 abbrev pub allFlips : Choices
-allFlips = record { flips = 1 ∷ 1 ∷ 1 ∷ []; perms = []; greys = [] }
+allFlips = record { choices = 1 ∷ 1 ∷ 1 ∷ []; greys = [] }
 
 abbrev pub before13 : Buffers
 before13 = buffers (+ ∷ + ∷ - ∷ + ∷ - ∷ - ∷ []) (0 ∷ 0 ∷ 0 ∷ []) (0 ∷ 0 ∷ 0 ∷ 0 ∷ []) (0 ∷ 0 ∷ 0 ∷ 0 ∷ [])

@@ -33,7 +33,7 @@ cmr form lattice temperature cuts = record {
 }
 
 abbrev choosing : List ℕ → List ℕ → Choices
-choosing flips greys = record { flips = flips; perms = []; greys = greys }
+choosing flips greys = record { choices = flips; greys = greys }
 
 -- the outputs hold anything before the move
 abbrev buffers : List ℤ → List ℕ → List ℕ → List ℕ → List ℕ → Buffers

@@ -90,15 +90,15 @@ three = plain Perm Wolff (line 1 3 (0 ∷ []) (0 ∷ []) []) (first 3)
 abbrev four : Call
 four = plain Pair Sw (line 4 2 (0 ∷ 1 ∷ 2 ∷ 3 ∷ []) (0 ∷ 1 ∷ 2 ∷ 3 ∷ []) []) (first 2)
 
-abbrev choosing : List ℕ → List ℕ → Choices
-choosing flips perms = record { flips = flips; perms = perms; greys = [] }
+abbrev choosing : List ℕ → Choices
+choosing choices = record { choices = choices; greys = [] }
 
 pub record ChoiceBuffers : Type 0 where
-  pub composed : composite three (choosing [] (1 ∷ 2 ∷ 0 ∷ [])) (choosing [] (1 ∷ 0 ∷ 2 ∷ [])) .perms ≡ 2 ∷ 1 ∷ 0 ∷ []
-  pub inverted : inverse three (choosing [] (1 ∷ 2 ∷ 0 ∷ [])) .perms ≡ 2 ∷ 0 ∷ 1 ∷ []
-  pub identical : identity three .perms ≡ 0 ∷ 1 ∷ 2 ∷ []
-  pub added : composite four (choosing (0 ∷ 0 ∷ 1 ∷ 1 ∷ []) []) (choosing (0 ∷ 1 ∷ 0 ∷ 1 ∷ []) []) .flips ≡ 0 ∷ 1 ∷ 1 ∷ 0 ∷ []
-  pub unflipped : identity four .flips ≡ 0 ∷ 0 ∷ 0 ∷ 0 ∷ []
+  pub composed : composite three (choosing (1 ∷ 2 ∷ 0 ∷ [])) (choosing (1 ∷ 0 ∷ 2 ∷ [])) .choices ≡ 2 ∷ 1 ∷ 0 ∷ []
+  pub inverted : inverse three (choosing (1 ∷ 2 ∷ 0 ∷ [])) .choices ≡ 2 ∷ 0 ∷ 1 ∷ []
+  pub identical : identity three .choices ≡ 0 ∷ 1 ∷ 2 ∷ []
+  pub added : composite four (choosing (0 ∷ 0 ∷ 1 ∷ 1 ∷ [])) (choosing (0 ∷ 1 ∷ 0 ∷ 1 ∷ [])) .choices ≡ 0 ∷ 1 ∷ 1 ∷ 0 ∷ []
+  pub unflipped : identity four .choices ≡ 0 ∷ 0 ∷ 0 ∷ 0 ∷ []
 
 pub choice-buffers : ChoiceBuffers
 unfolding table placeOf

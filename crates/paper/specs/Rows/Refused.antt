@@ -42,7 +42,7 @@ call ok = record {
 }
 
 abbrev choices : (ℕ → Bool) → Choices
-choices ok = record { flips = []; perms = []; greys = cond (ok 9) (3 ∷ []) (0 ∷ []) }
+choices ok = record { choices = []; greys = cond (ok 9) (3 ∷ []) (0 ∷ []) }
 
 abbrev buffers : (ℕ → Bool) → Buffers
 buffers ok = record {
@@ -96,7 +96,7 @@ seeding seed = record {
 }
 
 abbrev permuting : List ℕ → Choices
-permuting p = record { flips = []; perms = p; greys = [] }
+permuting p = record { choices = p; greys = [] }
 
 abbrev lent : List ℤ → Buffers
 lent spins = record { spins = spins; labels = 0 ∷ 0 ∷ []; greyLabels = []; counts = 0 ∷ 0 ∷ 0 ∷ []; sizes = 0 ∷ 0 ∷ 0 ∷ 0 ∷ [] }

@@ -27,7 +27,7 @@ abbrev twins : List ℤ → Lattice
 twins couplings = line 2 2 (1 ∷ 0 ∷ []) (1 ∷ 0 ∷ []) couplings
 
 abbrev permuting : List ℕ → Choices
-permuting perms = record { flips = []; perms = perms; greys = [] }
+permuting perms = record { choices = perms; greys = [] }
 
 abbrev before3 : List ℤ → Buffers
 before3 spins = buffers spins (9 ∷ 9 ∷ 9 ∷ []) (9 ∷ 9 ∷ 9 ∷ 9 ∷ []) (9 ∷ 9 ∷ 9 ∷ 9 ∷ [])
@@ -85,7 +85,7 @@ abbrev single1 : List ℤ → Buffers
 single1 spins = buffers spins (0 ∷ []) (0 ∷ 1 ∷ []) (1 ∷ 0 ∷ 0 ∷ 0 ∷ [])
 
 abbrev flipping : List ℕ → Choices
-flipping flips = record { flips = flips; perms = []; greys = [] }
+flipping flips = record { choices = flips; greys = [] }
 
 pub wolff-single : Answers (single Wolff) (flipping []) (single1 (+ ∷ - ∷ [])) Moved (single1 (- ∷ + ∷ []))
 unfolding every any holds acts pairDiffers sizeOf countWhere other reached final

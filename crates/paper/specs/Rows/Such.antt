@@ -43,7 +43,7 @@ hot = record {
 }
 
 abbrev flips : List ℕ → Choices
-flips xs = record { flips = xs; perms = []; greys = [] }
+flips xs = record { choices = xs; greys = [] }
 
 -- all sites act and are one component, so entry 1 is unused
 abbrev at : List ℤ → Buffers
@@ -85,7 +85,7 @@ taken p = record {
     reference = λ t. never t;
     seed = λ t. never t;
   };
-  choices = record { flips = λ _. refl; perms = λ _. refl; greys = λ _. refl };
+  choices = record { choices = λ _. refl; greys = λ _. refl };
 }
 
 -- the two moves are two such moves, and compose to the third although their sum at entry 1 is not its flip there

@@ -32,8 +32,7 @@ sweep masks temperatures cuts seeds = record {
   cuts = cuts;
   references = [];
   seeds = seeds;
-  flips = [];
-  perms = [];
+  choices = [];
   greys = [];
 }
 

@@ -48,8 +48,7 @@ sweep = record {
   cuts = [];
   references = [];
   seeds = [];
-  flips = [];
-  perms = 1 ∷ 0 ∷ 1 ∷ 0 ∷ 0 ∷ 1 ∷ 9 ∷ 9 ∷ [];
+  choices = 1 ∷ 0 ∷ 1 ∷ 0 ∷ 0 ∷ 1 ∷ 9 ∷ 9 ∷ [];
   greys = [];
 }
 
@@ -187,17 +186,16 @@ apart = record {
   cuts = nan ∷ [];
   references = 5 ∷ [];
   seeds = 5 ∷ [];
-  flips = 5 ∷ [];
-  perms = 1 ∷ 0 ∷ 1 ∷ 0 ∷ 0 ∷ 1 ∷ 0 ∷ 0 ∷ [];
+  choices = 1 ∷ 0 ∷ 1 ∷ 0 ∷ 0 ∷ 1 ∷ 0 ∷ 0 ∷ [];
   greys = 5 ∷ [];
 }
 
-perms-same : (k : ℕ) → k < 4 → masked sweep k ≡ false → taskChoices apart k .perms ≡ taskChoices sweep k .perms
-perms-same zero h e = refl
-perms-same (suc zero) h e = refl
-perms-same (suc (suc zero)) h e = refl
-perms-same (suc (suc (suc zero))) h e = never (sym e)
-perms-same (suc (suc (suc (suc k)))) h e = absurd (omega arith)
+choices-same : (k : ℕ) → k < 4 → masked sweep k ≡ false → taskChoices apart k .choices ≡ taskChoices sweep k .choices
+choices-same zero h e = refl
+choices-same (suc zero) h e = refl
+choices-same (suc (suc zero)) h e = refl
+choices-same (suc (suc (suc zero))) h e = never (sym e)
+choices-same (suc (suc (suc (suc k)))) h e = absurd (omega arith)
 
 apart-same : SameSwept sweep apart
 apart-same = record {
@@ -213,8 +211,7 @@ apart-same = record {
   cuts = λ t. never t;
   references = λ t. never t;
   seeds = λ t. never t;
-  flips = λ t. never t;
-  perms = λ _. refl;
+  choices = λ _. refl;
   greys = λ t. never t;
   each = λ k h e. record {
     call = record {
@@ -228,7 +225,7 @@ apart-same = record {
       reference = λ t. never t;
       seed = λ t. never t;
     };
-    choices = record { flips = λ t. never t; perms = λ _. perms-same k h e; greys = λ t. never t };
+    choices = record { choices = λ _. choices-same k h e; greys = λ t. never t };
   };
 }
 
