@@ -7,7 +7,7 @@ ghost use lib.IntN.{natAbs};
 ghost use lib.Ieee.{nan};
 ghost use Rattle.paper.specs.Component.Marks.{Tells};
 ghost use Rattle.paper.specs.Panel.Input.{member};
-ghost use Rattle.paper.specs.Refusal.Rules.{When, Sizes, Ranged, Spin, Spins, SmallCouplings, Warm, isCut};
+ghost use Rattle.paper.specs.Refusal.Rules.{When, Sizes, Ranged, Spin, AllSystems, Spins, SmallCouplings, Warm, isCut};
 ghost use Rattle.paper.specs.Refusal.Rules.{Cuts, Back, Inverse, Grouped, Permutes, NotIdentity};
 ghost use Rattle.lattice.specs.Telling.{Each};
 ghost use Rattle.lattice.specs.Backward.{Turnable, Turned, Zeros, Led, Filling, FillingSite, FillingBond};
@@ -60,9 +60,10 @@ fn spin_ok(x: i8) -> bool
     (x == 1) | (x == -1)
 }
 
-// One pass without an exit, which the compiler makes vector code of.
-pub fn spins_ok(spins: &[i8]) -> bool
-    ensures { λ r. ⌜ Tells r (Spins (now (spins .entry))) ⌝ }
+// The rows of all s systems: one pass without an exit, which the compiler makes vector code of.
+pub fn spins_ok(n: usize, s: usize, spins: &[i8]) -> bool
+    requires { ⌜ length (now spins) ≡ s * n ⌝ }
+    ensures { λ r. ⌜ Tells r (Spins n (AllSystems s) (now (spins .entry))) ⌝ }
 {
     let mut ok = true;
     let mut i = 0;

@@ -9,7 +9,7 @@ use lib.Seq.{getD-drop, getD-take}
 use lib.IntN.{ℤ, pos, negℤ, _*ℤ_}
 use Rattle.paper.specs.Panel.Input.{Lattice, spin, aheadOf}
 use Rattle.paper.specs.Refusal.Rule.{Kept}
-use Rattle.paper.specs.Refusal.Rules.{Sizes, Spins, Inverse, SmallCouplings}
+use Rattle.paper.specs.Refusal.Rules.{Sizes, AllSystems, Spins, Inverse, SmallCouplings}
 use Rattle.paper.specs.Site.Energy.{energy}
 use Rattle.paper.specs.Answer.Meter.{MeterExact, meterRules}
 use Rattle.paper.specs.Law.Sums.{sum-ext}
@@ -33,7 +33,7 @@ exact-lengths t xs h = record { spins-is = h .spins; fwd-is = h .fwd; bwd-is = h
 pub record Accepted (t : Lattice) (xs : List ℤ) (k : ℕ) : Type 0 where
   pub sizes : Sizes (t .n) (t .d) (t .s)
   pub exact : MeterExact t xs
-  pub spins : Spins xs
+  pub spins : Spins (t .n) (AllSystems (t .s)) xs
   pub inverse : Inverse (t .n) (t .d) (t .fwd) (t .bwd)
   pub system : k < t .s
   pub small : SmallCouplings (t .couplings)
@@ -64,7 +64,7 @@ module _ (t : Lattice) (xs : List ℤ) (k : ℕ) (h : Accepted t xs k) where
     js-long = h .exact .couplings;
     inside = λ i e li le. h .inverse .there i e li le .inside;
     small = h .small;
-    spins = λ i l. rw (row-at i l) (h .spins (k * t .n + i) (omega (arith, row-end)));
+    spins = λ i l. rw (row-at i l) (h .spins k i (h .system) l);
   }
 
   -- the bond (i, e) as the paper has it

@@ -15,14 +15,14 @@ use Rattle.paper.specs.declared.Mode.the-variants.{Houd, Pair, Perm, Gperm, Jor
 use Rattle.paper.specs.declared.Answer.the-variants.{Idle, Moved}
 use Rattle.paper.specs.Panel.Input.{Call, Choices, Buffers, size, graph}
 use Rattle.paper.specs.Panel.Made.{callOf, buffersOf}
-use Rattle.paper.specs.Panel.Takes.{isCmr, isPerm, moves, permsBy, greysBy}
+use Rattle.paper.specs.Panel.Takes.{isCmr, isPerm, moves, permsBy, greysBy, entries}
 use Rattle.paper.specs.Site.Acting.{acts, SomeActs}
 use Rattle.paper.specs.Site.Bonds.{holds}
 use Rattle.paper.specs.Component.Marks.{passed, refused}
 use Rattle.paper.specs.Move.Moving.{Moves}
 use Rattle.paper.specs.Refusal.Kept.{Valid, valid-kept}
 use Rattle.paper.specs.Answer.Move.{Answers}
-use Rattle.paper.specs.Law.ByTest.{never, and-left, and-right}
+use Rattle.paper.specs.Law.ByTest.{never, and-left, and-right, flips-taken, perms-taken, flips-bytes, perms-bytes}
 use Rattle.paper.specs.Law.Unique.{label-lt}
 use Rattle.moves.specs.Ready.{TestedFor, ready}
 use Rattle.rules.specs.Sight.{none-acts}
@@ -92,7 +92,7 @@ module _
       -- ---- choose and write
       pub choose-asks :
           moves (t .form) ≡ true
-          → ChooseAsks t fwd (p .flips) (p .perms) (p .greys) flags grey l tally (area 4096 (t .n)) cols (b .greyLabels)
+          → ChooseAsks t fwd (p .choices) (p .greys) flags grey l tally (area 4096 (t .n)) cols (b .greyLabels)
       choose-asks moving = record {
         choosable = record {
           few = omega (arith, long, n-high);
@@ -106,11 +106,12 @@ module _
           moving = moving;
           size-low = omega (arith, tested .size-low);
           size-high = tested .size-high;
-          flips-long = λ e. v .sound .exact .flips e ∙ sym long;
-          perms-long = λ e. rw long (v .sound .exact .perms (permuting e));
+          flips-long = λ e.
+              v .sound .exact .choices (flips-taken (t .mode) (t .form) e) ∙ (flips-bytes (t .mode) (t .form) (t .n) (size c) e ∙ sym long);
+          perms-long = λ e. rw long (rows-long e);
           places = λ e.
               let q = permuting e in
-              places-of _ (size c) (p .perms) (omega (arith, tested .size-low)) (v .sound .exact .perms q) (v .fit .chosen .perms q);
+              places-of _ (size c) (p .choices) (omega (arith, tested .size-low)) (rows-long e) (v .fit .chosen .perms q);
           narrow = λ i h. columns-narrow (d .columns) i (rw long at h);
         };
         cols-long = long;
@@ -129,11 +130,15 @@ module _
           permuting : isPerm (t .mode) ≡ true → permsBy (t .mode) (t .form) ≡ true
           permuting e = rw (moving, e) refl
 
+          rows-long : isPerm (t .mode) ≡ true → length (p .choices) ≡ entries (t .form) (t .n) * size c
+          rows-long e =
+              v .sound .exact .choices (perms-taken (t .mode) (t .form) (permuting e)) ∙ perms-bytes (t .mode) (t .form) (t .n) (size c) (permuting e)
+
           greying : isCmr (t .mode) ≡ true → greysBy (t .mode) (t .form) ≡ true
           greying e = rw (moving, e) refl
 
       module _
-          {new greyLabels : List ℕ} (w : ChooseLeaves t fwd (p .flips) (p .perms) (p .greys) flags grey l cols (b .greyLabels) new greyLabels)
+          {new greyLabels : List ℕ} (w : ChooseLeaves t fwd (p .choices) (p .greys) flags grey l cols (b .greyLabels) new greyLabels)
         where
           pub new-long : length new ≡ t .n
           new-long = w .columns .long ∙ long

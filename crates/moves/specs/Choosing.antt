@@ -22,28 +22,28 @@ use Rattle.moves.specs.Moved.{choiceColumn}
 use Rattle.moves.specs.Steps.{chosenAt, finalAt}
 
 flip-choice :
-    (mode : Mode) (form : Form) (m g : ℕ) (flips perms : List ℕ) (r x : ℕ) → isPerm mode ≡ false
-    → cond (flipBy form flips r) (columnOf m (flipped mode m (shown x))) x ≡ choiceColumn mode form m g flips perms r x
-flip-choice Houd form m g flips perms r x e = refl
-flip-choice Pair form m g flips perms r x e = refl
-flip-choice Perm form m g flips perms r x e = never (sym e)
-flip-choice Gperm form m g flips perms r x e = never (sym e)
-flip-choice Jorg form m g flips perms r x e = refl
-flip-choice Cmr form m g flips perms r x e = refl
+    (mode : Mode) (form : Form) (m g : ℕ) (choices : List ℕ) (r x : ℕ) → isPerm mode ≡ false
+    → cond (flipBy form choices r) (columnOf m (flipped mode m (shown x))) x ≡ choiceColumn mode form m g choices r x
+flip-choice Houd form m g choices r x e = refl
+flip-choice Pair form m g choices r x e = refl
+flip-choice Perm form m g choices r x e = never (sym e)
+flip-choice Gperm form m g choices r x e = never (sym e)
+flip-choice Jorg form m g choices r x e = refl
+flip-choice Cmr form m g choices r x e = refl
 
 perm-choice :
-    (mode : Mode) (form : Form) (m g : ℕ) (flips perms : List ℕ) (r x : ℕ) → isPerm mode ≡ true
-    → permutedBy m g (permAt form m perms r) x ≡ choiceColumn mode form m g flips perms r x
-perm-choice Houd form m g flips perms r x e = never e
-perm-choice Pair form m g flips perms r x e = never e
-perm-choice Perm form m g flips perms r x e = refl
-perm-choice Gperm form m g flips perms r x e = refl
-perm-choice Jorg form m g flips perms r x e = never e
-perm-choice Cmr form m g flips perms r x e = never e
+    (mode : Mode) (form : Form) (m g : ℕ) (choices : List ℕ) (r x : ℕ) → isPerm mode ≡ true
+    → permutedBy m g (permAt form m choices r) x ≡ choiceColumn mode form m g choices r x
+perm-choice Houd form m g choices r x e = never e
+perm-choice Pair form m g choices r x e = never e
+perm-choice Perm form m g choices r x e = refl
+perm-choice Gperm form m g choices r x e = refl
+perm-choice Jorg form m g choices r x e = never e
+perm-choice Cmr form m g choices r x e = never e
 
 -- ---- `choose_columns`
 module _
-    (t : Task) (n : ℕ) (acts labels flips perms reached cols : List ℕ)
+    (t : Task) (n : ℕ) (acts labels choices reached cols : List ℕ)
     (marks : Flags n (reachedAt (t .form) (t .mode) (t .seed) acts labels) reached)
   where
     abbrev m : ℕ
@@ -55,67 +55,67 @@ module _
     pub by-flips :
         (table : List ℕ) → isPerm (t .mode) ≡ false → Table m (λ x. columnOf m (flipped (t .mode) m (shown x))) table
         → (i : ℕ) → i < n → getD cols i 0 < 2 ^ m
-        → flippedAt (t .form) reached labels flips table cols i ≡ chosenAt t acts labels flips perms cols i
+        → flippedAt (t .form) reached labels choices table cols i ≡ chosenAt t acts labels choices cols i
     by-flips table e h i l narrow =
         rw (flag-at n (reachedAt (t .form) (t .mode) (t .seed) acts labels) reached marks i l, h .at (getD cols i 0) narrow)
-        (go (reachedAt (t .form) (t .mode) (t .seed) acts labels i) (flipBy (t .form) flips (labelOf labels i)) refl)
+        (go (reachedAt (t .form) (t .mode) (t .seed) acts labels i) (flipBy (t .form) choices (labelOf labels i)) refl)
       where
         go :
-            (b f : Bool) → f ≡ flipBy (t .form) flips (labelOf labels i)
+            (b f : Bool) → f ≡ flipBy (t .form) choices (labelOf labels i)
             → cond (b && f) (columnOf m (flipped (t .mode) m (shown (getD cols i 0)))) (getD cols i 0)
-            ≡ cond b (choiceColumn (t .mode) (t .form) m g flips perms (labelOf labels i) (getD cols i 0)) (getD cols i 0)
-        go true f q = rw q (flip-choice (t .mode) (t .form) m g flips perms (labelOf labels i) (getD cols i 0) e)
+            ≡ cond b (choiceColumn (t .mode) (t .form) m g choices (labelOf labels i) (getD cols i 0)) (getD cols i 0)
+        go true f q = rw q (flip-choice (t .mode) (t .form) m g choices (labelOf labels i) (getD cols i 0) e)
         go false f q = refl
 
     pub by-perms :
         (x : ℕ) → x ≡ g → isPerm (t .mode) ≡ true → (i : ℕ) → i < n
-        → permutedAt (t .form) m x reached labels perms cols i ≡ chosenAt t acts labels flips perms cols i
+        → permutedAt (t .form) m x reached labels choices cols i ≡ chosenAt t acts labels choices cols i
     by-perms x q e i l =
         rw (flag-at n (reachedAt (t .form) (t .mode) (t .seed) acts labels) reached marks i l, q)
         (ap (λ (y : ℕ). cond (reachedAt (t .form) (t .mode) (t .seed) acts labels i) y (getD cols i 0))
-        (perm-choice (t .mode) (t .form) m g flips perms (labelOf labels i) (getD cols i 0) e))
+        (perm-choice (t .mode) (t .form) m g choices (labelOf labels i) (getD cols i 0) e))
 
 -- ---- with the grey half
 -- in CMR the first choice is a flip
 cmr-narrow :
-    (mode : Mode) (form : Form) (m g : ℕ) (flips perms : List ℕ) (r x : ℕ) → isCmr mode ≡ true → x < 2 ^ m
-    → choiceColumn mode form m g flips perms r x < 2 ^ m
-cmr-narrow Houd form m g flips perms r x e h = never e
-cmr-narrow Pair form m g flips perms r x e h = never e
-cmr-narrow Perm form m g flips perms r x e h = never e
-cmr-narrow Gperm form m g flips perms r x e h = never e
-cmr-narrow Jorg form m g flips perms r x e h = never e
-cmr-narrow Cmr form m g flips perms r x e h = go (flipBy form flips r)
+    (mode : Mode) (form : Form) (m g : ℕ) (choices : List ℕ) (r x : ℕ) → isCmr mode ≡ true → x < 2 ^ m
+    → choiceColumn mode form m g choices r x < 2 ^ m
+cmr-narrow Houd form m g choices r x e h = never e
+cmr-narrow Pair form m g choices r x e h = never e
+cmr-narrow Perm form m g choices r x e h = never e
+cmr-narrow Gperm form m g choices r x e h = never e
+cmr-narrow Jorg form m g choices r x e h = never e
+cmr-narrow Cmr form m g choices r x e h = go (flipBy form choices r)
   where
     go : (f : Bool) → cond f (columnOf m (flipped Cmr m (shown x))) x < 2 ^ m
     go true = column-lt m (flipped Cmr m (shown x))
     go false = h
 
-module _ (t : Task) (acts labels flips perms : List ℕ) {cols mid : List ℕ} (b : Becomes (chosenAt t acts labels flips perms cols) cols mid) where
+module _ (t : Task) (acts labels choices : List ℕ) {cols mid : List ℕ} (b : Becomes (chosenAt t acts labels choices cols) cols mid) where
   pub mid-two : isCmr (t .mode) ≡ true → t .group .len ≡ 2 → (i : ℕ) → i < length cols → getD cols i 0 < 2 ^ t .group .len → getD mid i 0 < 4
   mid-two e two i l h = subst (λ (z : ℕ). getD mid i 0 < 2 ^ z) two (rw (b .at i l) (go (reachedAt (t .form) (t .mode) (t .seed) acts labels i)))
     where
       go :
           (r : Bool)
           → cond r
-          (choiceColumn (t .mode) (t .form) (t .group .len) (gaugeOf (t .mode) (t .group .len) (getD cols (t .reference) 0)) flips perms (labelOf labels i)
+          (choiceColumn (t .mode) (t .form) (t .group .len) (gaugeOf (t .mode) (t .group .len) (getD cols (t .reference) 0)) choices (labelOf labels i)
           (getD cols i 0))
           (getD cols i 0) < 2 ^ t .group .len
-      go true = cmr-narrow (t .mode) (t .form) (t .group .len) _ flips perms (labelOf labels i) (getD cols i 0) e h
+      go true = cmr-narrow (t .mode) (t .form) (t .group .len) _ choices (labelOf labels i) (getD cols i 0) e h
       go false = h
 
   pub plain-final :
-      (greyLabels greys : List ℕ) → isCmr (t .mode) ≡ false → Becomes (finalAt t acts labels greyLabels flips perms greys cols) cols mid
+      (greyLabels greys : List ℕ) → isCmr (t .mode) ≡ false → Becomes (finalAt t acts labels greyLabels choices greys cols) cols mid
   plain-final greyLabels greys e = record { long = b .long; at = λ i l. rw e (b .at i l) }
 
   pub grey-final :
       (greyLabels greys : List ℕ) {reached new : List ℕ} → isCmr (t .mode) ≡ true
       → Flags (length cols) (reachedAt (t .form) (t .mode) (t .seed) acts greyLabels) reached
       → Becomes (greyedAt (t .form) reached greyLabels greys mid) mid new
-      → Becomes (finalAt t acts labels greyLabels flips perms greys cols) cols new
+      → Becomes (finalAt t acts labels greyLabels choices greys cols) cols new
   grey-final greyLabels greys {reached} {new} e marks w = record { long = w .long ∙ b .long; at = at }
     where
-      at : (i : ℕ) → i < length cols → getD new i 0 ≡ finalAt t acts labels greyLabels flips perms greys cols i
+      at : (i : ℕ) → i < length cols → getD new i 0 ≡ finalAt t acts labels greyLabels choices greys cols i
       at i l =
           w .at i (rw (b .long) l)
           ∙ (ap (λ (r : Bool). cond r (greyed (greyAt (t .form) greys (labelOf greyLabels i)) (getD mid i 0)) (getD mid i 0)) (flag-at _ _ reached marks i l)

@@ -105,13 +105,13 @@ module _
     m = t .group .len
 
     abbrev to : ℕ → ℕ → ℕ → ℕ
-    to i y x = choiceColumn (t .mode) (t .form) m y (p .flips) (p .perms) (labelOf l i) x
+    to i y x = choiceColumn (t .mode) (t .form) m y (p .choices) (labelOf l i) x
 
     abbrev y : ℕ
     y = gaugeOf (t .mode) m (getD cols (t .reference) 0)
 
     abbrev chosen : ℕ → ℕ
-    chosen i = chosenAt t flags l (p .flips) (p .perms) cols i
+    chosen i = chosenAt t flags l (p .choices) cols i
 
     chosen-at : (i : ℕ) → i < t .n → chosen i ≡ columnOf m (after c p xs l i)
     chosen-at i hi =
@@ -124,7 +124,7 @@ module _
     abbrev greyNumber : ℕ → ℕ
     greyNumber i = greyAt (t .form) (p .greys) (labelOf g i)
 
-    final-at : (i : ℕ) → i < t .n → finalAt t flags l g (p .flips) (p .perms) (p .greys) cols i ≡ columnOf m (final c p xs l g i)
+    final-at : (i : ℕ) → i < t .n → finalAt t flags l g (p .choices) (p .greys) cols i ≡ columnOf m (final c p xs l g i)
     unfolding final
     final-at i hi =
         ap
@@ -144,5 +144,5 @@ module _
 
     pub final-columns :
         {new : List ℕ}
-        → Becomes (finalAt t flags l g (p .flips) (p .perms) (p .greys) cols) cols new → Columns (t .n) m (final c p xs l g) new
+        → Becomes (finalAt t flags l g (p .choices) (p .greys) cols) cols new → Columns (t .n) m (final c p xs l g) new
     final-columns b = record { long = b .long ∙ columns .long; at = λ i hi. b .at i (rw (columns .long) hi) ∙ final-at i hi }

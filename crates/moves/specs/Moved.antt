@@ -27,13 +27,13 @@ use Rattle.choose.specs.Chosen.{permutedBy}
 use Rattle.moves.specs.Ready.{TestedFor}
 
 -- what the choice of the component with the label r makes of a column of m members; g is the gauge
-abbrev pub choiceColumn : Mode → Form → ℕ → ℕ → List ℕ → List ℕ → ℕ → ℕ → ℕ
-choiceColumn Houd form m g flips perms r x = cond (flipBy form flips r) (columnOf m (flipped Houd m (shown x))) x
-choiceColumn Pair form m g flips perms r x = cond (flipBy form flips r) (columnOf m (flipped Pair m (shown x))) x
-choiceColumn Perm form m g flips perms r x = permutedBy m g (permAt form m perms r) x
-choiceColumn Gperm form m g flips perms r x = permutedBy m g (permAt form m perms r) x
-choiceColumn Jorg form m g flips perms r x = cond (flipBy form flips r) (columnOf m (flipped Jorg m (shown x))) x
-choiceColumn Cmr form m g flips perms r x = cond (flipBy form flips r) (columnOf m (flipped Cmr m (shown x))) x
+abbrev pub choiceColumn : Mode → Form → ℕ → ℕ → List ℕ → ℕ → ℕ → ℕ
+choiceColumn Houd form m g choices r x = cond (flipBy form choices r) (columnOf m (flipped Houd m (shown x))) x
+choiceColumn Pair form m g choices r x = cond (flipBy form choices r) (columnOf m (flipped Pair m (shown x))) x
+choiceColumn Perm form m g choices r x = permutedBy m g (permAt form m choices r) x
+choiceColumn Gperm form m g choices r x = permutedBy m g (permAt form m choices r) x
+choiceColumn Jorg form m g choices r x = cond (flipBy form choices r) (columnOf m (flipped Jorg m (shown x))) x
+choiceColumn Cmr form m g choices r x = cond (flipBy form choices r) (columnOf m (flipped Cmr m (shown x))) x
 
 module _ (m : ℕ) (f : Pattern) (spin-f : (k : ℕ) → k < m → Spin (f k)) where
   shows : (k : ℕ) → k < m → shown (columnOf m f) k ≡ f k
@@ -92,16 +92,16 @@ acted :
     (m : Mode) (c : Call) (p : Choices) (r : ℕ) (P f : Pattern)
     → (isGperm m ≡ true → (k : ℕ) → k < size c → Spin (P k))
     → ((k : ℕ) → k < size c → Spin (f k))
-    → (isPerm m ≡ true → Permutes (size c) (permAt (c .form) (size c) (p .perms) r))
-    → choiceColumn m (c .form) (size c) (gaugeOf m (size c) (columnOf (size c) P)) (p .flips) (p .perms) r (columnOf (size c) f)
+    → (isPerm m ≡ true → Permutes (size c) (permAt (c .form) (size c) (p .choices) r))
+    → choiceColumn m (c .form) (size c) (gaugeOf m (size c) (columnOf (size c) P)) (p .choices) r (columnOf (size c) f)
     ≡ columnOf (size c) (actBy m c p P r f)
-acted Houd c p r P f sp sf q = houd-column (size c) f sf (flipBy (c .form) (p .flips) r)
-acted Pair c p r P f sp sf q = pair-column (size c) f sf (flipBy (c .form) (p .flips) r)
-acted Jorg c p r P f sp sf q = pair-column (size c) f sf (flipBy (c .form) (p .flips) r)
-acted Cmr c p r P f sp sf q = blue-column (size c) f sf (flipBy (c .form) (p .flips) r)
-acted Perm c p r P f sp sf q = perm-column (size c) f sf Perm P (permAt (c .form) (size c) (p .perms) r) sp (q refl)
+acted Houd c p r P f sp sf q = houd-column (size c) f sf (flipBy (c .form) (p .choices) r)
+acted Pair c p r P f sp sf q = pair-column (size c) f sf (flipBy (c .form) (p .choices) r)
+acted Jorg c p r P f sp sf q = pair-column (size c) f sf (flipBy (c .form) (p .choices) r)
+acted Cmr c p r P f sp sf q = blue-column (size c) f sf (flipBy (c .form) (p .choices) r)
+acted Perm c p r P f sp sf q = perm-column (size c) f sf Perm P (permAt (c .form) (size c) (p .choices) r) sp (q refl)
 acted Gperm c p r P f sp sf q =
-    perm-column (size c) f sf Gperm P (permAt (c .form) (size c) (p .perms) r) sp (q refl)
+    perm-column (size c) f sf Gperm P (permAt (c .form) (size c) (p .choices) r) sp (q refl)
     ∙ column-ext (size c) _ _ (λ k h. let z = q refl .within k h in regroup (P k) _ _ (sp refl k h) (sp refl _ z) (sf _ z))
 
 swapped-spin : (m : ℕ) (t : Bool) (f : Pattern) → ((k : ℕ) → k < m → Spin (f k)) → (k : ℕ) → k < m → Spin (f (cond t (partner m k) k))
@@ -113,18 +113,18 @@ acted-spin :
     (m : Mode) (c : Call) (p : Choices) (r : ℕ) (P f : Pattern)
     → (isGperm m ≡ true → (k : ℕ) → k < size c → Spin (P k))
     → ((k : ℕ) → k < size c → Spin (f k))
-    → (isPerm m ≡ true → Permutes (size c) (permAt (c .form) (size c) (p .perms) r))
+    → (isPerm m ≡ true → Permutes (size c) (permAt (c .form) (size c) (p .choices) r))
     → (k : ℕ) → k < size c → Spin (actBy m c p P r f k)
-acted-spin Houd c p r P f sp sf q k h = flip-spin (flipBy (c .form) (p .flips) r && ltb k (2 * (size c / 2))) (f k) (sf k h)
-acted-spin Pair c p r P f sp sf q k h = swapped-spin (size c) (flipBy (c .form) (p .flips) r) f sf k h
-acted-spin Jorg c p r P f sp sf q k h = swapped-spin (size c) (flipBy (c .form) (p .flips) r) f sf k h
+acted-spin Houd c p r P f sp sf q k h = flip-spin (flipBy (c .form) (p .choices) r && ltb k (2 * (size c / 2))) (f k) (sf k h)
+acted-spin Pair c p r P f sp sf q k h = swapped-spin (size c) (flipBy (c .form) (p .choices) r) f sf k h
+acted-spin Jorg c p r P f sp sf q k h = swapped-spin (size c) (flipBy (c .form) (p .choices) r) f sf k h
 acted-spin Perm c p r P f sp sf q k h = sf _ (q refl .within k h)
 acted-spin Gperm c p r P f sp sf q k h = times-spin _ _ (times-spin _ _ (sp refl k h) (sp refl _ (q refl .within k h))) (sf _ (q refl .within k h))
-acted-spin Cmr c p r P f sp sf q k h = flip-spin (flipBy (c .form) (p .flips) r) (f k) (sf k h)
+acted-spin Cmr c p r P f sp sf q k h = flip-spin (flipBy (c .form) (p .choices) r) (f k) (sf k h)
 
 -- the permutation of every label that a move can read
 abbrev pub Rows : Call → Choices → List ℕ → Type 0
-Rows c p l = isPerm (c .mode) ≡ true → (i : ℕ) → i < c .lattice .n → Permutes (size c) (permAt (c .form) (size c) (p .perms) (labelOf l i))
+Rows c p l = isPerm (c .mode) ≡ true → (i : ℕ) → i < c .lattice .n → Permutes (size c) (permAt (c .form) (size c) (p .choices) (labelOf l i))
 
 module _
     (c : Call) (p : Choices) (xs : List ℤ) (l : List ℕ) (r : TestedFor c xs) (reference : isGperm (c .mode) ≡ true → c .reference < c .lattice .n)
@@ -139,7 +139,7 @@ module _
 
     rows-at :
         (i : ℕ) → i < c .lattice .n → reached c xs l i ≡ true → isPerm (c .mode) ≡ true
-        → Permutes (size c) (permAt (c .form) (size c) (p .perms) (labelOf l i))
+        → Permutes (size c) (permAt (c .form) (size c) (p .choices) (labelOf l i))
     unfolding reached
     rows-at i h e q = rows (form-moves (c .form) c l i (and-right (acts c xs i) _ e)) q i h
 
@@ -147,7 +147,7 @@ module _
     pub chosen-column :
         (i : ℕ) → i < c .lattice .n
         → cond (reached c xs l i)
-        (choiceColumn (c .mode) (c .form) (size c) (gaugeOf (c .mode) (size c) (columnOf (size c) P)) (p .flips) (p .perms) (labelOf l i)
+        (choiceColumn (c .mode) (c .form) (size c) (gaugeOf (c .mode) (size c) (columnOf (size c) P)) (p .choices) (labelOf l i)
         (columnOf (size c) (pattern c xs i)))
         (columnOf (size c) (pattern c xs i))
         ≡ columnOf (size c) (after c p xs l i)
@@ -156,7 +156,7 @@ module _
         go :
             (t : Bool) → reached c xs l i ≡ t
             → cond t
-            (choiceColumn (c .mode) (c .form) (size c) (gaugeOf (c .mode) (size c) (columnOf (size c) P)) (p .flips) (p .perms) (labelOf l i)
+            (choiceColumn (c .mode) (c .form) (size c) (gaugeOf (c .mode) (size c) (columnOf (size c) P)) (p .choices) (labelOf l i)
             (columnOf (size c) (pattern c xs i)))
             (columnOf (size c) (pattern c xs i))
             ≡ columnOf (size c) (λ k. cond t (actBy (c .mode) c p P (labelOf l i) (pattern c xs i) k) (pattern c xs i k))

@@ -66,6 +66,6 @@ module _ (c : Call) (p : Choices) (b : Buffers) (s : Sound c p b) where
     fwd-long = s .exact .fwd;
     ahead-lt = λ i e hi he. s .inverse .there i e hi he .inside;
     inside = row-inside;
-    spins = λ i k hi hk. s .spins (system c k * c .lattice .n + i) (omega (arith, row-inside k hk));
+    spins = λ i k hi hk. s .spins (system c k) i (s .grouped .below k hk) hi;
     distinct = s .grouped .distinct;
   }

@@ -80,7 +80,7 @@ pub record LabelLeaves (c : Call) (xs : List ℤ) (cols flags grey tally labels 
   pub largest : Largest labels sizes
 
 -- ---- choose: the new columns. Of the labels it needs a key for each site, below n, and how many sites have it
-pub record Choosable (t : Task) (flags labels tally flips perms reached cols : List ℕ) : Type 0 where
+pub record Choosable (t : Task) (flags labels tally choices reached cols : List ℕ) : Type 0 where
   pub few : length cols ≤ 4096
   pub flags-long : length flags ≡ length cols
   pub labels-long : length labels ≡ length cols
@@ -92,9 +92,9 @@ pub record Choosable (t : Task) (flags labels tally flips perms reached cols : L
   pub moving : moves (t .form) ≡ true
   pub size-low : 1 ≤ t .group .len
   pub size-high : t .group .len ≤ 8
-  pub flips-long : flipsBy (t .mode) (t .form) ≡ true → length flips ≡ length cols
-  pub perms-long : isPerm (t .mode) ≡ true → length perms ≡ entries (t .form) (length cols) * t .group .len
-  pub places : isPerm (t .mode) ≡ true → (x : ℕ) → x < length perms → getD perms x 0 < t .group .len
+  pub flips-long : flipsBy (t .mode) (t .form) ≡ true → length choices ≡ length cols
+  pub perms-long : isPerm (t .mode) ≡ true → length choices ≡ entries (t .form) (length cols) * t .group .len
+  pub places : isPerm (t .mode) ≡ true → (x : ℕ) → x < length choices → getD choices x 0 < t .group .len
   pub narrow : (i : ℕ) → i < length cols → getD cols i 0 < 2 ^ t .group .len
 
 -- what CMR's grey half is lent
@@ -108,28 +108,28 @@ pub record Greyable (t : Task) (fwd greys grey greyLabels : List ℕ) : Type 0 w
   pub labels-long : length greyLabels ≡ t .n
   pub two : t .group .len ≡ 2
 
-pub record ChooseAsks (t : Task) (fwd flips perms greys flags grey labels tally reached cols greyLabels : List ℕ) : Type 0 where
-  pub choosable : Choosable t flags labels tally flips perms reached cols
+pub record ChooseAsks (t : Task) (fwd choices greys flags grey labels tally reached cols greyLabels : List ℕ) : Type 0 where
+  pub choosable : Choosable t flags labels tally choices reached cols
   pub cols-long : length cols ≡ t .n
   pub greyable : isCmr (t .mode) ≡ true → Greyable t fwd greys grey greyLabels
 
 -- the new column of the site i from the choice of its component
-abbrev pub chosenAt : Task → List ℕ → List ℕ → List ℕ → List ℕ → List ℕ → ℕ → ℕ
-chosenAt t flags labels flips perms cols i =
+abbrev pub chosenAt : Task → List ℕ → List ℕ → List ℕ → List ℕ → ℕ → ℕ
+chosenAt t flags labels choices cols i =
     cond (reachedAt (t .form) (t .mode) (t .seed) flags labels i)
-    (choiceColumn (t .mode) (t .form) (t .group .len) (gaugeOf (t .mode) (t .group .len) (getD cols (t .reference) 0)) flips perms (labelOf labels i)
+    (choiceColumn (t .mode) (t .form) (t .group .len) (gaugeOf (t .mode) (t .group .len) (getD cols (t .reference) 0)) choices (labelOf labels i)
     (getD cols i 0))
     (getD cols i 0)
 
 -- and in CMR then from the grey number of its grey component
-abbrev pub finalAt : Task → List ℕ → List ℕ → List ℕ → List ℕ → List ℕ → List ℕ → List ℕ → ℕ → ℕ
-finalAt t flags labels greyLabels flips perms greys cols i =
+abbrev pub finalAt : Task → List ℕ → List ℕ → List ℕ → List ℕ → List ℕ → List ℕ → ℕ → ℕ
+finalAt t flags labels greyLabels choices greys cols i =
     cond (isCmr (t .mode) && reachedAt (t .form) (t .mode) (t .seed) flags greyLabels i)
-    (greyed (greyAt (t .form) greys (labelOf greyLabels i)) (chosenAt t flags labels flips perms cols i))
-    (chosenAt t flags labels flips perms cols i)
+    (greyed (greyAt (t .form) greys (labelOf greyLabels i)) (chosenAt t flags labels choices cols i))
+    (chosenAt t flags labels choices cols i)
 
-pub record ChooseLeaves (t : Task) (fwd flips perms greys flags grey labels cols lent new greyLabels : List ℕ) : Type 0 where
-  pub columns : Becomes (finalAt t flags labels greyLabels flips perms greys cols) cols new
+pub record ChooseLeaves (t : Task) (fwd choices greys flags grey labels cols lent new greyLabels : List ℕ) : Type 0 where
+  pub columns : Becomes (finalAt t flags labels greyLabels choices greys cols) cols new
   pub grey-labels : isCmr (t .mode) ≡ true → Labels (graphOf (t .n) (t .d) fwd) (marked (t .d) grey) greyLabels
   pub grey-kept : isCmr (t .mode) ≡ false → greyLabels ≡ lent
 

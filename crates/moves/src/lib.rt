@@ -98,14 +98,13 @@ fn choose_columns(
     acts: &[u8],
     labels: &[u32],
     tally: &[u32],
-    flips: &[u8],
-    perms: &[u8],
+    choices: &[u8],
     reached: &mut [u8],
     cols: &mut [u8],
 )
-    requires { ⌜ Choosable t (now acts) (now labels) (now tally) (now flips) (now perms) (now reached) (now cols) ⌝ }
+    requires { ⌜ Choosable t (now acts) (now labels) (now tally) (now choices) (now reached) (now cols) ⌝ }
     ensures { λ _. ⌜ Becomes
-        (chosenAt t (now (acts .entry)) (now (labels .entry)) (now (flips .entry)) (now (perms .entry)) (now (cols .entry)))
+        (chosenAt t (now (acts .entry)) (now (labels .entry)) (now (choices .entry)) (now (cols .entry)))
         (now (cols .entry)) (now (cols .exit)) ⌝ }
 {
     let mode = t.mode;
@@ -114,13 +113,13 @@ fn choose_columns(
     choose::reach(mode, form, t.seed, acts, labels, tally, reached);
     if mode.is_perm() {
         let gauge = columns::gauge(mode, group, t.reference, cols);
-        choose::permute_columns(form, group, gauge, reached, labels, perms, cols);
+        choose::permute_columns(form, group, gauge, reached, labels, choices, cols);
     } else {
         choose::flip_columns(
             form,
             reached,
             labels,
-            flips,
+            choices,
             rules::flip_table(mode, group),
             cols,
         );
@@ -131,8 +130,7 @@ fn choose_columns(
 fn choose_task(
     t: Task,
     fwd: &[u32],
-    flips: &[u8],
-    perms: &[u8],
+    choices: &[u8],
     greys: &[u8],
     acts: &[u8],
     grey: &[u8],
@@ -142,15 +140,15 @@ fn choose_task(
     cols: &mut [u8],
     grey_labels: &mut [u32],
 )
-    requires { ⌜ ChooseAsks t (now fwd) (now flips) (now perms) (now greys) (now acts) (now grey) (now labels) (now tally) (now reached) (now cols)
+    requires { ⌜ ChooseAsks t (now fwd) (now choices) (now greys) (now acts) (now grey) (now labels) (now tally) (now reached) (now cols)
         (now «grey_labels») ⌝ }
-    ensures { λ _. ⌜ ChooseLeaves t (now (fwd .entry)) (now (flips .entry)) (now (perms .entry)) (now (greys .entry))
+    ensures { λ _. ⌜ ChooseLeaves t (now (fwd .entry)) (now (choices .entry)) (now (greys .entry))
         (now (acts .entry)) (now (grey .entry)) (now (labels .entry)) (now (cols .entry)) (now («grey_labels» .entry))
         (now (cols .exit)) (now («grey_labels» .exit)) ⌝ }
 {
     let mode = t.mode;
     let form = t.form;
-    choose_columns(t, acts, labels, tally, flips, perms, reached, cols);
+    choose_columns(t, acts, labels, tally, choices, reached, cols);
     if mode.is_cmr() {
         label::label(t.n, t.d, fwd, grey, grey_labels, tally);
         choose::reach(mode, form, t.seed, acts, grey_labels, tally, reached);
@@ -175,8 +173,7 @@ pub fn run_task(
     bwd: &[u32],
     couplings: &[i32],
     cuts: &[f32],
-    flips: &[u8],
-    perms: &[u8],
+    choices: &[u8],
     greys: &[u8],
     labels: &mut [u32],
     grey_labels: &mut [u32],
@@ -185,11 +182,11 @@ pub fn run_task(
 ) -> Answer
     requires { ⌜ Valid
         (callOf t (now fwd) (now bwd) (now couplings) (now cuts))
-        (choicesOf (now flips) (now perms) (now greys))
+        (choicesOf (now choices) (now greys))
         (buffersOf (now spins) (now labels) (now «grey_labels») (now counts) (now sizes)) ⌝ }
     ensures { λ r. ⌜ Answers
         (callOf t (now (fwd .entry)) (now (bwd .entry)) (now (couplings .entry)) (now (cuts .entry)))
-        (choicesOf (now (flips .entry)) (now (perms .entry)) (now (greys .entry)))
+        (choicesOf (now (choices .entry)) (now (greys .entry)))
         (buffersOf (now (spins .entry)) (now (labels .entry)) (now («grey_labels» .entry)) (now (counts .entry)) (now (sizes .entry)))
         r
         (buffersOf (now (spins .exit)) (now (labels .exit)) (now («grey_labels» .exit)) (now (counts .exit)) (now (sizes .exit))) ⌝ }
@@ -230,8 +227,7 @@ pub fn run_task(
         choose_task(
             t,
             fwd,
-            flips,
-            perms,
+            choices,
             greys,
             acts,
             grey,

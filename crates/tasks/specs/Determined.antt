@@ -6,7 +6,7 @@ use mathlib.Core.List.{List}
 use lib.ListN.{getD}
 use lib.Ieee.{Float, nan}
 use Rattle.paper.specs.declared.Group.{Group}
-use Rattle.paper.specs.Panel.Takes.{entries}
+use Rattle.paper.specs.Panel.Takes.{entries, choiceBytes}
 use Rattle.paper.specs.Answer.Task.{part}
 use Rattle.paper.specs.Law.TypesDetermined.{one-value}
 use Rattle.paper.specs.declared.Plan.{Plan}
@@ -22,13 +22,10 @@ bounds-determined len k m x y p q =
     ap (λ (a : ℕ). span a (x .end)) (one-value (p .starts) (q .starts)) ∙ ap (λ (e : ℕ). span (y .start) e) (one-value (p .ends) (q .ends))
 
 -- two slices that are the same part have the same elements
-pub task-flips-determined : (q : Plan) (flips : List ℕ) (k : ℕ) (x y : List ℕ) → x ≡ part k (q .n) flips → y ≡ part k (q .n) flips → x ≡ y
-task-flips-determined q flips k x y = one-value
-
-pub task-perms-determined :
-    (q : Plan) (perms : List ℕ) (k : ℕ) (x y : List ℕ) → x ≡ part k (entries (q .form) (q .n) * q .members) perms
-    → y ≡ part k (entries (q .form) (q .n) * q .members) perms → x ≡ y
-task-perms-determined q perms k x y = one-value
+pub task-choices-determined :
+    (q : Plan) (choices : List ℕ) (k : ℕ) (x y : List ℕ) → x ≡ part k (choiceBytes (q .mode) (q .form) (q .n) (q .members)) choices
+    → y ≡ part k (choiceBytes (q .mode) (q .form) (q .n) (q .members)) choices → x ≡ y
+task-choices-determined q choices k x y = one-value
 
 pub task-greys-determined :
     (q : Plan) (greys : List ℕ) (k : ℕ) (x y : List ℕ) → x ≡ part k (entries (q .form) (q .n)) greys → y ≡ part k (entries (q .form) (q .n)) greys

@@ -1,7 +1,7 @@
 -- A sweep's numbers, and one task's share of its inputs.
 use Prim.Native.Nat.{ℕ, zero, suc, min, _+_, _*_, _/_, _%_, _≤_, _<_}
 use mathlib.Core.Path.{_≡_}
-use mathlib.Core.Bool.{Bool}
+use mathlib.Core.Bool.{Bool, true, false, cond}
 use mathlib.Core.List.{List, []}
 use native.Mathlib.Omega.{arith}
 use native.Mathlib.Nat.{mul-le-mul, mul-le-mul-left, mul-le-mul-right, suc-mul, div-add-mod', mod-lt, div-le-self, div-lt-iff-lt-mul, le-div-iff-mul-le}
@@ -12,7 +12,7 @@ use Rattle.paper.specs.declared.Plan.{Plan}
 use Rattle.paper.specs.declared.Task.{Task}
 use Rattle.paper.specs.declared.Form.{Form}
 use Rattle.paper.specs.declared.Form.the-variants.{Sw, Wolff, Observe}
-use Rattle.paper.specs.Panel.Takes.{entries}
+use Rattle.paper.specs.Panel.Takes.{isPerm, entries, choiceBytes}
 use Rattle.paper.specs.Refusal.Rules.{Ranged}
 use Rattle.paper.specs.Answer.Task.{Sweep, tasks, masked, groupOf}
 use Rattle.paper.specs.Answer.Made.{sweepOf}
@@ -28,7 +28,7 @@ pub record Bounding (len k m start end : ℕ) : Type 0 where
 
 -- where only the order or the masks are looked at
 abbrev pub ordered : Plan → List ℕ → List ℕ → Sweep
-ordered q order masks = sweepOf q [] [] [] order masks [] [] [] [] [] [] []
+ordered q order masks = sweepOf q [] [] [] order masks [] [] [] [] [] []
 
 abbrev pub groupAt : Plan → List ℕ → ℕ → Group
 groupAt q order k = groupOf (ordered q order []) k
@@ -123,5 +123,9 @@ module _ (q : Plan) (h : Planned q) where
   pub few-bonds : q .n * q .d ≤ 32768
   few-bonds = omega (arith, mul-le-mul (h .ranged .lattice .n-high) (h .ranged .lattice .d-high))
 
-  pub few-places : entries (q .form) (q .n) * q .members ≤ 32768
-  few-places = mul-le-mul few-rows (h .ranged .size-high)
+  pub few-choices : choiceBytes (q .mode) (q .form) (q .n) (q .members) ≤ 32768
+  few-choices = mul-le-mul few-rows (width (isPerm (q .mode)))
+    where
+      width : (p : Bool) → cond p (q .members) 1 ≤ 8
+      width true = h .ranged .size-high
+      width false = omega arith

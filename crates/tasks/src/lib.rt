@@ -8,7 +8,7 @@ ghost use mathlib.Core.Path.{_≡_};
 ghost use Prim.Native.Nat.{min, _+_, _*_, _/_};
 ghost use lib.ListN.{getD};
 ghost use lib.Ieee.{nan};
-ghost use Rattle.paper.specs.Panel.Takes.{entries};
+ghost use Rattle.paper.specs.Panel.Takes.{entries, choiceBytes};
 ghost use Rattle.paper.specs.Answer.Task.{part};
 ghost use Rattle.tasks.specs.Plan.{Few, Planned, TaskOf, Placing, Bounding, tasksOf, groupAt, maskedAt, taskAt};
 
@@ -169,21 +169,15 @@ pub fn task_cuts(plan: Plan, cuts: &[f32], k: usize) -> &[f32]
     part_f32(cuts, k, n * d)
 }
 
-pub fn task_flips(plan: Plan, flips: &[u8], k: usize) -> &[u8]
+pub fn task_choices(plan: Plan, choices: &[u8], k: usize) -> &[u8]
     requires { ⌜ TaskOf plan k ⌝ }
-    ensures { λ r. ⌜ now r ≡ part k (plan .n) (now (flips .entry)) ⌝ }
+    ensures { λ r. ⌜ now r ≡ part k (choiceBytes (plan .mode) (plan .form) (plan .n) (plan .members)) (now (choices .entry)) ⌝ }
 {
-    part_u8(flips, k, plan.n)
-}
-
-pub fn task_perms(plan: Plan, perms: &[u8], k: usize) -> &[u8]
-    requires { ⌜ TaskOf plan k ⌝ }
-    ensures { λ r. ⌜ now r ≡ part k (entries (plan .form) (plan .n) * plan .members) (now (perms .entry)) ⌝ }
-{
+    let mode = plan.mode;
     let form = plan.form;
     let rows = form.entries(plan.n);
-    let members = plan.members;
-    part_u8(perms, k, rows * members)
+    let width = mode.choice_width(plan.members);
+    part_u8(choices, k, rows * width)
 }
 
 pub fn task_greys(plan: Plan, greys: &[u8], k: usize) -> &[u8]

@@ -12,7 +12,7 @@ use Rattle.paper.specs.declared.Form.the-variants.{Sw, Wolff, Observe}
 use Rattle.paper.specs.Panel.Takes.{isGperm, isWolff, flipsBy, permsBy, greysBy, entries}
 use Rattle.paper.specs.Component.Marks.{Tells}
 use Rattle.paper.specs.Refusal.Rules.{When, NotIdentity, Chosen}
-use Rattle.paper.specs.Law.ByTest.{never, and-left, and-right}
+use Rattle.paper.specs.Law.ByTest.{never, and-left, and-right, flips-taken, perms-taken, flips-bytes, perms-bytes}
 use Rattle.lattice.specs.Telling.{Test, same, both}
 use Rattle.paper.specs.Panel.Made.{choicesOf}
 use Rattle.tests.specs.Choices.{EveryCut, Long, AtMost, PermRows, RowMoves}
@@ -46,7 +46,7 @@ module _ (xs : List ℕ) (m : ℕ) (taken : Bool) (long : When taken (length xs 
   pub row-test : {b : Bool} → Test b (When taken (RowMoves xs)) → Test b (When taken (NotIdentity m (λ k. getD xs (0 * m + k) 0)))
   row-test = same (When taken (NotIdentity m (λ k. getD xs (0 * m + k) 0))) first-row whole-row
 
-module _ (t : Task) (flips perms greys : List ℕ) (h : Long t flips perms greys) where
+module _ (t : Task) (choices greys : List ℕ) (h : Long t choices greys) where
   abbrev byFlips : Bool
   byFlips = flipsBy (t .mode) (t .form)
 
@@ -62,21 +62,27 @@ module _ (t : Task) (flips perms greys : List ℕ) (h : Long t flips perms greys
       let o = entries-one (t .form) (t .n) (and-right byGreys (isWolff (t .form)) e) in
       omega arith
 
-  one-row : When (byPerms && isWolff (t .form)) (length perms ≡ t .group .len)
+  flips-long : When byFlips (length choices ≡ t .n)
+  flips-long e = h .choices-long (flips-taken (t .mode) (t .form) e) ∙ flips-bytes (t .mode) (t .form) (t .n) (t .group .len) e
+
+  pub perms-long : When byPerms (length choices ≡ entries (t .form) (t .n) * t .group .len)
+  perms-long e = h .choices-long (perms-taken (t .mode) (t .form) e) ∙ perms-bytes (t .mode) (t .form) (t .n) (t .group .len) e
+
+  one-row : When (byPerms && isWolff (t .form)) (length choices ≡ t .group .len)
   one-row e =
       let o = entries-one (t .form) (t .n) (and-right byPerms (isWolff (t .form)) e) in
-      h .perms-long (and-left byPerms (isWolff (t .form)) e) ∙ (ap (λ (x : ℕ). x * t .group .len) o ∙ one-mul (t .group .len))
+      perms-long (and-left byPerms (isWolff (t .form)) e) ∙ (ap (λ (x : ℕ). x * t .group .len) o ∙ one-mul (t .group .len))
 
   pub chosen-told : {a b e f i j : Bool}
-      → Test a (When byPerms (PermRows (entries (t .form) (t .n)) (t .group .len) perms))
-      → Test b (When (byPerms && isWolff (t .form)) (RowMoves perms))
-      → Test e (When byFlips (AtMost flips 1))
+      → Test a (When byPerms (PermRows (entries (t .form) (t .n)) (t .group .len) choices))
+      → Test b (When (byPerms && isWolff (t .form)) (RowMoves choices))
+      → Test e (When byFlips (AtMost choices 1))
       → Test f (When byGreys (AtMost greys 3))
       → Test i (When (byGreys && isWolff (t .form)) (1 ≤ getD greys 0 0))
       → Test j (When (isGperm (t .mode)) (t .reference < t .n))
-      → EveryCut t (λ c. Tells (((((a && b) && e) && f) && i) && j) (Chosen c (choicesOf flips perms greys)))
-  chosen-told ta tb te tf ti tj cuts fwd bwd couplings =
-      same (Chosen _ (choicesOf flips perms greys))
+      → EveryCut t (λ c. Tells (((((a && b) && e) && f) && i) && j) (Chosen c (choicesOf choices greys)))
+  chosen-told ta tb te tf ti tj cuts d s temperature fwd bwd couplings =
+      same (Chosen _ (choicesOf choices greys))
       (λ w. let v = w .0 .0 .0 in record {
         perms = v .0 .0;
         not-identity = v .0 .1;
@@ -86,7 +92,7 @@ module _ (t : Task) (flips perms greys : List ℕ) (h : Long t flips perms greys
         reference = w .1;
       })
       (λ z. (((((z .perms, z .not-identity), z .flips), z .greys), z .grey-some), z .reference))
-      (both (both (both (both (both ta (row-test perms (t .group .len) (byPerms && isWolff (t .form)) one-row tb))
-      (entries-test flips (t .n) 1 byFlips (h .flips-long) te))
+      (both (both (both (both (both ta (row-test choices (t .group .len) (byPerms && isWolff (t .form)) one-row tb))
+      (entries-test choices (t .n) 1 byFlips flips-long te))
       (entries-test greys (entries (t .form) (t .n)) 3 byGreys (h .greys-long) tf)) ti) tj)
       .says

@@ -12,21 +12,20 @@ use Rattle.paper.specs.declared.Group.{Group}
 use Rattle.paper.specs.declared.Task.{Task}
 use Rattle.paper.specs.Panel.Input.{Call, member}
 use Rattle.paper.specs.Panel.Made.{callOf}
-use Rattle.paper.specs.Panel.Takes.{flipsBy, permsBy, greysBy, entries}
-use Rattle.paper.specs.Refusal.Rules.{When, Spins, Permutes, NotIdentity}
+use Rattle.paper.specs.Panel.Takes.{choicesBy, greysBy, entries, choiceBytes}
+use Rattle.paper.specs.Refusal.Rules.{When, AllSystems, Spins, Permutes, NotIdentity}
 use Rattle.columns.specs.Column.{Inside, Spinning}
 use Rattle.rules.specs.Sight.{Sighted}
 
 -- what tests 1 to 5 established and these lean on: ranges, the group's rows of spins, the lengths of the choices that are taken
-pub record Tested (t : Task) (xs : List ℤ) (flips perms greys : List ℕ) : Type 0 where
+pub record Tested (t : Task) (xs : List ℤ) (choices greys : List ℕ) : Type 0 where
   pub n-low : 1 ≤ t .n
   pub n-high : t .n ≤ 4096
   pub size-low : 2 ≤ t .group .len
   pub size-high : t .group .len ≤ 8
   pub inside : Inside (t .n) (t .group) xs
   pub spins : Spinning (t .n) (t .group) xs
-  pub flips-long : When (flipsBy (t .mode) (t .form)) (length flips ≡ t .n)
-  pub perms-long : When (permsBy (t .mode) (t .form)) (length perms ≡ entries (t .form) (t .n) * t .group .len)
+  pub choices-long : When (choicesBy (t .mode) (t .form)) (length choices ≡ choiceBytes (t .mode) (t .form) (t .n) (t .group .len))
   pub greys-long : When (greysBy (t .mode) (t .form)) (length greys ≡ entries (t .form) (t .n))
 
 -- the rows of a group's systems lie within those of all s, and hold spins
@@ -34,23 +33,37 @@ module _ (n s : ℕ) (g : Group) (xs : List ℤ) (long : length xs ≡ s * n) (b
   pub rows-inside : Inside n g xs
   rows-inside k h = let l : suc (member g k) ≤ s = below k h in omega (arith, long, mul-le-mul-right n l, suc-mul (member g k) n)
 
-  pub rows-spins : Spins xs → Spinning n g xs
-  rows-spins spins i k hi hk = spins (member g k * n + i) (omega (arith, rows-inside k hk))
+  pub rows-spins : Spins n (AllSystems s) xs → Spinning n g xs
+  rows-spins spins i k hi hk = spins (member g k) i (below k hk) hi
 
--- of every call of the task with these cuts: the tests look at no table and at no coupling
+-- the task on a panel of other directions, systems and temperature
+abbrev pub elsewhere : Task → ℕ → ℕ → Float → Task
+elsewhere t d s temperature = record {
+  mode = t .mode;
+  form = t .form;
+  n = t .n;
+  d = d;
+  s = s;
+  group = t .group;
+  temperature = temperature;
+  reference = t .reference;
+  seed = t .seed;
+}
+
+-- of every call of the task with these cuts: the tests look at no table and at no coupling, and not at the panel's other numbers
 abbrev pub EveryCall : Task → List Float → (Call → Type 0) → Type 0
-EveryCall t cuts P = (fwd bwd : List ℕ) (couplings : List ℤ) → P (callOf t fwd bwd couplings cuts)
+EveryCall t cuts P =
+    (d s : ℕ) (temperature : Float) (fwd bwd : List ℕ) (couplings : List ℤ) → P (callOf (elsewhere t d s temperature) fwd bwd couplings cuts)
 
 -- and 9 and 10 at no cut
 abbrev pub EveryCut : Task → (Call → Type 0) → Type 0
 EveryCut t P = (cuts : List Float) → EveryCall t cuts P
 
 -- ---- the choices
-pub record Long (t : Task) (flips perms greys : List ℕ) : Type 0 where
+pub record Long (t : Task) (choices greys : List ℕ) : Type 0 where
   pub n-high : t .n ≤ 4096
   pub size-high : t .group .len ≤ 8
-  pub flips-long : When (flipsBy (t .mode) (t .form)) (length flips ≡ t .n)
-  pub perms-long : When (permsBy (t .mode) (t .form)) (length perms ≡ entries (t .form) (t .n) * t .group .len)
+  pub choices-long : When (choicesBy (t .mode) (t .form)) (length choices ≡ choiceBytes (t .mode) (t .form) (t .n) (t .group .len))
   pub greys-long : When (greysBy (t .mode) (t .form)) (length greys ≡ entries (t .form) (t .n))
 
 -- what is tested of a buffer: each byte at most `top`; rows of m bytes, each a permutation; one row that is not the identity

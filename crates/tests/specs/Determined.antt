@@ -27,9 +27,10 @@ pub test-panel-determined : (t : Task) (spins : List ℤ) (fwd bwd : List ℕ) (
 test-panel-determined t spins fwd bwd couplings l = verdict-unique (panelRules t spins fwd bwd couplings l)
 
 -- at any one choice of what the tests do not look at
-pub test-choices-determined : (t : Task) (spins : List ℤ) (cuts : List Float) (flips perms greys : List ℕ) (a b : ℕ)
-    → EveryCall t cuts (λ c. Verdict (choiceRules c (choicesOf flips perms greys) spins) a)
-    → EveryCall t cuts (λ c. Verdict (choiceRules c (choicesOf flips perms greys) spins) b)
+pub test-choices-determined : (t : Task) (spins : List ℤ) (cuts : List Float) (choices greys : List ℕ) (a b : ℕ)
+    → EveryCall t cuts (λ c. Verdict (choiceRules c (choicesOf choices greys) spins) a)
+    → EveryCall t cuts (λ c. Verdict (choiceRules c (choicesOf choices greys) spins) b)
     → a ≡ b
-test-choices-determined t spins cuts flips perms greys a b p q =
-    verdict-unique (choiceRules (callOf t [] [] [] cuts) (choicesOf flips perms greys) spins) a b (p [] [] []) (q [] [] [])
+test-choices-determined t spins cuts choices greys a b p q =
+    verdict-unique (choiceRules (callOf t [] [] [] cuts) (choicesOf choices greys) spins) a b
+    (p (t .d) (t .s) (t .temperature) [] [] []) (q (t .d) (t .s) (t .temperature) [] [] [])

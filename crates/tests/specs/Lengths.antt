@@ -6,7 +6,7 @@ use native.Mathlib.Nat.{one-mul}
 use Rattle.paper.specs.declared.Mode.{Mode}
 use Rattle.paper.specs.declared.Form.{Form}
 use Rattle.paper.specs.declared.Lengths.{Lengths}
-use Rattle.paper.specs.Panel.Takes.{drawsBonds, flipsBy, permsBy, greysBy, entries}
+use Rattle.paper.specs.Panel.Takes.{drawsBonds, choicesBy, greysBy, entries, choiceBytes}
 use Rattle.paper.specs.Component.Marks.{Tells}
 use Rattle.paper.specs.Refusal.Rules.{When, Fits}
 use Rattle.lattice.specs.Telling.{Test, said}
@@ -29,8 +29,7 @@ pub record FitsEach (mode : Mode) (form : Form) (n d s m count : ℕ) (l : Lengt
   pub sizes : l .sizes ≡ count * 4
   pub couplings : When (drawsBonds mode) (l .couplings ≡ n * d)
   pub cuts : When (drawsBonds mode) (l .cuts ≡ count * (n * d))
-  pub flips : When (flipsBy mode form) (l .flips ≡ count * n)
-  pub perms : When (permsBy mode form) (l .perms ≡ count * (entries form n * m))
+  pub choices : When (choicesBy mode form) (l .choices ≡ count * choiceBytes mode form n m)
   pub greys : When (greysBy mode form) (l .greys ≡ count * entries form n)
   pub grey-labels : When (greysBy mode form) (l .«grey_labels» ≡ count * n)
 
@@ -52,8 +51,7 @@ module _ (mode : Mode) (form : Form) (n d s m : ℕ) (l : Lengths) where
     bwd = f .bwd;
     couplings = f .couplings;
     cuts = λ e. rw one-mul at (f .cuts e);
-    flips = λ e. rw one-mul at (f .flips e);
-    perms = λ e. rw one-mul at (f .perms e);
+    choices = λ e. rw one-mul at (f .choices e);
     greys = λ e. rw one-mul at (f .greys e);
     labels = rw one-mul at (f .labels);
     grey-labels = λ e. rw one-mul at (f .grey-labels e);
@@ -71,8 +69,7 @@ module _ (mode : Mode) (form : Form) (n d s m : ℕ) (l : Lengths) where
     sizes = f .sizes;
     couplings = f .couplings;
     cuts = λ e. rw one-mul (f .cuts e);
-    flips = λ e. rw one-mul (f .flips e);
-    perms = λ e. rw one-mul (f .perms e);
+    choices = λ e. rw one-mul (f .choices e);
     greys = λ e. rw one-mul (f .greys e);
     grey-labels = λ e. rw one-mul (f .grey-labels e);
   }

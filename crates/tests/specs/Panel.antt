@@ -8,7 +8,7 @@ use Rattle.paper.specs.declared.Task.{Task}
 use Rattle.paper.specs.declared.Lengths.{Lengths}
 use Rattle.paper.specs.Panel.Takes.{drawsBonds}
 use Rattle.paper.specs.Refusal.Rule.{Rule, rule}
-use Rattle.paper.specs.Refusal.Rules.{When, Ranged, Fits, Spins, Inverse, Grouped, SmallCouplings, Warm}
+use Rattle.paper.specs.Refusal.Rules.{When, Ranged, Fits, AllSystems, Spins, Inverse, Grouped, SmallCouplings, Warm}
 
 -- l has the lengths of these buffers
 pub record Measures (spins : List ℤ) (fwd bwd : List ℕ) (couplings : List ℤ) (l : Lengths) : Type 0 where
@@ -21,7 +21,7 @@ abbrev pub panelRules : Task → List ℤ → List ℕ → List ℕ → List ℤ
 panelRules t spins fwd bwd couplings l =
     rule 1 (Ranged (t .n) (t .d) (t .s) (t .mode) (t .group .len))
     ∷ rule 2 (Fits (t .mode) (t .form) (t .n) (t .d) (t .s) (t .group .len) l)
-    ∷ rule 3 (Spins spins)
+    ∷ rule 3 (Spins (t .n) (AllSystems (t .s)) spins)
     ∷ rule 4 (Inverse (t .n) (t .d) fwd bwd)
     ∷ rule 5 (Grouped (t .s) (t .group))
     ∷ rule 6 (When (drawsBonds (t .mode)) (SmallCouplings couplings))

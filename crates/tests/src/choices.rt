@@ -61,9 +61,9 @@ fn grey_fit(taken: bool, greys: &[u8]) -> bool
 }
 
 // Test 9: every entry of what is taken, used or not.
-fn chosen_ok(t: Task, flips: &[u8], perms: &[u8], greys: &[u8]) -> bool
-    requires { ⌜ Long t (now flips) (now perms) (now greys) ⌝ }
-    ensures { λ r. ⌜ EveryCut t (λ c. Tells r (Chosen c (choicesOf (now (flips .entry)) (now (perms .entry)) (now (greys .entry))))) ⌝ }
+fn chosen_ok(t: Task, choices: &[u8], greys: &[u8]) -> bool
+    requires { ⌜ Long t (now choices) (now greys) ⌝ }
+    ensures { λ r. ⌜ EveryCut t (λ c. Tells r (Chosen c (choicesOf (now (choices .entry)) (now (greys .entry))))) ⌝ }
 {
     let mode = t.mode;
     let form = t.form;
@@ -73,9 +73,9 @@ fn chosen_ok(t: Task, flips: &[u8], perms: &[u8], greys: &[u8]) -> bool
     let by_flips = mode.takes_flips(form);
     let by_perms = mode.takes_perms(form);
     let by_greys = mode.takes_greys(form);
-    perms_fit(by_perms, rows, group.len, perms)
-        & moved_fit(by_perms & wolff, perms)
-        & bytes_fit(by_flips, flips, 1)
+    perms_fit(by_perms, rows, group.len, choices)
+        & moved_fit(by_perms & wolff, choices)
+        & bytes_fit(by_flips, choices, 1)
         & bytes_fit(by_greys, greys, 3)
         & grey_fit(by_greys & wolff, greys)
         & (!mode.is_gperm() | (t.reference < t.n))
@@ -108,19 +108,18 @@ pub fn test_choices(
     t: Task,
     spins: &[i8],
     cuts: &[f32],
-    flips: &[u8],
-    perms: &[u8],
+    choices: &[u8],
     greys: &[u8],
 ) -> u8
-    requires { ⌜ Tested t (now spins) (now flips) (now perms) (now greys) ⌝ }
+    requires { ⌜ Tested t (now spins) (now choices) (now greys) ⌝ }
     ensures { λ r. ⌜ EveryCall t (now (cuts .entry))
-        (λ c. Verdict (choiceRules c (choicesOf (now (flips .entry)) (now (perms .entry)) (now (greys .entry))) (now (spins .entry))) r) ⌝ }
+        (λ c. Verdict (choiceRules c (choicesOf (now (choices .entry)) (now (greys .entry))) (now (spins .entry))) r) ⌝ }
 {
     let mode = t.mode;
     if !cuts_fit(mode.is_drawn(), cuts) {
         return 8;
     }
-    if !chosen_ok(t, flips, perms, greys) {
+    if !chosen_ok(t, choices, greys) {
         return 9;
     }
     if !seed_ok(t, spins) {

@@ -27,8 +27,8 @@ pub fn lengths_ok(
     let sites = count * n;
     let rows = form.entries(n);
     let drawn = mode.is_drawn();
-    let flips = mode.takes_flips(form);
-    let perms = mode.takes_perms(form);
+    let choices = mode.takes_choices(form);
+    let width = mode.choice_width(m);
     let greys = mode.takes_greys(form);
     (l.spins == s * n)
         & (l.fwd == bonds)
@@ -38,8 +38,7 @@ pub fn lengths_ok(
         & (l.sizes == count * 4)
         & lattice::fits(drawn, l.couplings, bonds)
         & lattice::fits(drawn, l.cuts, count * bonds)
-        & lattice::fits(flips, l.flips, sites)
-        & lattice::fits(perms, l.perms, count * (rows * m))
+        & lattice::fits(choices, l.choices, count * (rows * width))
         & lattice::fits(greys, l.greys, count * rows)
         & lattice::fits(greys, l.grey_labels, sites)
 }
@@ -66,7 +65,7 @@ pub fn test_panel(
     if !lengths_ok(mode, form, t.n, t.d, t.s, m, 1, l) {
         return 2;
     }
-    if !lattice::spins_ok(spins) {
+    if !lattice::spins_ok(t.n, t.s, spins) {
         return 3;
     }
     if !lattice::tables_ok(t.n, t.d, fwd, bwd) {

@@ -11,7 +11,7 @@ use mir.Syntax.{w64}
 use mir.Val.{toZ, ofZ}
 use Rattle.paper.specs.Component.Marks.{passed, refused}
 use Rattle.paper.specs.Panel.Input.{Lattice}
-use Rattle.paper.specs.Refusal.Rules.{Sizes, Spins, Inverse}
+use Rattle.paper.specs.Refusal.Rules.{Sizes, AllSystems, Spins, Inverse}
 use Rattle.paper.specs.Answer.Meter.{MeterExact}
 use Rattle.lattice.specs.Held.{Value, reads, stored, asks, bounded, small-fits}
 use Rattle.lattice.specs.Ints.{abs-neg}
@@ -48,7 +48,7 @@ sized c = passed (c .before .sizes-ok .result) (c .if1 .left) (c .before .sizes-
 exactly : (c : tie.Else2) → MeterExact (lent (s2 c)) (s2 c .args .spins .now)
 exactly c = exact-of (lent (s2 c)) (s2 c .args .spins .now) (passed (c .before .exact .result) (c .if2 .left) (c .before .exact .ensures))
 
-spinning : (c : tie.Else3) → Spins (s3 c .args .spins .now)
+spinning : (c : tie.Else3) → let a = s3 c .args in Spins (a .n) (AllSystems (a .s)) (a .spins .now)
 spinning c = passed (c .before .spins-ok .result) (c .if3 .left) (c .before .spins-ok .ensures)
 
 inverse : (c : tie.Else4) → Inverse (s4 c .args .n) (s4 c .args .d) (s4 c .args .fwd .now) (s4 c .args .bwd .now)
@@ -83,7 +83,7 @@ returns-2 c =
     inr (sized (c .before .before), inl ((λ h. wrong (exact-lengths (lent s) (s .args .spins .now) h)), refl))
 
 spins-ok-requires : tie.Need-spins-ok-requires
-spins-ok-requires c κs = search needs
+spins-ok-requires c κs = exactly c .spins
 
 returns-3 : tie.Need-returns-3
 returns-3 c =

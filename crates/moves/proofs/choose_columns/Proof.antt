@@ -12,7 +12,7 @@ use Rattle.moves.proofs.choose_columns.Statement.{statement}
 use Rattle.moves.proofs.choose_columns.Tie as tie
 
 abbrev S : tie.After-reach → tie.Start
-S r = r .before .before .before .before .before .before .before .before .before .before
+S r = r .before .before .before .before .before .before .before .before .before
 
 abbrev R : tie.After-is-perm → tie.After-reach
 R i = i .before .before .before
@@ -28,7 +28,7 @@ flips-taken f m e q = rw (e, q) refl
 
 reach-requires : tie.Need-reach-requires
 reach-requires c κs =
-    let s = c .before .before .before .before .before .before .before .before .before in
+    let s = c .before .before .before .before .before .before .before .before in
     let p = s .pre in
     record {
       labelled = p .labels-long ∙ sym (p .flags-long);
@@ -91,7 +91,7 @@ returns c =
       long = b .long;
       at = λ i l.
           b .at i l
-          ∙ by-perms (a .t) (length (now (a .acts))) (now (a .acts)) (now (a .labels)) (now (a .flips)) (now (a .perms)) _ (now (a .cols)) (r .reach .ensures)
+          ∙ by-perms (a .t) (length (now (a .acts))) (now (a .acts)) (now (a .labels)) (now (a .choices)) _ (now (a .cols)) (r .reach .ensures)
           _ (g .gauge .ensures) (perm-yes m) i (rw (p .flags-long) l);
     }
 
@@ -114,7 +114,7 @@ returns-2 c =
       long = b .long;
       at = λ i l.
           b .at i l
-          ∙ by-flips (a .t) (length (now (a .acts))) (now (a .acts)) (now (a .labels)) (now (a .flips)) (now (a .perms)) _ (now (a .cols)) (r .reach .ensures)
+          ∙ by-flips (a .t) (length (now (a .acts))) (now (a .acts)) (now (a .labels)) (now (a .choices)) _ (now (a .cols)) (r .reach .ensures)
           _ (perm-no m) (table .flip-table .ensures) i (rw (p .flags-long) l) (p .narrow i l);
     }
 

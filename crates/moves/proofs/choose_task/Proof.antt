@@ -12,7 +12,7 @@ use Rattle.moves.proofs.choose_task.Statement.{statement}
 use Rattle.moves.proofs.choose_task.Tie as tie
 
 abbrev S : tie.After-choose-columns → tie.Start
-S k = k .before .before .before .before .before .before .before .before .before .before .before .before .before .before .before
+S k = k .before .before .before .before .before .before .before .before .before .before .before .before .before .before
 
 abbrev K : tie.After-is-cmr → tie.After-choose-columns
 K i = i .before .before .before .before .before
@@ -29,7 +29,7 @@ cmr-no m = sym (m .before .is-cmr .ensures) ∙ m .if1 .left
 
 choose-columns-requires : tie.Need-choose-columns-requires
 choose-columns-requires c κs =
-    let s = c .before .before .before .before .before .before .before .before .before .before .before .before .before .before in
+    let s = c .before .before .before .before .before .before .before .before .before .before .before .before .before in
     s .pre .choosable
 
 is-cmr-requires : tie.Need-is-cmr-requires
@@ -89,7 +89,7 @@ grey-columns-requires c κs =
       small = w .small;
       two = λ i h.
           let l = rw (mid .long) at h in
-          mid-two (a .t) (now (a .acts)) (now (a .labels)) (now (a .flips)) (now (a .perms)) mid
+          mid-two (a .t) (now (a .acts)) (now (a .labels)) (now (a .choices)) mid
           (cmr-yes m) (w .two) i l (p .choosable .narrow i l);
     }
 
@@ -115,7 +115,7 @@ returns c =
     let a = S k .args in
     record {
       columns =
-          grey-final (a .t) (now (a .acts)) (now (a .labels)) (now (a .flips)) (now (a .perms))
+          grey-final (a .t) (now (a .acts)) (now (a .labels)) (now (a .choices))
           (k .choose-columns .ensures) _ (now (a .greys)) (cmr-yes m)
           (rw (S k .pre .choosable .flags-long) at (r .reach .ensures)) (g .grey-columns .ensures);
       grey-labels = λ _. l .label .ensures .labels;
@@ -137,7 +137,7 @@ returns-2 c =
     let a = S k .args in
     record {
       columns =
-          plain-final (a .t) (now (a .acts)) (now (a .labels)) (now (a .flips)) (now (a .perms))
+          plain-final (a .t) (now (a .acts)) (now (a .labels)) (now (a .choices))
           (k .choose-columns .ensures) _ (now (a .greys)) (cmr-no c);
       grey-labels = λ e. never (sym (cmr-no c) ∙ e);
       grey-kept = λ _. refl;

@@ -15,7 +15,7 @@ use Rattle.moves.proofs.run_task.Tie as tie
 
 -- the start, and the place past the labelling
 abbrev A : tie.After-struct-known → tie.Start
-A k = k .before .before .before .before .before .before .before .before .before .before .before
+A k = k .before .before .before .before .before .before .before .before .before .before
 
 abbrev S : tie.After-label-task → tie.Start
 S o = A (o .before .before .before .before .before .before .before .before .before .before .before .before .before .before)
@@ -24,7 +24,7 @@ abbrev T : tie.After-slice-known11 → tie.After-label-task
 T k = k .before .before .before .before .before .before .before .before .before .before .before .before .before .before .before
 
 abbrev choicesAt : tie.Start → Choices
-choicesAt b = choicesOf (now (b .args .flips)) (now (b .args .perms)) (now (b .args .greys))
+choicesAt b = choicesOf (now (b .args .choices)) (now (b .args .greys))
 
 abbrev lentAt : tie.Start → Buffers
 lentAt b = let a = b .args in buffersOf (now (a .spins)) (now (a .labels)) (now (a .grey-labels)) (now (a .counts)) (now (a .sizes))

@@ -2,20 +2,13 @@
 use borrow.Author.Needs.{needs}
 use Rattle.paper.proofs.Mode.takes_choices.Statement.{statement}
 use Rattle.paper.proofs.Mode.takes_choices.Tie as tie
-use Rattle.paper.proofs.Mode.takes_choices.Reads as reads
-use Rattle.paper.proofs.Mode.takes_choices.Lts as lts
-use Rattle.paper.proofs.Mode.takes_flips.Reads as takes-flips-reads
-use Rattle.paper.proofs.Mode.takes_perms.Reads as takes-perms-reads
 
--- src/lib.rt:100:9
 takes-flips-requires : tie.Need-takes-flips-requires
 takes-flips-requires c κs = search needs
 
--- src/lib.rt:100:34
 takes-perms-requires : tie.Need-takes-perms-requires
 takes-perms-requires c κs = search needs
 
--- src/lib.rt:97:5
 returns : tie.Need-returns
 returns c = rw (c .before .takes-flips .ensures, c .takes-perms .ensures)
 

@@ -9,7 +9,7 @@ use Rattle.paper.specs.Panel.Takes.{isGperm, isWolff, flipsBy, permsBy, greysBy
 use Rattle.paper.specs.Refusal.Rules.{When}
 use Rattle.lattice.specs.Telling.{said, same, implies, test-is, test-lt}
 use Rattle.tests.specs.Choices.{AtMost, PermRows, RowMoves}
-use Rattle.tests.proofs.Chosen.{entries-few, one-grey, chosen-told}
+use Rattle.tests.proofs.Chosen.{entries-few, perms-long, one-grey, chosen-told}
 use Rattle.tests.proofs.choices.chosen_ok.Statement.{statement}
 use Rattle.tests.proofs.choices.chosen_ok.Tie as tie
 
@@ -18,7 +18,7 @@ abbrev Wolffed : tie.After-takes-greys → tie.After-is-wolff
 Wolffed d = d .before .before .before
 
 abbrev Began : tie.After-takes-greys → tie.Start
-Began d = Wolffed d .before .before .before .before .before .before
+Began d = Wolffed d .before .before .before .before .before
 
 entries-requires : tie.Need-entries-requires
 entries-requires c κs = search needs
@@ -37,10 +37,11 @@ takes-greys-requires c κs = search needs
 
 perms-fit-requires : tie.Need-perms-fit-requires
 perms-fit-requires c κs =
-    let t = Began c .args .t in
+    let a = Began c .args in
+    let t = a .t in
     let p = Began c .pre in
     rw (c .before .takes-perms .ensures, Wolffed c .before .entries .ensures)
-    (record { few = entries-few (t .form) (t .n) (p .n-high); size-high = p .size-high; long = p .perms-long })
+    (record { few = entries-few (t .form) (t .n) (p .n-high); size-high = p .size-high; long = perms-long t (now (a .choices)) (now (a .greys)) p })
 
 moved-fit-requires : tie.Need-moved-fit-requires
 moved-fit-requires c κs = search needs
@@ -56,7 +57,7 @@ grey-fit-requires c κs =
     let d = c .before .before .before .before in
     let a = Began d .args in
     rw (d .takes-greys .ensures, Wolffed d .is-wolff .ensures)
-    (one-grey (a .t) (now (a .flips)) (now (a .perms)) (now (a .greys)) (Began d .pre))
+    (one-grey (a .t) (now (a .choices)) (now (a .greys)) (Began d .pre))
 
 is-gperm-requires : tie.Need-is-gperm-requires
 is-gperm-requires c κs = search needs
@@ -72,12 +73,12 @@ returns c =
     let d = u .before in
     let a = Began d .args in
     let t = a .t in
-    chosen-told t (now (a .flips)) (now (a .perms)) (now (a .greys)) (Began d .pre)
-    (said (u .perms-fit .result) (When (permsBy (t .mode) (t .form)) (PermRows (entries (t .form) (t .n)) (t .group .len) (now (a .perms))))
+    chosen-told t (now (a .choices)) (now (a .greys)) (Began d .pre)
+    (said (u .perms-fit .result) (When (permsBy (t .mode) (t .form)) (PermRows (entries (t .form) (t .n)) (t .group .len) (now (a .choices))))
     (rw (d .before .takes-perms .ensures, Wolffed d .before .entries .ensures) at (u .perms-fit .ensures)))
-    (said (v .moved-fit .result) (When (permsBy (t .mode) (t .form) && isWolff (t .form)) (RowMoves (now (a .perms))))
+    (said (v .moved-fit .result) (When (permsBy (t .mode) (t .form) && isWolff (t .form)) (RowMoves (now (a .choices))))
     (rw (d .before .takes-perms .ensures, Wolffed d .is-wolff .ensures) at (v .moved-fit .ensures)))
-    (said (f1 .bytes-fit .result) (When (flipsBy (t .mode) (t .form)) (AtMost (now (a .flips)) 1))
+    (said (f1 .bytes-fit .result) (When (flipsBy (t .mode) (t .form)) (AtMost (now (a .choices)) 1))
     (rw (d .before .before .takes-flips .ensures) at (f1 .bytes-fit .ensures)))
     (said (f2 .bytes-fit2 .result) (When (greysBy (t .mode) (t .form)) (AtMost (now (a .greys)) 3))
     (rw (d .takes-greys .ensures) at (f2 .bytes-fit2 .ensures)))

@@ -1,10 +1,11 @@
 -- `lengths_ok` meets its contract: one test for each length.
 use borrow.Author.Needs.{needs}
 use Prim.Native.Nat.{ℕ, _+_, _*_, _≤_}
-use mathlib.Core.Path.{_≡_, refl, ap}
+use mathlib.Core.Path.{_≡_, refl, ap, _∙_}
+use mathlib.Core.Bool.{Bool, true, false, cond}
 use native.Mathlib.Nat.{mul-le-mul}
 use native.Mathlib.Omega.{arith}
-use Rattle.paper.specs.Panel.Takes.{entries, drawsBonds, flipsBy, permsBy, greysBy}
+use Rattle.paper.specs.Panel.Takes.{isPerm, entries, drawsBonds, choicesBy, greysBy, choiceWidth}
 use Rattle.lattice.specs.Telling.{same, both, test-eq}
 use Rattle.tests.specs.Lengths.{FitsEach, took}
 use Rattle.tests.proofs.Chosen.{entries-few}
@@ -30,11 +31,21 @@ rows-few d = let s = E d .before in rw (rows-of d) (entries-few (s .args .form) 
 drawn : (d : tie.After-takes-greys) → d .before .before .before .is-drawn .result ≡ drawsBonds (E d .before .args .mode)
 drawn d = d .before .before .before .is-drawn .ensures
 
-by-flips : (d : tie.After-takes-greys) → d .before .before .takes-flips .result ≡ flipsBy (E d .before .args .mode) (E d .before .args .form)
-by-flips d = d .before .before .takes-flips .ensures
+by-choices : (d : tie.After-takes-greys) → d .before .before .takes-choices .result ≡ choicesBy (E d .before .args .mode) (E d .before .args .form)
+by-choices d = d .before .before .takes-choices .ensures
 
-by-perms : (d : tie.After-takes-greys) → d .before .takes-perms .result ≡ permsBy (E d .before .args .mode) (E d .before .args .form)
-by-perms d = d .before .takes-perms .ensures
+abbrev width : tie.After-takes-greys → ℕ
+width d = d .before .choice-width .result
+
+width-of : (d : tie.After-takes-greys) → width d ≡ choiceWidth (E d .before .args .mode) (E d .before .args .m)
+width-of d = d .before .choice-width .ensures
+
+width-few : (d : tie.After-takes-greys) → width d ≤ 8
+width-few d = let s = E d .before in rw (width-of d) (go (isPerm (s .args .mode)) (s .args .m) (s .pre .m-high))
+  where
+    go : (p : Bool) (m : ℕ) → m ≤ 8 → cond p m 1 ≤ 8
+    go true m h = h
+    go false m h = omega arith
 
 by-greys : (d : tie.After-takes-greys) → d .takes-greys .result ≡ greysBy (E d .before .args .mode) (E d .before .args .form)
 by-greys d = d .takes-greys .ensures
@@ -51,11 +62,11 @@ entries-requires c κs = search needs
 is-drawn-requires : tie.Need-is-drawn-requires
 is-drawn-requires c κs = search needs
 
-takes-flips-requires : tie.Need-takes-flips-requires
-takes-flips-requires c κs = search needs
+takes-choices-requires : tie.Need-takes-choices-requires
+takes-choices-requires c κs = search needs
 
-takes-perms-requires : tie.Need-takes-perms-requires
-takes-perms-requires c κs = search needs
+choice-width-requires : tie.Need-choice-width-requires
+choice-width-requires c κs = search needs
 
 takes-greys-requires : tie.Need-takes-greys-requires
 takes-greys-requires c κs = search needs
@@ -84,34 +95,29 @@ mul-fits c = let p = E (D c) .before .pre in omega (arith, mul-le-mul (p .count-
 fits-requires-2 : tie.Need-fits-requires-2
 fits-requires-2 c κs = search needs
 
-fits-requires-3 : tie.Need-fits-requires-3
-fits-requires-3 c κs = search needs
-
 mul-fits-2 : tie.Need-mul-fits-2
-mul-fits-2 c = let d = D (c .before .before) in omega (arith, mul-le-mul (rows-few d) (E d .before .pre .m-high))
+mul-fits-2 c = let d = D (c .before) in omega (arith, mul-le-mul (rows-few d) (width-few d))
 
 mul-fits-3 : tie.Need-mul-fits-3
 mul-fits-3 c =
-    let d = D (c .before .before) in
-    let p = E d .before .pre in
-    omega (arith, mul-le-mul (p .count-high) (mul-le-mul (rows-few d) (p .m-high)))
+    let d = D (c .before) in
+    omega (arith, mul-le-mul (E d .before .pre .count-high) (mul-le-mul (rows-few d) (width-few d)))
+
+fits-requires-3 : tie.Need-fits-requires-3
+fits-requires-3 c κs = search needs
+
+mul-fits-4 : tie.Need-mul-fits-4
+mul-fits-4 c = let d = D (c .before .before) in omega (arith, mul-le-mul (E d .before .pre .count-high) (rows-few d))
 
 fits-requires-4 : tie.Need-fits-requires-4
 fits-requires-4 c κs = search needs
 
-mul-fits-4 : tie.Need-mul-fits-4
-mul-fits-4 c = let d = D (c .before .before .before) in omega (arith, mul-le-mul (E d .before .pre .count-high) (rows-few d))
-
 fits-requires-5 : tie.Need-fits-requires-5
 fits-requires-5 c κs = search needs
 
-fits-requires-6 : tie.Need-fits-requires-6
-fits-requires-6 c κs = search needs
-
 returns : tie.Need-returns
 returns c =
-    let f6 = c .before in
-    let f5 = f6 .before in
+    let f5 = c .before in
     let f4 = f5 .before in
     let f3 = f4 .before in
     let f2 = f3 .before in
@@ -120,21 +126,20 @@ returns c =
     let l = a .l in
     same (FitsEach (a .mode) (a .form) (a .n) (a .d) (a .s) (a .m) (a .count) l)
     (λ h. record {
-      spins = h .0 .0 .0 .0 .0 .0 .0 .0 .0 .0 .0;
-      fwd = h .0 .0 .0 .0 .0 .0 .0 .0 .0 .0 .1;
-      bwd = h .0 .0 .0 .0 .0 .0 .0 .0 .0 .1;
-      labels = h .0 .0 .0 .0 .0 .0 .0 .0 .1;
-      counts = h .0 .0 .0 .0 .0 .0 .0 .1;
-      sizes = h .0 .0 .0 .0 .0 .0 .1;
-      couplings = h .0 .0 .0 .0 .0 .1;
-      cuts = h .0 .0 .0 .0 .1;
-      flips = h .0 .0 .0 .1;
-      perms = h .0 .0 .1;
+      spins = h .0 .0 .0 .0 .0 .0 .0 .0 .0 .0;
+      fwd = h .0 .0 .0 .0 .0 .0 .0 .0 .0 .1;
+      bwd = h .0 .0 .0 .0 .0 .0 .0 .0 .1;
+      labels = h .0 .0 .0 .0 .0 .0 .0 .1;
+      counts = h .0 .0 .0 .0 .0 .0 .1;
+      sizes = h .0 .0 .0 .0 .0 .1;
+      couplings = h .0 .0 .0 .0 .1;
+      cuts = h .0 .0 .0 .1;
+      choices = h .0 .0 .1;
       greys = h .0 .1;
       grey-labels = h .1;
     })
-    (λ z. (((((((((((z .spins, z .fwd), z .bwd), z .labels), z .counts), z .sizes), z .couplings), z .cuts), z .flips), z .perms), z .greys), z .grey-labels))
-    (both (both (both (both (both (both (both (both (both (both (both
+    (λ z. ((((((((((z .spins, z .fwd), z .bwd), z .labels), z .counts), z .sizes), z .couplings), z .cuts), z .choices), z .greys), z .grey-labels))
+    (both (both (both (both (both (both (both (both (both (both
     (test-eq (l .spins) (a .s * a .n))
     (test-eq (l .fwd) (a .n * a .d)))
     (test-eq (l .bwd) (a .n * a .d)))
@@ -143,10 +148,10 @@ returns c =
     (test-eq (l .sizes) (a .count * 4)))
     (took (drawn d) refl (f2 .fits2 .ensures)))
     (took (drawn d) refl (f3 .fits3 .ensures)))
-    (took (by-flips d) refl (f4 .fits4 .ensures)))
-    (took (by-perms d) (ap (λ (x : ℕ). a .count * (x * a .m)) (rows-of d)) (f5 .fits5 .ensures)))
-    (took (by-greys d) (ap (λ (x : ℕ). a .count * x) (rows-of d)) (f6 .fits6 .ensures)))
-    (took (by-greys d) refl (c .fits7 .ensures)))
+    (took (by-choices d) (ap (λ (x : ℕ). a .count * (x * width d)) (rows-of d)
+    ∙ ap (λ (x : ℕ). a .count * (entries (a .form) (a .n) * x)) (width-of d)) (f4 .fits4 .ensures)))
+    (took (by-greys d) (ap (λ (x : ℕ). a .count * x) (rows-of d)) (f5 .fits5 .ensures)))
+    (took (by-greys d) refl (c .fits6 .ensures)))
     .says
 
 pub lengths-ok-spec : {M : Type 1} → statement M
@@ -157,8 +162,8 @@ lengths-ok-spec =
     mul-sites
     entries-requires
     is-drawn-requires
-    takes-flips-requires
-    takes-perms-requires
+    takes-choices-requires
+    choice-width-requires
     takes-greys-requires
     mul-result
     add-result
@@ -167,11 +172,10 @@ lengths-ok-spec =
     fits-requires
     mul-fits
     fits-requires-2
-    fits-requires-3
     mul-fits-2
     mul-fits-3
-    fits-requires-4
+    fits-requires-3
     mul-fits-4
+    fits-requires-4
     fits-requires-5
-    fits-requires-6
     returns)

@@ -7,7 +7,7 @@ use mathlib.Core.Logic.{inl, inr}
 use denote.Ref.{now}
 use Rattle.paper.specs.Component.Marks.{passed, refused}
 use Rattle.paper.specs.Panel.Takes.{drawsBonds}
-use Rattle.paper.specs.Refusal.Rules.{When, Ranged, Fits, Spins, Inverse, Grouped, SmallCouplings, Warm}
+use Rattle.paper.specs.Refusal.Rules.{When, Ranged, Fits, AllSystems, Spins, Inverse, Grouped, SmallCouplings, Warm}
 use Rattle.lattice.specs.Telling.{Test, said, implies, test-is}
 use Rattle.tests.specs.Lengths.{one-fits, fits-one}
 use Rattle.tests.proofs.panel.test_panel.Statement.{statement}
@@ -33,7 +33,7 @@ k2 e =
 abbrev E2 : tie.Else3 → tie.Else2
 E2 e = e .before .before
 
-k3 : (e : tie.Else3) → Spins (now (S1 (E1 (E2 e)) .args .spins))
+k3 : (e : tie.Else3) → let a = S1 (E1 (E2 e)) .args in Spins (a .t .n) (AllSystems (a .t .s)) (now (a .spins))
 k3 e = passed (e .before .spins-ok .result) (e .if3 .left) (e .before .spins-ok .ensures)
 
 abbrev E3 : tie.Else4 → tie.Else3
@@ -92,7 +92,7 @@ returns-2 c =
     inr (k1 e, inl ((λ f. short (fits-one (t .mode) (t .form) (t .n) (t .d) (t .s) (t .group .len) (a .l) f)), refl))
 
 spins-ok-requires : tie.Need-spins-ok-requires
-spins-ok-requires c κs = search needs
+spins-ok-requires c κs = sym (S1 (E1 c) .pre .spins-is) ∙ k2 c .spins
 
 returns-3 : tie.Need-returns-3
 returns-3 c =
