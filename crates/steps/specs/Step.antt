@@ -43,7 +43,7 @@ sound-of c p b k = record {
 }
 
 -- what tests 8 to 10 lean on
-pub tested-of : (c : Call) (p : Choices) (b : Buffers) → Sound c p b → Tested (taskIn c) (b .spins) (p .flips) (p .perms) (p .greys)
+pub tested-of : (c : Call) (p : Choices) (b : Buffers) → Sound c p b → Tested (taskIn c) (b .spins) (p .choices) (p .greys)
 tested-of c p b s =
     let n = c .lattice .n in
     record {
@@ -53,8 +53,7 @@ tested-of c p b s =
       size-high = s .ranged .size-high;
       inside = rows-inside n (c .lattice .s) (c .group) (b .spins) (s .exact .spins) (s .grouped .below);
       spins = rows-spins n (c .lattice .s) (c .group) (b .spins) (s .exact .spins) (s .grouped .below) (s .spins);
-      flips-long = s .exact .flips;
-      perms-long = s .exact .perms;
+      choices-long = s .exact .choices;
       greys-long = s .exact .greys;
     }
 

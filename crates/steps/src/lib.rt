@@ -40,8 +40,7 @@ pub fn overlap_step(
     bwd: &[u32],
     couplings: &[i32],
     cuts: &[f32],
-    flips: &[u8],
-    perms: &[u8],
+    choices: &[u8],
     greys: &[u8],
     labels: &mut [u32],
     grey_labels: &mut [u32],
@@ -50,7 +49,7 @@ pub fn overlap_step(
 ) -> Answer
     ensures { λ r. ⌜ Answers
         (callOf t (now (fwd .entry)) (now (bwd .entry)) (now (couplings .entry)) (now (cuts .entry)))
-        (choicesOf (now (flips .entry)) (now (perms .entry)) (now (greys .entry)))
+        (choicesOf (now (choices .entry)) (now (greys .entry)))
         (buffersOf (now (spins .entry)) (now (labels .entry)) (now («grey_labels» .entry)) (now (counts .entry)) (now (sizes .entry)))
         r
         (buffersOf (now (spins .exit)) (now (labels .exit)) (now («grey_labels» .exit)) (now (counts .exit)) (now (sizes .exit))) ⌝ }
@@ -61,8 +60,7 @@ pub fn overlap_step(
         bwd: bwd.len(),
         couplings: couplings.len(),
         cuts: cuts.len(),
-        flips: flips.len(),
-        perms: perms.len(),
+        choices: choices.len(),
         greys: greys.len(),
         labels: labels.len(),
         grey_labels: grey_labels.len(),
@@ -73,7 +71,7 @@ pub fn overlap_step(
     if fault != 0 {
         return Answer::Refused(fault);
     }
-    let unfit = tests::choices::test_choices(t, spins, cuts, flips, perms, greys);
+    let unfit = tests::choices::test_choices(t, spins, cuts, choices, greys);
     if unfit != 0 {
         return Answer::Refused(unfit);
     }
@@ -84,8 +82,7 @@ pub fn overlap_step(
         bwd,
         couplings,
         cuts,
-        flips,
-        perms,
+        choices,
         greys,
         labels,
         grey_labels,
@@ -107,15 +104,14 @@ pub fn houdayer_step(
     group: Group,
     reference: usize,
     seed: usize,
-    flips: &[u8],
-    perms: &[u8],
+    choices: &[u8],
     labels: &mut [u32],
     counts: &mut [u32],
     sizes: &mut [u32],
 ) -> Answer
     ensures { λ r. ⌜ Answers
         (callOf (taskOf (modeOf rule) form n d s group (whole 1) reference seed) (now (fwd .entry)) (now (bwd .entry)) [] [])
-        (choicesOf (now (flips .entry)) (now (perms .entry)) [])
+        (choicesOf (now (choices .entry)) [])
         (buffersOf (now (spins .entry)) (now (labels .entry)) [] (now (counts .entry)) (now (sizes .entry)))
         r
         (buffersOf (now (spins .exit)) (now (labels .exit)) [] (now (counts .exit)) (now (sizes .exit))) ⌝ }
@@ -142,9 +138,8 @@ pub fn houdayer_step(
         bwd,
         &couplings[..0],
         &cuts[..0],
-        flips,
-        perms,
-        &flips[..0],
+        choices,
+        &choices[..0],
         labels,
         &mut grey_labels[..0],
         counts,
@@ -166,14 +161,14 @@ pub fn jorg_step(
     temperature: f32,
     cuts: &[f32],
     seed: usize,
-    flips: &[u8],
+    choices: &[u8],
     labels: &mut [u32],
     counts: &mut [u32],
     sizes: &mut [u32],
 ) -> Answer
     ensures { λ r. ⌜ Answers
         (callOf (taskOf Jorg form n d s group temperature 0 seed) (now (fwd .entry)) (now (bwd .entry)) (now (couplings .entry)) (now (cuts .entry)))
-        (choicesOf (now (flips .entry)) [] [])
+        (choicesOf (now (choices .entry)) [])
         (buffersOf (now (spins .entry)) (now (labels .entry)) [] (now (counts .entry)) (now (sizes .entry)))
         r
         (buffersOf (now (spins .exit)) (now (labels .exit)) [] (now (counts .exit)) (now (sizes .exit))) ⌝ }
@@ -197,9 +192,8 @@ pub fn jorg_step(
         bwd,
         couplings,
         cuts,
-        flips,
-        &flips[..0],
-        &flips[..0],
+        choices,
+        &choices[..0],
         labels,
         &mut grey_labels[..0],
         counts,
@@ -221,7 +215,7 @@ pub fn cmr_step(
     temperature: f32,
     cuts: &[f32],
     seed: usize,
-    flips: &[u8],
+    choices: &[u8],
     greys: &[u8],
     labels: &mut [u32],
     grey_labels: &mut [u32],
@@ -230,7 +224,7 @@ pub fn cmr_step(
 ) -> Answer
     ensures { λ r. ⌜ Answers
         (callOf (taskOf Cmr form n d s group temperature 0 seed) (now (fwd .entry)) (now (bwd .entry)) (now (couplings .entry)) (now (cuts .entry)))
-        (choicesOf (now (flips .entry)) [] (now (greys .entry)))
+        (choicesOf (now (choices .entry)) (now (greys .entry)))
         (buffersOf (now (spins .entry)) (now (labels .entry)) (now («grey_labels» .entry)) (now (counts .entry)) (now (sizes .entry)))
         r
         (buffersOf (now (spins .exit)) (now (labels .exit)) (now («grey_labels» .exit)) (now (counts .exit)) (now (sizes .exit))) ⌝ }
@@ -253,8 +247,7 @@ pub fn cmr_step(
         bwd,
         couplings,
         cuts,
-        flips,
-        &flips[..0],
+        choices,
         greys,
         labels,
         grey_labels,

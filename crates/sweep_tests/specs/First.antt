@@ -9,7 +9,7 @@ use lib.Ieee.{Float, nan}
 use Rattle.paper.specs.Panel.Input.{Buffers}
 use Rattle.paper.specs.Panel.Takes.{drawsBonds}
 use Rattle.paper.specs.Refusal.Rule.{Rule, rule, Kept}
-use Rattle.paper.specs.Refusal.Rules.{When, Spins, Inverse, Permutes, SmallCouplings, Warm}
+use Rattle.paper.specs.Refusal.Rules.{When, AllSystems, Spins, Inverse, Permutes, SmallCouplings, Warm}
 use Rattle.paper.specs.Refusal.Verdict.{Verdict, broken-first}
 use Rattle.paper.specs.Answer.Task.{Sweep}
 use Rattle.paper.specs.declared.Plan.{Plan}
@@ -17,8 +17,9 @@ use Rattle.paper.specs.declared.Lengths.{Lengths}
 use Rattle.sweep_tests.specs.declared.SweepLengths.{SweepLengths}
 
 -- what the tests on the panel and on the temperatures lean on
-pub record PanelLong (q : Plan) (fwd bwd order : List ℕ) : Type 0 where
+pub record PanelLong (q : Plan) (spins : List ℤ) (fwd bwd order : List ℕ) : Type 0 where
   pub few : q .s ≤ 64
+  pub spins-long : length spins ≡ q .s * q .n
   pub fwd-long : length fwd ≡ q .n * q .d
   pub bwd-long : length bwd ≡ q .n * q .d
   pub order-long : length order ≡ q .s
@@ -29,7 +30,7 @@ pub record HeatLong (q : Plan) (temperatures : List Float) (masks : List ℕ) : 
 
 abbrev pub panelRules : Plan → List ℤ → List ℕ → List ℕ → List ℕ → List Rule
 panelRules q spins fwd bwd order =
-    rule 3 (Spins spins)
+    rule 3 (Spins (q .n) (AllSystems (q .s)) spins)
     ∷ rule 4 (Inverse (q .n) (q .d) fwd bwd)
     ∷ rule 5 (Permutes (q .s) (λ k. getD order k 0))
     ∷ []
@@ -52,8 +53,7 @@ lengthsOf w b = record {
   bwd = length (w .lattice .bwd);
   couplings = length (w .lattice .couplings);
   cuts = length (w .cuts);
-  flips = length (w .flips);
-  perms = length (w .perms);
+  choices = length (w .choices);
   greys = length (w .greys);
   labels = length (b .labels);
   «grey_labels» = length (b .greyLabels);

@@ -13,9 +13,9 @@ use lib.ListN.{length, getD}
 use lib.IntN.{ℤ}
 use lib.Ieee.{Float}
 use Rattle.paper.specs.Panel.Input.{Buffers, member}
-use Rattle.paper.specs.Panel.Takes.{drawsBonds, flipsBy, permsBy, greysBy, entries}
+use Rattle.paper.specs.Panel.Takes.{drawsBonds, choicesBy, greysBy, entries, choiceBytes}
 use Rattle.paper.specs.Refusal.Rule.{Rule, Kept, Broken}
-use Rattle.paper.specs.Refusal.Rules.{When, Ranged, Spins, Permutes, choiceRules}
+use Rattle.paper.specs.Refusal.Rules.{When, Ranged, AllSystems, Spins, Permutes, choiceRules}
 use Rattle.paper.specs.Refusal.Verdict.{Verdict, kept-both, broken-first, broken-later}
 use Rattle.paper.specs.Answer.Task.{Sweep, orderAt, masked, part, taskCall, taskChoices}
 use Rattle.paper.specs.Answer.Sweep.{taskRules}
@@ -28,24 +28,23 @@ use Rattle.tests.specs.Choices.{Tested, EveryCall, rows-inside, rows-spins}
 use Rattle.tasks.specs.Plan.{Planned, tasksOf, groupAt, maskedAt, taskAt, ordered, entry-lt}
 
 -- what the first tests have shown
-pub record SweepTested (q : Plan) (spins : List ℤ) (order : List ℕ) (cuts : List Float) (flips perms greys : List ℕ) : Type 0 where
+pub record SweepTested (q : Plan) (spins : List ℤ) (order : List ℕ) (cuts : List Float) (choices greys : List ℕ) : Type 0 where
   pub planned : Planned q
   pub spins-long : length spins ≡ q .s * q .n
   pub order-long : length order ≡ q .s
   pub cuts-long : When (drawsBonds (q .mode)) (length cuts ≡ tasksOf q * (q .n * q .d))
-  pub flips-long : When (flipsBy (q .mode) (q .form)) (length flips ≡ tasksOf q * q .n)
-  pub perms-long : When (permsBy (q .mode) (q .form)) (length perms ≡ tasksOf q * (entries (q .form) (q .n) * q .members))
+  pub choices-long : When (choicesBy (q .mode) (q .form)) (length choices ≡ tasksOf q * choiceBytes (q .mode) (q .form) (q .n) (q .members))
   pub greys-long : When (greysBy (q .mode) (q .form)) (length greys ≡ tasksOf q * entries (q .form) (q .n))
-  pub spinning : Spins spins
+  pub spinning : Spins (q .n) (AllSystems (q .s)) spins
   pub permuted : Permutes (q .s) (λ k. getD order k 0)
 
-pub record TaskTested (q : Plan) (k : ℕ) (spins : List ℤ) (order : List ℕ) (cuts : List Float) (flips perms greys : List ℕ) : Type 0 where
-  pub tested : SweepTested q spins order cuts flips perms greys
+pub record TaskTested (q : Plan) (k : ℕ) (spins : List ℤ) (order : List ℕ) (cuts : List Float) (choices greys : List ℕ) : Type 0 where
+  pub tested : SweepTested q spins order cuts choices greys
   pub below : k < tasksOf q
 
 -- what the test of its choices leans on
-module _ {q : Plan} {k : ℕ} {spins : List ℤ} {order : List ℕ} {cuts : List Float} {flips perms greys : List ℕ}
-    (h : TaskTested q k spins order cuts flips perms greys) where
+module _ {q : Plan} {k : ℕ} {spins : List ℤ} {order : List ℕ} {cuts : List Float} {choices greys : List ℕ}
+    (h : TaskTested q k spins order cuts choices greys) where
   ranged : Ranged (q .n) (q .d) (q .s) (q .mode) (q .members)
   ranged = h .tested .planned .ranged
 
@@ -59,8 +58,8 @@ module _ {q : Plan} {k : ℕ} {spins : List ℤ} {order : List ℕ} {cuts : List
 
   pub task-tested :
       (temperatures : List Float) (references seeds : List ℕ)
-      → Tested (taskAt q order temperatures references seeds k) spins (part k (q .n) flips) (part k (entries (q .form) (q .n) * q .members) perms)
-      (part k (entries (q .form) (q .n)) greys)
+      → Tested (taskAt q order temperatures references seeds k) spins
+      (part k (choiceBytes (q .mode) (q .form) (q .n) (q .members)) choices) (part k (entries (q .form) (q .n)) greys)
   task-tested temperatures references seeds = record {
     n-low = ranged .lattice .n-low;
     n-high = ranged .lattice .n-high;
@@ -68,8 +67,8 @@ module _ {q : Plan} {k : ℕ} {spins : List ℤ} {order : List ℕ} {cuts : List
     size-high = ranged .size-high;
     inside = rows-inside (q .n) (q .s) (groupAt q order k) spins (h .tested .spins-long) member-lt;
     spins = rows-spins (q .n) (q .s) (groupAt q order k) spins (h .tested .spins-long) member-lt (h .tested .spinning);
-    flips-long = λ t. part-length (tasksOf q) (q .n) k flips (h .below) (h .tested .flips-long t);
-    perms-long = λ t. part-length (tasksOf q) (entries (q .form) (q .n) * q .members) k perms (h .below) (h .tested .perms-long t);
+    choices-long = λ t.
+        part-length (tasksOf q) (choiceBytes (q .mode) (q .form) (q .n) (q .members)) k choices (h .below) (h .tested .choices-long t);
     greys-long = λ t. part-length (tasksOf q) (entries (q .form) (q .n)) k greys (h .below) (h .tested .greys-long t);
   }
 
@@ -79,35 +78,35 @@ oneTask w xs k = cond (masked w k) [] (choiceRules (taskCall w k) (taskChoices w
 
 -- r is the verdict on the task k, whatever the panel's tables and couplings are
 pub record TaskTold
-    (q : Plan) (k : ℕ) (spins : List ℤ) (order masks : List ℕ) (temperatures cuts : List Float) (references seeds flips perms greys : List ℕ) (r : ℕ) : Type 0
+    (q : Plan) (k : ℕ) (spins : List ℤ) (order masks : List ℕ) (temperatures cuts : List Float) (references seeds choices greys : List ℕ) (r : ℕ) : Type 0
   where
     pub is :
         (fwd bwd : List ℕ) (couplings : List ℤ)
-        → Verdict (oneTask (sweepOf q fwd bwd couplings order masks temperatures cuts references seeds flips perms greys) spins k) r
+        → Verdict (oneTask (sweepOf q fwd bwd couplings order masks temperatures cuts references seeds choices greys) spins k) r
 
 -- and on the tasks below K, whatever the outputs hold
 pub record TasksTold
-    (q : Plan) (K : ℕ) (spins : List ℤ) (order masks : List ℕ) (temperatures cuts : List Float) (references seeds flips perms greys : List ℕ) (r : ℕ) : Type 0
+    (q : Plan) (K : ℕ) (spins : List ℤ) (order masks : List ℕ) (temperatures cuts : List Float) (references seeds choices greys : List ℕ) (r : ℕ) : Type 0
   where
     pub is :
         (fwd bwd : List ℕ) (couplings : List ℤ) (labels greyLabels counts sizes : List ℕ)
         → Verdict
-        (taskRules (sweepOf q fwd bwd couplings order masks temperatures cuts references seeds flips perms greys)
+        (taskRules (sweepOf q fwd bwd couplings order masks temperatures cuts references seeds choices greys)
         (buffersOf spins labels greyLabels counts sizes) K)
         r
 
 -- a masked task keeps its rules; an unmasked one has the verdict on its parts
-module _ {q : Plan} {k : ℕ} {spins : List ℤ} {order masks : List ℕ} {ts cuts : List Float} {references seeds flips perms greys : List ℕ} where
-  pub told-masked : maskedAt q masks k ≡ true → TaskTold q k spins order masks ts cuts references seeds flips perms greys 0
+module _ {q : Plan} {k : ℕ} {spins : List ℤ} {order masks : List ℕ} {ts cuts : List Float} {references seeds choices greys : List ℕ} where
+  pub told-masked : maskedAt q masks k ≡ true → TaskTold q k spins order masks ts cuts references seeds choices greys 0
   told-masked e = record { is = λ fwd bwd js. rw e tt }
 
   pub told-parts :
-      {t : Task} {cs : List Float} {fs ps gs : List ℕ} {r : ℕ} → maskedAt q masks k ≡ false
+      {t : Task} {cs : List Float} {ps gs : List ℕ} {r : ℕ} → maskedAt q masks k ≡ false
       → t ≡ taskAt q order ts references seeds k → cs ≡ part k (q .n * q .d) cuts
-      → fs ≡ part k (q .n) flips → ps ≡ part k (entries (q .form) (q .n) * q .members) perms → gs ≡ part k (entries (q .form) (q .n)) greys
-      → EveryCall t cs (λ c. Verdict (choiceRules c (choicesOf fs ps gs) spins) r)
-      → TaskTold q k spins order masks ts cuts references seeds flips perms greys r
-  told-parts e e₁ e₂ e₃ e₄ e₅ h = record { is = λ fwd bwd js. rw e (rw (e₁, e₂, e₃, e₄, e₅) at (h fwd bwd js)) }
+      → ps ≡ part k (choiceBytes (q .mode) (q .form) (q .n) (q .members)) choices → gs ≡ part k (entries (q .form) (q .n)) greys
+      → EveryCall t cs (λ c. Verdict (choiceRules c (choicesOf ps gs) spins) r)
+      → TaskTold q k spins order masks ts cuts references seeds choices greys r
+  told-parts {t = t} e e₁ e₂ e₃ e₄ h = record { is = λ fwd bwd js. rw e (rw (e₁, e₂, e₃, e₄) at (h (t .d) (t .s) (t .temperature) fwd bwd js)) }
 
 -- ---- one task more
 more-kept : (w : Sweep) (b : Buffers) (K : ℕ) → Kept (taskRules w b K) → Kept (oneTask w (b .spins) K) → Kept (taskRules w b (K + 1))
@@ -121,27 +120,27 @@ more-broken w b K (suc M) r l h f = go (eq-or-lt-of-le (le-of-suc-le-suc l)) (λ
     go (inl e) ih = rw (← e) (broken-later (taskRules w b K) (oneTask w (b .spins) K) r h f)
     go (inr e) ih = broken-first (taskRules w b M) (oneTask w (b .spins) M) r (ih e)
 
-module _ {q : Plan} {spins : List ℤ} {order masks : List ℕ} {ts cuts : List Float} {references seeds flips perms greys : List ℕ} where
-  pub told-none : TasksTold q 0 spins order masks ts cuts references seeds flips perms greys 0
+module _ {q : Plan} {spins : List ℤ} {order masks : List ℕ} {ts cuts : List Float} {references seeds choices greys : List ℕ} where
+  pub told-none : TasksTold q 0 spins order masks ts cuts references seeds choices greys 0
   told-none = record { is = λ fwd bwd js labels greyLabels counts sizes. tt }
 
   pub told-more :
-      {K r : ℕ} → TasksTold q K spins order masks ts cuts references seeds flips perms greys 0 → r ≡ 0
-      → TaskTold q K spins order masks ts cuts references seeds flips perms greys r
-      → TasksTold q (K + 1) spins order masks ts cuts references seeds flips perms greys 0
+      {K r : ℕ} → TasksTold q K spins order masks ts cuts references seeds choices greys 0 → r ≡ 0
+      → TaskTold q K spins order masks ts cuts references seeds choices greys r
+      → TasksTold q (K + 1) spins order masks ts cuts references seeds choices greys 0
   told-more {K} {r} h e t = record {
     is = λ fwd bwd js labels greyLabels counts sizes.
-        more-kept (sweepOf q fwd bwd js order masks ts cuts references seeds flips perms greys) (buffersOf spins labels greyLabels counts sizes) K
+        more-kept (sweepOf q fwd bwd js order masks ts cuts references seeds choices greys) (buffersOf spins labels greyLabels counts sizes) K
         (h .is fwd bwd js labels greyLabels counts sizes) (rw e at (t .is fwd bwd js));
   }
 
   pub told-broken :
-      {K M r : ℕ} → K < M → TasksTold q K spins order masks ts cuts references seeds flips perms greys 0 → (r ≡ 0 → ⊥)
-      → TaskTold q K spins order masks ts cuts references seeds flips perms greys r
-      → TasksTold q M spins order masks ts cuts references seeds flips perms greys r
+      {K M r : ℕ} → K < M → TasksTold q K spins order masks ts cuts references seeds choices greys 0 → (r ≡ 0 → ⊥)
+      → TaskTold q K spins order masks ts cuts references seeds choices greys r
+      → TasksTold q M spins order masks ts cuts references seeds choices greys r
   told-broken {K} {M} {r = zero} l h ne t = absurd (ne refl)
   told-broken {K} {M} {r = suc r} l h ne t = record {
     is = λ fwd bwd js labels greyLabels counts sizes.
-        more-broken (sweepOf q fwd bwd js order masks ts cuts references seeds flips perms greys) (buffersOf spins labels greyLabels counts sizes)
+        more-broken (sweepOf q fwd bwd js order masks ts cuts references seeds choices greys) (buffersOf spins labels greyLabels counts sizes)
         K M (suc r) l (h .is fwd bwd js labels greyLabels counts sizes) (t .is fwd bwd js);
   }

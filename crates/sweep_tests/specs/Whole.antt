@@ -45,8 +45,7 @@ module _ (w : Sweep) (b : Buffers) where
           sizes = e .sizes;
           couplings = e .couplings;
           cuts = e .cuts;
-          flips = e .flips;
-          perms = e .perms;
+          choices = e .choices;
           greys = e .greys;
           grey-labels = e .grey-labels;
         };
@@ -67,8 +66,7 @@ module _ (w : Sweep) (b : Buffers) where
     couplings = a .couplings;
     temperatures = f .temperatures;
     cuts = a .cuts;
-    flips = a .flips;
-    perms = a .perms;
+    choices = a .choices;
     greys = a .greys;
     references = f .references;
     seeds = f .seeds;
@@ -90,14 +88,13 @@ module _ (w : Sweep) (b : Buffers) where
   past-lengths p f zero v = (ranged-of p, (exact-of f, v))
   past-lengths p f (suc r) v = inr (ranged-of p, inr (exact-of f, v))
 
-  pub tested-of : Planned (planOf w) → Fits → Kept panelOf → SweepTested (planOf w) (b .spins) (w .order) (w .cuts) (w .flips) (w .perms) (w .greys)
+  pub tested-of : Planned (planOf w) → Fits → Kept panelOf → SweepTested (planOf w) (b .spins) (w .order) (w .cuts) (w .choices) (w .greys)
   tested-of p f k = record {
     planned = p;
     spins-long = f .each .spins;
     order-long = f .order;
     cuts-long = f .each .cuts;
-    flips-long = f .each .flips;
-    perms-long = f .each .perms;
+    choices-long = f .each .choices;
     greys-long = f .each .greys;
     spinning = k .0;
     permuted = k .1 .1 .0;

@@ -63,11 +63,11 @@ fn lengths_ok(plan: Plan, l: Lengths, o: SweepLengths) -> bool
 }
 
 fn test_panel(plan: Plan, spins: &[i8], fwd: &[u32], bwd: &[u32], order: &[u32]) -> u8
-    requires { ⌜ PanelLong plan (now fwd) (now bwd) (now order) ⌝ }
+    requires { ⌜ PanelLong plan (now spins) (now fwd) (now bwd) (now order) ⌝ }
     ensures { λ r. ⌜ Verdict
         (panelRules plan (now (spins .entry)) (now (fwd .entry)) (now (bwd .entry)) (now (order .entry))) r ⌝ }
 {
-    if !lattice::spins_ok(spins) {
+    if !lattice::spins_ok(plan.n, plan.s, spins) {
         return 3;
     }
     if !lattice::tables_ok(plan.n, plan.d, fwd, bwd) {
@@ -120,13 +120,12 @@ fn test_task(
     cuts: &[f32],
     references: &[u32],
     seeds: &[u32],
-    flips: &[u8],
-    perms: &[u8],
+    choices: &[u8],
     greys: &[u8],
 ) -> u8
-    requires { ⌜ TaskTested plan k (now spins) (now order) (now cuts) (now flips) (now perms) (now greys) ⌝ }
+    requires { ⌜ TaskTested plan k (now spins) (now order) (now cuts) (now choices) (now greys) ⌝ }
     ensures { λ r. ⌜ TaskTold plan k (now (spins .entry)) (now (order .entry)) (now (masks .entry)) (now (temperatures .entry))
-        (now (cuts .entry)) (now (references .entry)) (now (seeds .entry)) (now (flips .entry)) (now (perms .entry)) (now (greys .entry)) r ⌝ }
+        (now (cuts .entry)) (now (references .entry)) (now (seeds .entry)) (now (choices .entry)) (now (greys .entry)) r ⌝ }
 {
     if tasks::masked(plan, masks, k) {
         return 0;
@@ -135,8 +134,7 @@ fn test_task(
         tasks::task_of(plan, order, temperatures, references, seeds, k),
         spins,
         tasks::task_cuts(plan, cuts, k),
-        tasks::task_flips(plan, flips, k),
-        tasks::task_perms(plan, perms, k),
+        tasks::task_choices(plan, choices, k),
         tasks::task_greys(plan, greys, k),
     )
 }
@@ -151,13 +149,12 @@ fn test_tasks(
     cuts: &[f32],
     references: &[u32],
     seeds: &[u32],
-    flips: &[u8],
-    perms: &[u8],
+    choices: &[u8],
     greys: &[u8],
 ) -> u8
-    requires { ⌜ SweepTested plan (now spins) (now order) (now cuts) (now flips) (now perms) (now greys) ⌝ }
+    requires { ⌜ SweepTested plan (now spins) (now order) (now cuts) (now choices) (now greys) ⌝ }
     ensures { λ r. ⌜ TasksTold plan (tasksOf plan) (now (spins .entry)) (now (order .entry)) (now (masks .entry)) (now (temperatures .entry))
-        (now (cuts .entry)) (now (references .entry)) (now (seeds .entry)) (now (flips .entry)) (now (perms .entry)) (now (greys .entry)) r ⌝ }
+        (now (cuts .entry)) (now (references .entry)) (now (seeds .entry)) (now (choices .entry)) (now (greys .entry)) r ⌝ }
 {
     let count = tasks::task_count(plan);
     let mut k: usize = 0;
@@ -172,8 +169,7 @@ fn test_tasks(
             cuts,
             references,
             seeds,
-            flips,
-            perms,
+            choices,
             greys,
         );
         if fault != 0 {
@@ -197,8 +193,7 @@ pub fn test_sweep(
     cuts: &[f32],
     references: &[u32],
     seeds: &[u32],
-    flips: &[u8],
-    perms: &[u8],
+    choices: &[u8],
     greys: &[u8],
     labels: &[u32],
     grey_labels: &[u32],
@@ -208,7 +203,7 @@ pub fn test_sweep(
     ensures { λ r. ⌜ Verdict (sweepRules
         (sweepOf plan (now (fwd .entry)) (now (bwd .entry)) (now (couplings .entry)) (now (order .entry)) (now (masks .entry))
         (now (temperatures .entry)) (now (cuts .entry)) (now (references .entry)) (now (seeds .entry))
-        (now (flips .entry)) (now (perms .entry)) (now (greys .entry)))
+        (now (choices .entry)) (now (greys .entry)))
         (buffersOf (now (spins .entry)) (now (labels .entry)) (now («grey_labels» .entry)) (now (counts .entry)) (now (sizes .entry)))) r ⌝ }
 {
     if !plan_ok(plan) {
@@ -220,8 +215,7 @@ pub fn test_sweep(
         bwd: bwd.len(),
         couplings: couplings.len(),
         cuts: cuts.len(),
-        flips: flips.len(),
-        perms: perms.len(),
+        choices: choices.len(),
         greys: greys.len(),
         labels: labels.len(),
         grey_labels: grey_labels.len(),
@@ -255,8 +249,7 @@ pub fn test_sweep(
         cuts,
         references,
         seeds,
-        flips,
-        perms,
+        choices,
         greys,
     )
 }

@@ -58,7 +58,7 @@ returns : tie.Need-returns
 returns c =
     let k = c .before .before .before .before .before .before .before .before in
     let o = k .overlap-step in
-    let e = rw (empty (o .last .1 .1 .1 .1 .1 .1 .1 .1 .1 .1 .0) (o .kept .1 .1 .1 .1 .1 .1 .1 .1 .1 .1 .0)) at (o .ensures) in
+    let e = rw (empty (o .last .1 .1 .1 .1 .1 .1 .1 .1 .1 .0) (o .kept .1 .1 .1 .1 .1 .1 .1 .1 .1 .0)) at (o .ensures) in
     rw one at (rw (M k .mode-of .ensures) at e)
 
 pub houdayer-step-spec : {M : Type 1} → statement M

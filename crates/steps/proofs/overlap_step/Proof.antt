@@ -11,7 +11,7 @@ use Rattle.steps.proofs.overlap_step.Statement.{statement}
 use Rattle.steps.proofs.overlap_step.Tie as tie
 
 abbrev S : tie.After-test-panel → tie.Start
-S k = k .before .before .before .before .before .before .before .before .before .before .before .before
+S k = k .before .before .before .before .before .before .before .before .before .before .before
 
 abbrev callAt : tie.Start → Call
 callAt b =
@@ -19,7 +19,7 @@ callAt b =
     callOf (a .t) (now (a .fwd)) (now (a .bwd)) (now (a .couplings)) (now (a .cuts))
 
 abbrev choicesAt : tie.Start → Choices
-choicesAt b = choicesOf (now (b .args .flips)) (now (b .args .perms)) (now (b .args .greys))
+choicesAt b = choicesOf (now (b .args .choices)) (now (b .args .greys))
 
 abbrev lentAt : tie.Start → Buffers
 lentAt b = let a = b .args in buffersOf (now (a .spins)) (now (a .labels)) (now (a .grey-labels)) (now (a .counts)) (now (a .sizes))
@@ -34,7 +34,7 @@ verdict : (k : tie.After-test-choices) → let b = S (k .before .before .before)
     Verdict (choiceRules (callAt b) (choicesAt b) (now (b .args .spins))) (k .test-choices .result)
 verdict k =
     let a = S (k .before .before .before) .args in
-    k .test-choices .ensures (now (a .fwd)) (now (a .bwd)) (now (a .couplings))
+    k .test-choices .ensures (a .t .d) (a .t .s) (a .t .temperature) (now (a .fwd)) (now (a .bwd)) (now (a .couplings))
 
 test-panel-requires : tie.Need-test-panel-requires
 test-panel-requires c κs = search needs

@@ -4,14 +4,14 @@ use mathlib.Core.Path.{refl}
 use mathlib.Core.Logic.{inl, inr}
 use denote.Ref.{now}
 use Rattle.paper.specs.Component.Marks.{told, denied, passed, refused}
-use Rattle.paper.specs.Refusal.Rules.{Spins, Inverse}
+use Rattle.paper.specs.Refusal.Rules.{AllSystems, Spins, Inverse}
 use Rattle.sweep_tests.proofs.test_panel.Statement.{statement}
 use Rattle.sweep_tests.proofs.test_panel.Tie as tie
 
 abbrev S : tie.Else1 → tie.Start
 S e = e .before .before .before .before .before
 
-k3 : (e : tie.Else1) → Spins (now (S e .args .spins))
+k3 : (e : tie.Else1) → let a = S e .args in Spins (a .plan .n) (AllSystems (a .plan .s)) (now (a .spins))
 k3 e = passed (e .before .spins-ok .result) (e .if1 .left) (e .before .spins-ok .ensures)
 
 k4 : (e : tie.Else2) → let a = S (e .before .before) .args in Inverse (a .plan .n) (a .plan .d) (now (a .fwd)) (now (a .bwd))

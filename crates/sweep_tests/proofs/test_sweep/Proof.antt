@@ -16,13 +16,13 @@ use Rattle.sweep_tests.proofs.test_sweep.Statement.{statement}
 use Rattle.sweep_tests.proofs.test_sweep.Tie as tie
 
 abbrev S : tie.After-plan-ok → tie.Start
-S t = t .before .before .before .before .before .before .before .before .before .before .before .before .before .before .before .before
+S t = t .before .before .before .before .before .before .before .before .before .before .before .before .before .before .before
 
 abbrev W : tie.Start → Sweep
 W s =
     let a = s .args in
     sweepOf (a .plan) (now (a .fwd)) (now (a .bwd)) (now (a .couplings)) (now (a .order)) (now (a .masks)) (now (a .temperatures)) (now (a .cuts))
-    (now (a .references)) (now (a .seeds)) (now (a .flips)) (now (a .perms)) (now (a .greys))
+    (now (a .references)) (now (a .seeds)) (now (a .choices)) (now (a .greys))
 
 abbrev B : tie.Start → Buffers
 B s = let a = s .args in buffersOf (now (a .spins)) (now (a .labels)) (now (a .grey-labels)) (now (a .counts)) (now (a .sizes))
@@ -68,7 +68,7 @@ returns-2 c =
 test-panel-requires : tie.Need-test-panel-requires
 test-panel-requires c κs =
     let f = fits c in
-    record { few = planned (E1 c) .ranged .lattice .s-high; fwd-long = f .each .fwd; bwd-long = f .each .bwd; order-long = f .order }
+    record { few = planned (E1 c) .ranged .lattice .s-high; spins-long = f .each .spins; fwd-long = f .each .fwd; bwd-long = f .each .bwd; order-long = f .order }
 
 returns-3 : tie.Need-returns-3
 returns-3 c =

@@ -8,7 +8,7 @@ use Rattle.sweep_tests.proofs.test_task.Statement.{statement}
 use Rattle.sweep_tests.proofs.test_task.Tie as tie
 
 abbrev S : tie.After-task-of → tie.Start
-S g = g .before .before .before .before .before .before .before .before .before .before .before .before
+S g = g .before .before .before .before .before .before .before .before .before .before .before
 
 task : (g : tie.After-task-of) → TaskOf (S g .args .plan) (S g .args .k)
 task g = let p = S g .pre in record { planned = p .tested .planned; below = p .below }
@@ -22,31 +22,26 @@ task-of-requires c κs = search needs
 task-cuts-requires : tie.Need-task-cuts-requires
 task-cuts-requires c κs = task c
 
-task-flips-requires : tie.Need-task-flips-requires
-task-flips-requires c κs = task (c .before)
-
-task-perms-requires : tie.Need-task-perms-requires
-task-perms-requires c κs = task (c .before .before)
+task-choices-requires : tie.Need-task-choices-requires
+task-choices-requires c κs = task (c .before)
 
 task-greys-requires : tie.Need-task-greys-requires
-task-greys-requires c κs = task (c .before .before .before)
+task-greys-requires c κs = task (c .before .before)
 
 returns : tie.Need-returns
 returns c = told-masked (sym (c .before .masked .ensures) ∙ c .if1 .taken)
 
 test-choices-requires : tie.Need-test-choices-requires
 test-choices-requires c κs =
-    let g4 = c .before in
-    let g3 = g4 .before in
+    let g3 = c .before in
     let g1 = g3 .before .before in
     let a = S g1 .args in
-    rw (g1 .task-of .ensures, g3 .task-flips .ensures, g4 .task-perms .ensures, c .task-greys .ensures)
+    rw (g1 .task-of .ensures, g3 .task-choices .ensures, c .task-greys .ensures)
     (task-tested (S g1 .pre) (now (a .temperatures)) (now (a .references)) (now (a .seeds)))
 
 returns-2 : tie.Need-returns-2
 returns-2 c =
-    let g5 = c .before in
-    let g4 = g5 .before in
+    let g4 = c .before in
     let g3 = g4 .before in
     let g2 = g3 .before in
     let g1 = g2 .before in
@@ -54,9 +49,8 @@ returns-2 c =
     told-parts (sym (e .before .masked .ensures) ∙ e .if1 .left)
     (g1 .task-of .ensures)
     (g2 .task-cuts .ensures)
-    (g3 .task-flips .ensures)
-    (g4 .task-perms .ensures)
-    (g5 .task-greys .ensures)
+    (g3 .task-choices .ensures)
+    (g4 .task-greys .ensures)
     (c .test-choices .ensures)
 
 pub test-task-spec : {M : Type 1} → statement M
@@ -67,8 +61,7 @@ test-task-spec =
     returns
     task-of-requires
     task-cuts-requires
-    task-flips-requires
-    task-perms-requires
+    task-choices-requires
     task-greys-requires
     test-choices-requires
     returns-2)

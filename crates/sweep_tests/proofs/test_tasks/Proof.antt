@@ -10,17 +10,17 @@ use Rattle.sweep_tests.proofs.test_tasks.Statement.{statement}
 use Rattle.sweep_tests.proofs.test_tasks.Tie as tie
 
 abbrev Inv-loop : tie.InvT-loop
-Inv-loop plan spins order masks temperatures cuts references seeds flips perms greys count k₀ k =
-    (k ≤ count) × TasksTold plan k spins order masks temperatures cuts references seeds flips perms greys 0
+Inv-loop plan spins order masks temperatures cuts references seeds choices greys count k₀ k =
+    (k ≤ count) × TasksTold plan k spins order masks temperatures cuts references seeds choices greys 0
 
 abbrev μ-loop : tie.MeasureT-loop
-μ-loop plan spins order masks temperatures cuts references seeds flips perms greys count k₀ k = count - k
+μ-loop plan spins order masks temperatures cuts references seeds choices greys count k₀ k = count - k
 
 abbrev C : tie.In-loop Inv-loop μ-loop → tie.After-task-count Inv-loop μ-loop
 C l = l .before .before
 
 abbrev S : tie.After-task-count Inv-loop μ-loop → tie.Start Inv-loop μ-loop
-S t = t .before .before .before .before .before .before .before .before .before .before
+S t = t .before .before .before .before .before .before .before .before .before
 
 below : (l : tie.In-loop Inv-loop μ-loop) → l .before .loop .k < tasksOf (S (C l) .args .plan)
 below l = rw (C l .task-count .ensures) at (l .loop-test .taken)
