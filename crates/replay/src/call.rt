@@ -1,11 +1,21 @@
-// One case's call, and the comparison of all that it wrote.
+// One case's call, and the comparison of all that it wrote. The outputs hold 65,535 before the call, as in the list.
 use crate::fields::Seen;
+use crate::fields::byte;
+use crate::fields::fill_fractions;
+use crate::fields::fill_systems;
+use crate::fields::fill_words;
+use crate::fields::fraction;
+use crate::fields::part;
+use crate::fields::past;
 use crate::fields::same_byte;
 use crate::fields::same_spins;
 use crate::fields::same_words;
+use crate::fields::word;
 use crate::head::Head;
+use crate::head::Sizes;
 use crate::head::form_of;
 use crate::head::mode_of;
+use crate::head::sizes_of;
 use paper::Answer;
 use paper::Group;
 use paper::Plan;
@@ -16,35 +26,6 @@ use paper::Task;
 struct Outcomes {
     idle: u32,
     moved: u32,
-}
-
-fn wide(x: u32) -> usize {
-    x as usize
-}
-
-fn at(xs: &[u32], k: usize) -> usize {
-    if k < xs.len() { wide(xs[k]) } else { 0 }
-}
-
-fn first(xs: &[f32]) -> f32 {
-    if 0 < xs.len() { xs[0] } else { 1.0 }
-}
-
-fn group_of(order: &[u32]) -> Group {
-    let systems = [
-        at(order, 0),
-        at(order, 1),
-        at(order, 2),
-        at(order, 3),
-        at(order, 4),
-        at(order, 5),
-        at(order, 6),
-        at(order, 7),
-    ];
-    Group {
-        len: order.len(),
-        systems,
-    }
 }
 
 fn of_step(a: Answer) -> Outcomes {
@@ -65,171 +46,6 @@ fn of_sweep(a: SweepAnswer) -> Outcomes {
             moved: 255,
         },
         SweepAnswer::Swept(idle, moved) => Outcomes { idle, moved },
-    }
-}
-
-fn step(
-    h: Head,
-    order: &[u32],
-    spins: &mut [i8],
-    fwd: &[u32],
-    bwd: &[u32],
-    couplings: &[i32],
-    temperatures: &[f32],
-    cuts: &[f32],
-    references: &[u32],
-    seeds: &[u32],
-    flips: &[u8],
-    perms: &[u8],
-    greys: &[u8],
-    labels: &mut [u32],
-    grey_labels: &mut [u32],
-    counts: &mut [u32],
-    sizes: &mut [u32],
-) -> Outcomes {
-    let t = Task {
-        mode: mode_of(h),
-        form: form_of(h),
-        n: h.n,
-        d: h.d,
-        s: h.s,
-        group: group_of(order),
-        temperature: first(temperatures),
-        reference: at(references, 0),
-        seed: at(seeds, 0),
-    };
-    let a = steps::overlap_step(
-        t,
-        spins,
-        fwd,
-        bwd,
-        couplings,
-        cuts,
-        flips,
-        perms,
-        greys,
-        labels,
-        grey_labels,
-        counts,
-        sizes,
-    );
-    of_step(a)
-}
-
-fn update(
-    h: Head,
-    order: &[u32],
-    masks: &[u8],
-    spins: &mut [i8],
-    fwd: &[u32],
-    bwd: &[u32],
-    couplings: &[i32],
-    temperatures: &[f32],
-    cuts: &[f32],
-    references: &[u32],
-    seeds: &[u32],
-    flips: &[u8],
-    perms: &[u8],
-    greys: &[u8],
-    labels: &mut [u32],
-    grey_labels: &mut [u32],
-    counts: &mut [u32],
-    sizes: &mut [u32],
-) -> Outcomes {
-    let plan = Plan {
-        mode: mode_of(h),
-        form: form_of(h),
-        n: h.n,
-        d: h.d,
-        s: h.s,
-        t: h.t,
-        r: h.r,
-        members: h.members,
-    };
-    let a = sweep::overlap_update(
-        plan,
-        spins,
-        fwd,
-        bwd,
-        couplings,
-        order,
-        masks,
-        temperatures,
-        cuts,
-        references,
-        seeds,
-        flips,
-        perms,
-        greys,
-        labels,
-        grey_labels,
-        counts,
-        sizes,
-    );
-    of_sweep(a)
-}
-
-fn run(
-    h: Head,
-    order: &[u32],
-    masks: &[u8],
-    spins: &mut [i8],
-    fwd: &[u32],
-    bwd: &[u32],
-    couplings: &[i32],
-    temperatures: &[f32],
-    cuts: &[f32],
-    references: &[u32],
-    seeds: &[u32],
-    flips: &[u8],
-    perms: &[u8],
-    greys: &[u8],
-    labels: &mut [u32],
-    grey_labels: &mut [u32],
-    counts: &mut [u32],
-    sizes: &mut [u32],
-) -> Outcomes {
-    if h.kind == 0 {
-        step(
-            h,
-            order,
-            spins,
-            fwd,
-            bwd,
-            couplings,
-            temperatures,
-            cuts,
-            references,
-            seeds,
-            flips,
-            perms,
-            greys,
-            labels,
-            grey_labels,
-            counts,
-            sizes,
-        )
-    } else {
-        update(
-            h,
-            order,
-            masks,
-            spins,
-            fwd,
-            bwd,
-            couplings,
-            temperatures,
-            cuts,
-            references,
-            seeds,
-            flips,
-            perms,
-            greys,
-            labels,
-            grey_labels,
-            counts,
-            sizes,
-        )
     }
 }
 
@@ -257,47 +73,222 @@ fn compare(
     same_words(list, f, sizes)
 }
 
-pub(crate) fn run_and_compare(
+// The group's systems stand at `from`, one byte each.
+fn group_of(list: &[u8], from: usize, z: Sizes) -> Group {
+    let xs = part(list, from, z.systems);
+    let systems = [
+        size(xs, 0),
+        size(xs, 1),
+        size(xs, 2),
+        size(xs, 3),
+        size(xs, 4),
+        size(xs, 5),
+        size(xs, 6),
+        size(xs, 7),
+    ];
+    Group {
+        len: z.systems,
+        systems,
+    }
+}
+
+fn size(list: &[u8], at: usize) -> usize {
+    byte(list, at) as usize
+}
+
+// The number at a place, where there is one.
+fn number(list: &[u8], at: usize, count: usize) -> usize {
+    if 0 < count { word(list, at) as usize } else { 0 }
+}
+
+fn temperature(list: &[u8], at: usize, count: usize) -> f32 {
+    if 0 < count { fraction(list, at) } else { 1.0 }
+}
+
+// Places behind fields of 4 and of 2 bytes; no field has 4,096 elements.
+fn past_fours(at: usize, count: usize) -> usize {
+    past(past(at, count), past(past(count, count), count))
+}
+
+fn past_twos(at: usize, count: usize) -> usize {
+    past(at, past(count, count))
+}
+
+// `a` is the place of its reference, `b` that of its seed.
+fn task_of(list: &[u8], from: usize, at: usize, a: usize, b: usize, h: Head, z: Sizes) -> Task {
+    Task {
+        mode: mode_of(h),
+        form: form_of(h),
+        n: h.n,
+        d: h.d,
+        s: h.s,
+        group: group_of(list, from, z),
+        temperature: temperature(list, at, z.temperatures),
+        reference: number(list, a, z.references),
+        seed: number(list, b, z.seeds),
+    }
+}
+
+fn plan_of(h: Head) -> Plan {
+    Plan {
+        mode: mode_of(h),
+        form: form_of(h),
+        n: h.n,
+        d: h.d,
+        s: h.s,
+        t: h.t,
+        r: h.r,
+        members: h.members,
+    }
+}
+
+// A move: its group stands at `from`, its temperature at `at`.
+pub(crate) fn step(
     list: &[u8],
     from: usize,
+    at: usize,
     h: Head,
-    order: &[u32],
-    masks: &[u8],
     spins: &mut [i8],
     fwd: &[u32],
     bwd: &[u32],
     couplings: &[i32],
-    temperatures: &[f32],
-    cuts: &[f32],
-    references: &[u32],
-    seeds: &[u32],
-    flips: &[u8],
-    perms: &[u8],
-    greys: &[u8],
-    labels: &mut [u32],
-    grey_labels: &mut [u32],
-    counts: &mut [u32],
-    sizes: &mut [u32],
 ) -> Seen {
-    let got = run(
-        h,
-        order,
-        masks,
+    let z = sizes_of(h);
+    let mut cuts_area = [0f32; 128];
+    let mut labels_area = [65535u32; 32];
+    let mut grey_area = [65535u32; 32];
+    let mut counts_area = [65535u32; 36];
+    let mut sizes_area = [65535u32; 16];
+    let bonds = z.cuts;
+    let sites = z.labels;
+    let grey_sites = z.grey_labels;
+    let more = z.counts;
+    let four = z.sizes;
+    let cuts = &mut cuts_area[..bonds];
+    let labels = &mut labels_area[..sites];
+    let grey_labels = &mut grey_area[..grey_sites];
+    let counts = &mut counts_area[..more];
+    let sizes = &mut sizes_area[..four];
+    let a = fill_fractions(list, past_fours(at, z.temperatures), cuts);
+    let b = past_twos(a, z.references);
+    let c = past_twos(b, z.seeds);
+    let d = past(c, z.choices);
+    let answer = steps::overlap_step(
+        task_of(list, from, at, a, b, h, z),
         spins,
         fwd,
         bwd,
         couplings,
-        temperatures,
         cuts,
-        references,
-        seeds,
-        flips,
-        perms,
-        greys,
+        part(list, c, z.choices),
+        part(list, d, z.greys),
         labels,
         grey_labels,
         counts,
         sizes,
     );
-    compare(list, from, got, spins, labels, grey_labels, counts, sizes)
+    let end = past(d, z.greys);
+    compare(list, end, of_step(answer), spins, labels, grey_labels, counts, sizes)
+}
+
+// A sweep: its masks stand at `masks`, its choices at `at`.
+fn update(
+    list: &[u8],
+    masks: usize,
+    at: usize,
+    h: Head,
+    spins: &mut [i8],
+    fwd: &[u32],
+    bwd: &[u32],
+    couplings: &[i32],
+    order: &[u32],
+    temperatures: &[f32],
+    cuts: &[f32],
+    references: &[u32],
+    seeds: &[u32],
+) -> Seen {
+    let z = sizes_of(h);
+    let mut labels_area = [65535u32; 32];
+    let mut grey_area = [65535u32; 32];
+    let mut counts_area = [65535u32; 36];
+    let mut sizes_area = [65535u32; 16];
+    let sites = z.labels;
+    let grey_sites = z.grey_labels;
+    let more = z.counts;
+    let four = z.sizes;
+    let labels = &mut labels_area[..sites];
+    let grey_labels = &mut grey_area[..grey_sites];
+    let counts = &mut counts_area[..more];
+    let sizes = &mut sizes_area[..four];
+    let d = past(at, z.choices);
+    let answer = sweep::overlap_update(
+        plan_of(h),
+        spins,
+        fwd,
+        bwd,
+        couplings,
+        order,
+        part(list, masks, z.times),
+        temperatures,
+        cuts,
+        references,
+        seeds,
+        part(list, at, z.choices),
+        part(list, d, z.greys),
+        labels,
+        grey_labels,
+        counts,
+        sizes,
+    );
+    let end = past(d, z.greys);
+    compare(list, end, of_sweep(answer), spins, labels, grey_labels, counts, sizes)
+}
+
+// A sweep: its order stands at `from`, its temperatures at `at`.
+pub(crate) fn sweep_tasks(
+    list: &[u8],
+    from: usize,
+    at: usize,
+    h: Head,
+    spins: &mut [i8],
+    fwd: &[u32],
+    bwd: &[u32],
+    couplings: &[i32],
+) -> Seen {
+    let z = sizes_of(h);
+    let mut order_area = [0u32; 32];
+    let mut heat_area = [0f32; 4];
+    let mut cuts_area = [0f32; 128];
+    let mut sites_area = [0u32; 4];
+    let mut seeds_area = [0u32; 4];
+    let systems = z.systems;
+    let times = z.temperatures;
+    let bonds = z.cuts;
+    let k = z.references;
+    let l = z.seeds;
+    let order = &mut order_area[..systems];
+    let temperatures = &mut heat_area[..times];
+    let cuts = &mut cuts_area[..bonds];
+    let references = &mut sites_area[..k];
+    let seeds = &mut seeds_area[..l];
+    let masks = fill_systems(list, from, order);
+    let a = fill_fractions(list, at, temperatures);
+    let b = fill_fractions(list, a, cuts);
+    let c = fill_words(list, b, references);
+    let d = fill_words(list, c, seeds);
+    update(
+        list,
+        masks,
+        d,
+        h,
+        spins,
+        fwd,
+        bwd,
+        couplings,
+        order,
+        temperatures,
+        cuts,
+        references,
+        seeds,
+    )
 }

@@ -68,23 +68,23 @@ fn halved(x: f32, times: u8) -> f32 {
 }
 
 // Three bytes m and one byte e, the number m / 2^e.
-fn fraction(list: &[u8], at: usize) -> f32 {
+pub(crate) fn fraction(list: &[u8], at: usize) -> f32 {
     let m = 256 * word(list, at) + wide(byte(list, past(at, 2)));
     halved(nearest_u32_to_f32(m), byte(list, past(at, 3)))
 }
 
-// Each of these fills a buffer from a place on, and answers the place behind.
-pub(crate) fn fill_bytes(list: &[u8], from: usize, out: &mut [u8]) -> usize {
-    let mut at = from;
-    let mut i = 0;
-    while i < out.len() {
-        out[i] = byte(list, at);
-        at = past(at, 1);
-        i += 1;
+// The bytes from a place on, as they stand in the list; fewer where it ends.
+pub(crate) fn part(list: &[u8], from: usize, count: usize) -> &[u8] {
+    let all = list.len();
+    if all <= from {
+        return &list[..0];
     }
-    at
+    let rest = all - from;
+    let end = if count < rest { from + count } else { all };
+    &list[from..end]
 }
 
+// Each of these fills a buffer from a place on, and answers the place behind.
 pub(crate) fn fill_systems(list: &[u8], from: usize, out: &mut [u32]) -> usize {
     let mut at = from;
     let mut i = 0;

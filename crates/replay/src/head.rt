@@ -5,6 +5,7 @@ use crate::fields::word;
 use paper::Form;
 use paper::Mode;
 ghost use Prim.Native.Nat.{_≤_};
+ghost use Rattle.replay.specs.Sizes.{Held};
 
 pub(crate) struct Head {
     pub(crate) kind: u8,
@@ -97,11 +98,53 @@ pub(crate) fn only(taken: bool, length: usize) -> usize
     if taken { length } else { 0 }
 }
 
-// The choices of one task: a component's at its label, or that of the seed's component.
-pub(crate) fn entries(h: Head) -> usize {
-    match form_of(h) {
-        Form::Sw => h.n,
-        Form::Wolff => 1,
-        Form::Observe => 0,
+// How many elements each buffer of the case has.
+pub(crate) struct Sizes {
+    pub(crate) systems: usize,
+    pub(crate) times: usize,
+    pub(crate) spins: usize,
+    pub(crate) bonds: usize,
+    pub(crate) couplings: usize,
+    pub(crate) temperatures: usize,
+    pub(crate) cuts: usize,
+    pub(crate) references: usize,
+    pub(crate) seeds: usize,
+    pub(crate) choices: usize,
+    pub(crate) greys: usize,
+    pub(crate) labels: usize,
+    pub(crate) grey_labels: usize,
+    pub(crate) counts: usize,
+    pub(crate) sizes: usize,
+}
+
+pub(crate) fn sizes_of(h: Head) -> Sizes
+    ensures { λ r. ⌜ Held r ⌝ }
+{
+    let mode = mode_of(h);
+    let form = form_of(h);
+    let drawn = mode.is_drawn();
+    let times = room(h.t, 1, 4);
+    let bonds = room(h.n, h.d, 32);
+    let couplings = only(drawn, bonds);
+    let tasks = room(h.tasks, 1, 4);
+    let labels = room(tasks, h.n, 32);
+    let picks = room(tasks, form.entries(h.n), 32);
+    let bytes = room(picks, mode.choice_width(h.members), 256);
+    Sizes {
+        systems: room(h.t, h.r, 32),
+        times,
+        spins: room(h.s, h.n, 64),
+        bonds,
+        couplings,
+        temperatures: only(drawn, times),
+        cuts: room(tasks, couplings, 128),
+        references: only(mode.is_gperm(), tasks),
+        seeds: only(form.is_wolff(), tasks),
+        choices: only(mode.takes_choices(form), bytes),
+        greys: only(mode.takes_greys(form), picks),
+        labels,
+        grey_labels: only(mode.takes_greys(form), labels),
+        counts: labels + tasks,
+        sizes: 4 * tasks,
     }
 }

@@ -14,7 +14,7 @@ use Rattle.paper.specs.Panel.Input.{Call, Choices, Buffers, pattern, spin, syst
 use Rattle.paper.specs.Panel.Takes.{takesGreys}
 use Rattle.paper.specs.Component.Sizes.{bit, countWhere}
 use Rattle.paper.specs.Refusal.Rule.{Kept}
-use Rattle.paper.specs.Refusal.Rules.{Spins, rules}
+use Rattle.paper.specs.Refusal.Rules.{AllSystems, Spins, rules}
 use Rattle.paper.specs.Refusal.Kept.{Valid, valid-of, valid-kept}
 use Rattle.paper.specs.Answer.Move.{Answers, Accepted, Accepted.idle, Accepted.moved}
 use Rattle.paper.specs.Answer.Task.{Sweep, tasks, masked, taskCall, taskChoices, areas, idleTask}
@@ -56,7 +56,7 @@ pub record Ran (w : Sweep) (b : Buffers) (K idle moved : ℕ) (b′ : Buffers) :
   pub idles : idle ≡ countWhere (isIdle w (b .spins)) K
   pub moveds : moved ≡ countWhere (isMoved w (b .spins)) K
   pub lengths : SameLengths b b′
-  pub spins : Spins (b′ .spins)
+  pub spins : Spins (w .lattice .n) (AllSystems (w .lattice .s)) (b′ .spins)
   pub each : (k : ℕ) → k < K → masked w k ≡ false → Done w b b′ k
   pub still : (k : ℕ) → k < tasks w → (masked w k ≡ true) ⊎ (K ≤ k) → areas w b′ (b .spins) k ≡ areas w b (b .spins) k
   pub others : (i t : ℕ) → i < w .lattice .n → UnmovedTo w K t → spin (w .lattice .n) (b′ .spins) t i ≡ spin (w .lattice .n) (b .spins) t i

@@ -1,4 +1,4 @@
--- What the functions that run a task ask and promise.
+-- A task's parts of the inputs, and its areas of the outputs.
 use Prim.Native.Nat.{ℕ, _+_, _-_, _*_}
 use mathlib.Core.Path.{_≡_, refl, sym, _∙_, ap}
 use mathlib.Core.Logic.{_≢_}
@@ -11,7 +11,7 @@ use Rattle.paper.specs.declared.Task.{Task}
 use Rattle.paper.specs.declared.Answer.{Answer}
 use Rattle.paper.specs.declared.Answer.the-variants.{Refused, Idle, Moved}
 use Rattle.paper.specs.Panel.Input.{Call, Buffers}
-use Rattle.paper.specs.Panel.Takes.{takesGreys, entries}
+use Rattle.paper.specs.Panel.Takes.{takesGreys, entries, choiceBytes}
 use Rattle.paper.specs.Refusal.Kept.{Valid}
 use Rattle.paper.specs.Answer.Move.{Answers}
 use Rattle.paper.specs.Answer.Task.{Sweep, part, taskCall, taskChoices, areas}
@@ -19,41 +19,27 @@ use Rattle.paper.specs.Answer.Sweep.{common}
 use Rattle.paper.specs.Law.Determined.{buffers-equal}
 use Rattle.paper.specs.Panel.Made.{callOf, choicesOf, buffersOf}
 use Rattle.paper.specs.Answer.Made.{planOf}
-use Rattle.tasks.specs.Plan.{Placing, Bounding, taskAt}
+use Rattle.tasks.specs.Plan.{Bounding, taskAt}
 use Rattle.tasks.specs.Parts.{back, lent-part, lent-length, back-length, back-own, back-other, back-same}
 use Rattle.sweep.specs.Spinning.{length-after}
 use Rattle.sweep.specs.Ascending.{Steps}
 
--- the task k of the sweep w, with its areas in b, can run
-pub record Ready (w : Sweep) (k : ℕ) (b : Buffers) : Type 0 where
-  pub placing : Placing (planOf w) k (w .order)
-  pub valid : Valid (taskCall w k) (taskChoices w k) b
-
--- with the areas of all tasks in b
-abbrev pub ReadyIn : Sweep → ℕ → Buffers → Type 0
-ReadyIn w k b = Ready w k (areas w b (b .spins) k)
-
--- the task k, lent the buffers b, answers r and leaves b′
-abbrev pub TaskAnswers : Sweep → ℕ → Buffers → Answer → Buffers → Type 0
-TaskAnswers w k b r b′ = Answers (taskCall w k) (taskChoices w k) b r b′
-
 -- these inputs are the task's
-pub record Parts (w : Sweep) (k : ℕ) (t : Task) (cs : List Float) (fs ps gs : List ℕ) : Type 0 where
+pub record Parts (w : Sweep) (k : ℕ) (t : Task) (cs : List Float) (ps gs : List ℕ) : Type 0 where
   pub task : t ≡ taskAt (planOf w) (w .order) (w .temperatures) (w .references) (w .seeds) k
   pub cuts : cs ≡ part k (w .lattice .n * w .lattice .d) (w .cuts)
-  pub flips : fs ≡ part k (w .lattice .n) (w .flips)
-  pub perms : ps ≡ part k (entries (w .form) (w .lattice .n) * w .members) (w .perms)
+  pub choices : ps ≡ part k (choiceBytes (w .mode) (w .form) (w .lattice .n) (w .members)) (w .choices)
   pub greys : gs ≡ part k (entries (w .form) (w .lattice .n)) (w .greys)
 
-module _ {w : Sweep} {k : ℕ} {t : Task} {cs : List Float} {fs ps gs : List ℕ} (e : Parts w k t cs fs ps gs) where
+module _ {w : Sweep} {k : ℕ} {t : Task} {cs : List Float} {ps gs : List ℕ} (e : Parts w k t cs ps gs) where
   abbrev callWith : Call
   callWith = callOf t (w .lattice .fwd) (w .lattice .bwd) (w .lattice .couplings) cs
 
-  pub valid-parts : {x : Buffers} → Valid (taskCall w k) (taskChoices w k) x → Valid callWith (choicesOf fs ps gs) x
-  valid-parts v = rw (e .task, e .cuts, e .flips, e .perms, e .greys) v
+  pub valid-parts : {x : Buffers} → Valid (taskCall w k) (taskChoices w k) x → Valid callWith (choicesOf ps gs) x
+  valid-parts v = rw (e .task, e .cuts, e .choices, e .greys) v
 
-  pub answers-parts : (x y : Buffers) (r : Answer) → Answers callWith (choicesOf fs ps gs) x r y → Answers (taskCall w k) (taskChoices w k) x r y
-  answers-parts x y r h = rw (e .task, e .cuts, e .flips, e .perms, e .greys) at h
+  pub answers-parts : (x y : Buffers) (r : Answer) → Answers callWith (choicesOf ps gs) x r y → Answers (taskCall w k) (taskChoices w k) x r y
+  answers-parts x y r h = rw (e .task, e .cuts, e .choices, e .greys) at h
 
 -- ---- the task's areas, lent and put back
 module _ (w : Sweep) (k : ℕ) (b : Buffers) {la lb ga gb ca cb za zb : ℕ} (hl : Bounding (length (b .labels)) k (w .lattice .n) la lb)

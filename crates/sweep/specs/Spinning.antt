@@ -1,10 +1,8 @@
 -- A task keeps every spin +1 or -1.
-use Prim.Native.Nat.{ℕ, _+_, _*_, _/_, _%_, _<_}
+use Prim.Native.Nat.{ℕ, _<_}
 use mathlib.Core.Path.{_≡_, ap}
 use mathlib.Core.Logic.{_⊎_, inl, inr, _≢_}
 use mathlib.Core.Bool.{true}
-use native.Mathlib.Omega.{arith}
-use native.Mathlib.Nat.{div-add-mod', mod-lt}
 use lib.ListN.{length}
 use Rattle.paper.specs.declared.Answer.{Answer}
 use Rattle.paper.specs.declared.Answer.the-variants.{Refused, Idle, Moved}
@@ -13,7 +11,7 @@ use Rattle.paper.specs.Panel.Takes.{moves}
 use Rattle.paper.specs.Site.Bonds.{holds}
 use Rattle.paper.specs.Component.Sizes.{labelOf}
 use Rattle.paper.specs.Move.Moving.{final}
-use Rattle.paper.specs.Refusal.Rules.{Spin, Spins}
+use Rattle.paper.specs.Refusal.Rules.{Spin, AllSystems, Spins}
 use Rattle.paper.specs.Refusal.Kept.{Valid, valid-of}
 use Rattle.paper.specs.Answer.Move.{Answers, Goes, Accepted, Accepted.idle, Accepted.moved}
 use Rattle.paper.specs.Law.Unique.{Placed, place, label-lt}
@@ -33,21 +31,15 @@ module _ (c : Call) (p : Choices) (b b′ : Buffers) (w : Goes c p b b′) where
       perms : moves (c .form) ≡ true → Rows c p (b′ .labels)
       perms e q i hi = rows c p b (w .valid) (rw (e, q)) (labelOf (b′ .labels) i) (label-lt (graph c) (holds c (b .spins)) (b′ .labels) (w .seen .labels) i hi)
 
-  moved-spins : Spins (b′ .spins)
-  moved-spins x l =
-      rw (← div-add-mod' x n)
-      (at (x / n) (x % n) (mod-lt x (w .valid .0 .lattice .n-low)) (rw (div-add-mod' x n) (omega (arith, w .moved .long))) (place (size c) (system c) (x / n)))
+  moved-spins : Spins (c .lattice .n) (AllSystems (c .lattice .s)) (b′ .spins)
+  moved-spins t i below hi = at (place (size c) (system c) t)
     where
-      n : ℕ
-      n = c .lattice .n
+      at : Placed (size c) (system c) t ⊎ ((k : ℕ) → k < size c → t ≢ system c k) → Spin (spin (c .lattice .n) (b′ .spins) t i)
+      at (inl r) = rw (r .2, w .moved .group i (r .0) hi (r .1)) (final-is i (r .0) hi (r .1))
+      at (inr r) = rw (w .moved .others i t hi r) (w .valid .1 .1 .0 t i below hi)
 
-      at :
-          (t i : ℕ) → i < n → t * n + i < length (b .spins) → Placed (size c) (system c) t ⊎ ((k : ℕ) → k < size c → t ≢ system c k)
-          → Spin (spin n (b′ .spins) t i)
-      at t i hi q (inl r) = rw (r .2, w .moved .group i (r .0) hi (r .1)) (final-is i (r .0) hi (r .1))
-      at t i hi q (inr r) = rw (w .moved .others i t hi r) (w .valid .1 .1 .0 (t * n + i) q)
-
-pub spins-after : (c : Call) (p : Choices) (b b′ : Buffers) (a : Answer) → Accepted a → Answers c p b a b′ → Spins (b′ .spins)
+pub spins-after :
+    (c : Call) (p : Choices) (b b′ : Buffers) (a : Answer) → Accepted a → Answers c p b a b′ → Spins (c .lattice .n) (AllSystems (c .lattice .s)) (b′ .spins)
 spins-after c p b b′ Idle idle w = rw (w .still) (w .valid .1 .1 .0)
 spins-after c p b b′ Moved moved w = moved-spins c p b b′ w
 

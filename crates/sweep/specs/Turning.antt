@@ -2,7 +2,6 @@
 use Prim.Native.Nat.{ℕ, zero, suc, _+_, _≤_, _<_}
 use mathlib.Core.Path.{_≡_}
 use mathlib.Core.Bool.{Bool, true, false}
-use mathlib.Core.List.{List}
 use native.Mathlib.Omega.{arith}
 use Rattle.paper.specs.declared.Answer.{Answer}
 use Rattle.paper.specs.Panel.Input.{Buffers}
@@ -33,29 +32,6 @@ pub record Turn (w : Sweep) (k : ℕ) (t : Outcomes) (b : Buffers) : Type 0 wher
 -- a turn takes a sweep in which the first k tasks have run to one in which k + 1 have
 pub record Turned (w : Sweep) (k : ℕ) (t : Outcomes) (b : Buffers) (t′ : Outcomes) (b′ : Buffers) : Type 0 where
   pub further : (b₀ : Buffers) → Kept (sweepRules w b₀) → k < tasks w → Ran w b₀ k (t .idle) (t .moved) b → Ran w b₀ (k + 1) (t′ .idle) (t′ .moved) b′
-
--- the masks do not matter to a task that runs
-abbrev pub remasked : Sweep → List ℕ → Sweep
-remasked w masks = record {
-  mode = w .mode;
-  form = w .form;
-  lattice = w .lattice;
-  t = w .t;
-  r = w .r;
-  members = w .members;
-  order = w .order;
-  masks = masks;
-  temperatures = w .temperatures;
-  cuts = w .cuts;
-  references = w .references;
-  seeds = w .seeds;
-  flips = w .flips;
-  perms = w .perms;
-  greys = w .greys;
-}
-
-pub remask : (w : Sweep) (masks : List ℕ) {k : ℕ} {b : Buffers} {a : Answer} {b′ : Buffers} → Steps w k b a b′ → Steps (remasked w masks) k b a b′
-remask w masks s = record { answers = s .answers; lengths = s .lengths; apart = s .apart; grey-kept = s .grey-kept }
 
 pub turned-masked : (w : Sweep) (k : ℕ) (t : Outcomes) (b : Buffers) → masked w k ≡ true → Turned w k t b t b
 turned-masked w k t b e = record { further = λ b₀ v l h. ran-masked w b₀ v k (t .idle) (t .moved) b l h e }

@@ -21,8 +21,7 @@ pub fn overlap_update(
     cuts: &[f32],
     references: &[u32],
     seeds: &[u32],
-    flips: &[u8],
-    perms: &[u8],
+    choices: &[u8],
     greys: &[u8],
     labels: &mut [u32],
     grey_labels: &mut [u32],
@@ -32,7 +31,7 @@ pub fn overlap_update(
     ensures { λ r. ⌜ SweepAnswers
         (sweepOf plan (now (fwd .entry)) (now (bwd .entry)) (now (couplings .entry)) (now (order .entry)) (now (masks .entry))
         (now (temperatures .entry)) (now (cuts .entry)) (now (references .entry)) (now (seeds .entry))
-        (now (flips .entry)) (now (perms .entry)) (now (greys .entry)))
+        (now (choices .entry)) (now (greys .entry)))
         (buffersOf (now (spins .entry)) (now (labels .entry)) (now («grey_labels» .entry)) (now (counts .entry)) (now (sizes .entry))) r
         (buffersOf (now (spins .exit)) (now (labels .exit)) (now («grey_labels» .exit)) (now (counts .exit)) (now (sizes .exit))) ⌝ }
 {
@@ -48,8 +47,7 @@ pub fn overlap_update(
         cuts,
         references,
         seeds,
-        flips,
-        perms,
+        choices,
         greys,
         labels,
         grey_labels,
@@ -71,8 +69,7 @@ pub fn overlap_update(
         cuts,
         references,
         seeds,
-        flips,
-        perms,
+        choices,
         greys,
         labels,
         grey_labels,

@@ -14,13 +14,13 @@ use Rattle.sweep.proofs.overlap_update.Tie as tie
 abbrev S : tie.After-test-sweep → tie.Start
 S t =
     t .before .before .before .before .before .before .before .before .before .before .before .before .before .before .before .before .before .before
-    .before .before .before
+    .before .before
 
 abbrev W : tie.Start → Sweep
 W s =
     let a = s .args in
     sweepOf (a .plan) (now (a .fwd)) (now (a .bwd)) (now (a .couplings)) (now (a .order)) (now (a .masks)) (now (a .temperatures)) (now (a .cuts))
-    (now (a .references)) (now (a .seeds)) (now (a .flips)) (now (a .perms)) (now (a .greys))
+    (now (a .references)) (now (a .seeds)) (now (a .choices)) (now (a .greys))
 
 abbrev B : tie.Start → Buffers
 B s = let a = s .args in buffersOf (now (a .spins)) (now (a .labels)) (now (a .grey-labels)) (now (a .counts)) (now (a .sizes))

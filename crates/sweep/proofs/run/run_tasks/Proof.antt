@@ -16,24 +16,24 @@ use Rattle.sweep.proofs.run.run_tasks.Statement.{statement}
 use Rattle.sweep.proofs.run.run_tasks.Tie as tie
 
 abbrev Inv-loop : tie.InvT-loop
-Inv-loop plan spins₀ fwd bwd couplings order masks temperatures cuts references seeds flips perms greys labels₀ greyLabels₀ counts₀ sizes₀ count outcomes₀ k₀
+Inv-loop plan spins₀ fwd bwd couplings order masks temperatures cuts references seeds choices greys labels₀ greyLabels₀ counts₀ sizes₀ count outcomes₀ k₀
     spins labels greyLabels counts sizes outcomes k =
-    Ran (sweepOf plan fwd bwd couplings order masks temperatures cuts references seeds flips perms greys) (buffersOf spins₀ labels₀ greyLabels₀ counts₀ sizes₀)
+    Ran (sweepOf plan fwd bwd couplings order masks temperatures cuts references seeds choices greys) (buffersOf spins₀ labels₀ greyLabels₀ counts₀ sizes₀)
     k (outcomes .idle) (outcomes .moved) (buffersOf spins labels greyLabels counts sizes)
 
 abbrev μ-loop : tie.MeasureT-loop
-μ-loop plan spins₀ fwd bwd couplings order masks temperatures cuts references seeds flips perms greys labels₀ greyLabels₀ counts₀ sizes₀ count outcomes₀ k₀
+μ-loop plan spins₀ fwd bwd couplings order masks temperatures cuts references seeds choices greys labels₀ greyLabels₀ counts₀ sizes₀ count outcomes₀ k₀
     spins labels greyLabels counts sizes outcomes k =
     count - k
 
 abbrev S : tie.After-task-count Inv-loop μ-loop → tie.Start Inv-loop μ-loop
-S t = t .before .before .before .before .before .before .before .before .before .before .before .before .before .before .before .before
+S t = t .before .before .before .before .before .before .before .before .before .before .before .before .before .before .before
 
 abbrev W : tie.Start Inv-loop μ-loop → Sweep
 W s =
     let a = s .args in
     sweepOf (a .plan) (now (a .fwd)) (now (a .bwd)) (now (a .couplings)) (now (a .order)) (now (a .masks)) (now (a .temperatures)) (now (a .cuts))
-    (now (a .references)) (now (a .seeds)) (now (a .flips)) (now (a .perms)) (now (a .greys))
+    (now (a .references)) (now (a .seeds)) (now (a .choices)) (now (a .greys))
 
 abbrev B : tie.Start Inv-loop μ-loop → Buffers
 B s = let a = s .args in buffersOf (now (a .spins)) (now (a .labels)) (now (a .grey-labels)) (now (a .counts)) (now (a .sizes))
@@ -52,7 +52,7 @@ abbrev now-at : tie.In-loop Inv-loop μ-loop → Buffers
 now-at l = let z = l .before .loop in buffersOf (z .spins) (z .labels) (z .grey-labels) (z .counts) (z .sizes)
 
 task-count-requires : tie.Need-task-count-requires Inv-loop μ-loop
-task-count-requires c κs = planned (c .before .before .before .before .before .before .before .before .before .before .before .before .before .before .before)
+task-count-requires c κs = planned (c .before .before .before .before .before .before .before .before .before .before .before .before .before .before)
 
 loop-holds : tie.Need-loop-holds Inv-loop μ-loop
 loop-holds c = let s = S c in ran-none (W s) (B s) (s .pre)

@@ -1,27 +1,39 @@
--- `step` meets its contract: a masked task is passed over.
+-- `step` meets its contract: a masked task is passed over; any other has its parts and its areas lent, and they are put back.
 use borrow.Author.Needs.{needs}
+use Prim.Native.Nat.{ℕ, _+_, _≤_}
 use mathlib.Core.Path.{_≡_, sym, _∙_}
 use mathlib.Core.Bool.{false}
-use mathlib.Core.List.{List, []}
-use Prim.Native.Nat.{ℕ}
+use native.Mathlib.Omega.{arith}
 use denote.Ref.{now}
 use Rattle.paper.specs.Panel.Input.{Buffers}
 use Rattle.paper.specs.Answer.Task.{Sweep}
 use Rattle.paper.specs.Panel.Made.{buffersOf}
 use Rattle.paper.specs.Answer.Made.{sweepOf}
-use Rattle.tasks.specs.Plan.{maskedAt}
-use Rattle.sweep.specs.Turning.{remask, turned-masked, turned-one}
+use Rattle.tasks.specs.Plan.{Few, few, maskedAt}
+use Rattle.tasks.specs.Parts.{Lendable, lendable}
+use Rattle.sweep.specs.Running.{Parts, valid-parts, answers-parts, areas-lent, steps-put}
+use Rattle.sweep.specs.Turning.{turned-masked, turned-one}
 use Rattle.sweep.proofs.run.step.Statement.{statement}
 use Rattle.sweep.proofs.run.step.Tie as tie
 
 abbrev S : tie.After-masked → tie.Start
-S t = t .before .before .before .before .before .before .before .before .before .before .before .before .before .before .before .before
+S t = t .before .before .before .before .before .before .before .before .before .before .before .before .before .before .before
 
-abbrev W : tie.Start → List ℕ → Sweep
-W s masks =
+-- past the bounds of the areas, and past the parts of the inputs
+abbrev T : tie.After-bounds4 → tie.Start
+T t = S (t .before .before .before .before .before)
+
+abbrev G : tie.After-task-greys → tie.After-task-of
+G g = g .before .before .before .before
+
+abbrev B4 : tie.After-task-greys → tie.After-bounds4
+B4 g = G g .before
+
+abbrev W : tie.Start → Sweep
+W s =
     let a = s .args in
-    sweepOf (a .plan) (now (a .fwd)) (now (a .bwd)) (now (a .couplings)) (now (a .order)) masks (now (a .temperatures)) (now (a .cuts))
-    (now (a .references)) (now (a .seeds)) (now (a .flips)) (now (a .perms)) (now (a .greys))
+    sweepOf (a .plan) (now (a .fwd)) (now (a .bwd)) (now (a .couplings)) (now (a .order)) (now (a .masks)) (now (a .temperatures)) (now (a .cuts))
+    (now (a .references)) (now (a .seeds)) (now (a .choices)) (now (a .greys))
 
 abbrev B : tie.Start → Buffers
 B s = let a = s .args in buffersOf (now (a .spins)) (now (a .labels)) (now (a .grey-labels)) (now (a .counts)) (now (a .sizes))
@@ -29,26 +41,140 @@ B s = let a = s .args in buffersOf (now (a .spins)) (now (a .labels)) (now (a .g
 unmasked : (e : tie.Else1) → let s = S (e .before) in maskedAt (s .args .plan) (now (s .args .masks)) (s .args .k) ≡ false
 unmasked e = sym (e .before .masked .ensures) ∙ e .if1 .left
 
+-- a task's areas have few elements
+small : (s : tie.Start) (m : ℕ) → m ≤ 32768 → Few (s .args .k) m
+small s m l = few (s .args .plan) (s .pre .placing .task .planned) (s .args .k) (s .pre .placing .task .below) m l
+
+sites : (s : tie.Start) → Few (s .args .k) (s .args .plan .n)
+sites s = small s (s .args .plan .n) (omega (arith, s .pre .placing .task .planned .ranged .lattice .n-high))
+
+counts : (s : tie.Start) → Few (s .args .k) (s .args .plan .n + 1)
+counts s = small s (s .args .plan .n + 1) (omega (arith, s .pre .placing .task .planned .ranged .lattice .n-high))
+
+fours : (s : tie.Start) → Few (s .args .k) 4
+fours s = small s 4 (omega arith)
+
+-- each area can be lent
+labels-lent : (t : tie.After-bounds4) → let r = t .before .before .before .bounds .result in Lendable (now (T t .args .labels)) (r .start) (r .end)
+labels-lent t = lendable (now (T t .args .labels)) (T t .args .k) (T t .args .plan .n) _ _ (t .before .before .before .bounds .ensures) (sites (T t))
+
+grey-labels-lent : (t : tie.After-bounds4) → let r = t .before .before .bounds2 .result in Lendable (now (T t .args .grey-labels)) (r .start) (r .end)
+grey-labels-lent t = lendable (now (T t .args .grey-labels)) (T t .args .k) (T t .args .plan .n) _ _ (t .before .before .bounds2 .ensures) (sites (T t))
+
+counts-lent : (t : tie.After-bounds4) → let r = t .before .bounds3 .result in Lendable (now (T t .args .counts)) (r .start) (r .end)
+counts-lent t = lendable (now (T t .args .counts)) (T t .args .k) (T t .args .plan .n + 1) _ _ (t .before .bounds3 .ensures) (counts (T t))
+
+sizes-lent : (t : tie.After-bounds4) → let r = t .bounds4 .result in Lendable (now (T t .args .sizes)) (r .start) (r .end)
+sizes-lent t = lendable (now (T t .args .sizes)) (T t .args .k) 4 _ _ (t .bounds4 .ensures) (fours (T t))
+
+parts : (g : tie.After-task-greys) → let s = T (B4 g) in
+    Parts (W s) (s .args .k) (G g .task-of .result) (now (g .before .before .task-cuts .result)) (now (g .before .task-choices .result))
+    (now (g .task-greys .result))
+parts g = record {
+  task = G g .task-of .ensures;
+  cuts = g .before .before .task-cuts .ensures;
+  choices = g .before .task-choices .ensures;
+  greys = g .task-greys .ensures;
+}
+
 masked-requires : tie.Need-masked-requires
 masked-requires c κs =
-    let s = c .before .before .before .before .before .before .before .before .before .before .before .before .before .before .before in
+    let s = c .before .before .before .before .before .before .before .before .before .before .before .before .before .before in
     s .pre .placing .task .planned
 
 returns : tie.Need-returns
 returns c =
     let s = S (c .before) in
-    turned-masked (W s (now (s .args .masks))) (s .args .k) (s .args .outcomes) (B s) (sym (c .before .masked .ensures) ∙ c .if1 .taken)
+    turned-masked (W s) (s .args .k) (s .args .outcomes) (B s) (sym (c .before .masked .ensures) ∙ c .if1 .taken)
 
-run-one-requires : tie.Need-run-one-requires
-run-one-requires c κs =
-    let e = c .before .before .before .before .before in
-    let s = S (e .before) in
-    record { placing = s .pre .placing; valid = s .pre .valid (unmasked e) }
+bounds-requires : tie.Need-bounds-requires
+bounds-requires c κs = sites (S (c .before))
+
+bounds-requires-2 : tie.Need-bounds-requires-2
+bounds-requires-2 c κs = sites (S (c .before .before))
+
+add-bounds : tie.Need-add-bounds
+add-bounds c = let s = S (c .before .before .before) in omega (arith, s .pre .placing .task .planned .ranged .lattice .n-high)
+
+bounds-requires-3 : tie.Need-bounds-requires-3
+bounds-requires-3 c κs = counts (S (c .before .before .before))
+
+bounds-requires-4 : tie.Need-bounds-requires-4
+bounds-requires-4 c κs = fours (S (c .before .before .before .before))
+
+task-of-requires : tie.Need-task-of-requires
+task-of-requires c κs = T c .pre .placing
+
+task-cuts-requires : tie.Need-task-cuts-requires
+task-cuts-requires c κs = T (c .before .before) .pre .placing .task
+
+task-choices-requires : tie.Need-task-choices-requires
+task-choices-requires c κs = T (c .before .before .before) .pre .placing .task
+
+task-greys-requires : tie.Need-task-greys-requires
+task-greys-requires c κs = T (c .before .before .before .before) .pre .placing .task
+
+mul-run-task : tie.Need-mul-run-task
+mul-run-task c = omega (arith, labels-lent (B4 c) .few)
+
+sub-run-task : tie.Need-sub-run-task
+sub-run-task c = labels-lent (B4 c) .ordered
+
+part-run-task-start : tie.Need-part-run-task-start
+part-run-task-start c = labels-lent (B4 c) .ordered
+
+part-run-task-end : tie.Need-part-run-task-end
+part-run-task-end c = labels-lent (B4 c) .inside
+
+mul-run-task-2 : tie.Need-mul-run-task-2
+mul-run-task-2 c = omega (arith, grey-labels-lent (B4 (c .before)) .few)
+
+sub-run-task-2 : tie.Need-sub-run-task-2
+sub-run-task-2 c = grey-labels-lent (B4 (c .before)) .ordered
+
+part-run-task-start-2 : tie.Need-part-run-task-start-2
+part-run-task-start-2 c = grey-labels-lent (B4 (c .before)) .ordered
+
+part-run-task-end-2 : tie.Need-part-run-task-end-2
+part-run-task-end-2 c = grey-labels-lent (B4 (c .before)) .inside
+
+mul-run-task-3 : tie.Need-mul-run-task-3
+mul-run-task-3 c = omega (arith, counts-lent (B4 (c .before .before)) .few)
+
+sub-run-task-3 : tie.Need-sub-run-task-3
+sub-run-task-3 c = counts-lent (B4 (c .before .before)) .ordered
+
+part-run-task-start-3 : tie.Need-part-run-task-start-3
+part-run-task-start-3 c = counts-lent (B4 (c .before .before)) .ordered
+
+part-run-task-end-3 : tie.Need-part-run-task-end-3
+part-run-task-end-3 c = counts-lent (B4 (c .before .before)) .inside
+
+mul-run-task-4 : tie.Need-mul-run-task-4
+mul-run-task-4 c = omega (arith, sizes-lent (B4 (c .before .before .before)) .few)
+
+sub-run-task-4 : tie.Need-sub-run-task-4
+sub-run-task-4 c = sizes-lent (B4 (c .before .before .before)) .ordered
+
+part-run-task-start-4 : tie.Need-part-run-task-start-4
+part-run-task-start-4 c = sizes-lent (B4 (c .before .before .before)) .ordered
+
+part-run-task-end-4 : tie.Need-part-run-task-end-4
+part-run-task-end-4 c = sizes-lent (B4 (c .before .before .before)) .inside
+
+run-task-requires : tie.Need-run-task-requires
+run-task-requires c κs =
+    let g = c .before .before .before .before in
+    let t = B4 g in
+    let s = T t in
+    let lent = areas-lent (W s) (s .args .k) (B s) (t .before .before .before .bounds .ensures) (t .before .before .bounds2 .ensures)
+    (t .before .bounds3 .ensures) (t .bounds4 .ensures) in
+    valid-parts (parts g) (rw lent at (s .pre .valid (unmasked (t .before .before .before .before))))
 
 add-requires : tie.Need-add-requires
 add-requires c κs =
     let r = c .before .before .before .before .before .before .before .before .before in
-    S (r .before .before .before .before .before .before .before) .pre .room
+    T (B4 (r .before .before .before .before .before)) .pre .room
 
 same-length : tie.Need-same-length
 same-length c = search needs
@@ -68,10 +194,18 @@ same-length-5 c = search needs
 returns-2 : tie.Need-returns-2
 returns-2 c =
     let r = c .before .before .before .before .before .before .before .before .before .before in
-    let e = r .before .before .before .before .before .before in
-    let s = S (e .before) in
-    turned-one (W s (now (s .args .masks))) (s .args .k) (s .args .outcomes) (B s) (r .run-one .result) (c .add .result) _ (unmasked e)
-    (remask (W s []) (now (s .args .masks)) (r .run-one .ensures)) (c .add .ensures)
+    let g = r .before .before .before .before .before in
+    let t = B4 g in
+    let s = T t in
+    let z = r .run-task in
+    turned-one (W s) (s .args .k) (s .args .outcomes) (B s) (z .result) (c .add .result) _ (unmasked (t .before .before .before .before))
+    (steps-put (W s) (s .args .k) (B s) (t .before .before .before .bounds .ensures) (t .before .before .bounds2 .ensures)
+    (t .before .bounds3 .ensures) (t .bounds4 .ensures)
+    (z .last .1 .0) (z .last .1 .1 .1 .1 .1 .1 .1 .1 .0) (z .last .1 .1 .1 .1 .1 .1 .1 .1 .1 .0)
+    (z .last .1 .1 .1 .1 .1 .1 .1 .1 .1 .1 .0) (z .last .1 .1 .1 .1 .1 .1 .1 .1 .1 .1 .1 .0)
+    (z .kept .1 .1 .1 .1 .1 .1 .1 .1 .0) (z .kept .1 .1 .1 .1 .1 .1 .1 .1 .1 .0)
+    (z .kept .1 .1 .1 .1 .1 .1 .1 .1 .1 .1 .0) (z .kept .1 .1 .1 .1 .1 .1 .1 .1 .1 .1 .1 .0)
+    (z .result) (answers-parts (parts g) _ _ (z .result) (z .ensures))) (c .add .ensures)
 
 pub step-spec : {M : Type 1} → statement M
 step-spec =
@@ -79,7 +213,32 @@ step-spec =
     (tie.spec
     masked-requires
     returns
-    run-one-requires
+    bounds-requires
+    bounds-requires-2
+    add-bounds
+    bounds-requires-3
+    bounds-requires-4
+    task-of-requires
+    task-cuts-requires
+    task-choices-requires
+    task-greys-requires
+    mul-run-task
+    sub-run-task
+    part-run-task-start
+    part-run-task-end
+    mul-run-task-2
+    sub-run-task-2
+    part-run-task-start-2
+    part-run-task-end-2
+    mul-run-task-3
+    sub-run-task-3
+    part-run-task-start-3
+    part-run-task-end-3
+    mul-run-task-4
+    sub-run-task-4
+    part-run-task-start-4
+    part-run-task-end-4
+    run-task-requires
     add-requires
     same-length
     same-length-2

@@ -1,0 +1,2 @@
+-- What the buffers of a case have room for.
+pub mod Sizes
