@@ -37,7 +37,7 @@ module _ {text : List ℕ} {b : Held} {z : Sizes} {g : Group} {a : Held} (r : Re
       words-length (bytes (line3 text)) (frameLattice text [] .n * frameLattice text [] .d) (spelling .fwd-line .long)
       ∙ ap (λ (y : Sizes). y .n * y .d) (sym (r .sizes))
 
-  pub perms-count : length (frameChoices text .perms) ≡ z .n * g .len
+  pub perms-count : length (frameChoices text .choices) ≡ z .n * g .len
   perms-count = spelling .perms-line .long ∙ (λ i. sym (r .sizes) i .n * sym (r .group) i .len)
 
   pub spins-part : take (z .s * z .n) (a .spins) ≡ frameBuffers text .spins
@@ -46,8 +46,8 @@ module _ {text : List ℕ} {b : Held} {z : Sizes} {g : Group} {a : Held} (r : Re
   pub fwd-part : take (z .n * z .d) (a .fwd) ≡ frameLattice text [] .fwd
   fwd-part = rw (r .fwd) (take-at (frameLattice text [] .fwd) (drop (z .n * z .d) (b .fwd)) (z .n * z .d) fwd-count)
 
-  pub perms-part : take (z .n * g .len) (a .perms) ≡ frameChoices text .perms
-  perms-part = rw (r .perms) (take-at (frameChoices text .perms) (drop (z .n * g .len) (b .perms)) (z .n * g .len) perms-count)
+  pub perms-part : take (z .n * g .len) (a .perms) ≡ frameChoices text .choices
+  perms-part = rw (r .perms) (take-at (frameChoices text .choices) (drop (z .n * g .len) (b .perms)) (z .n * g .len) perms-count)
 
 -- ---- what was written, m bytes of out′
 module _ (text out : List ℕ) (m : ℕ) (out′ : List ℕ) where

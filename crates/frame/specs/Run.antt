@@ -84,7 +84,7 @@ pub record PermMoved (n d s : ℕ) (g : Group) (fwd perms : List ℕ) (b : Buffe
   pub long : length bwd ≡ n * d
   pub reversed : Reversed n d fwd bwd
   pub grey : List ℕ
-  pub answers : Answers (permCall n d s fwd bwd g) (choicesOf [] perms []) b r (buffersOf spins labels grey counts sizes)
+  pub answers : Answers (permCall n d s fwd bwd g) (choicesOf perms []) b r (buffersOf spins labels grey counts sizes)
 
 -- what is written for a move's answer
 abbrev pub answerText : Answer → List ℕ → List ℕ → List ℤ → List ℕ
@@ -212,7 +212,7 @@ module _ {text : List ℕ} {b : Held} {z : Sizes} {g : Group} {a : Held} (h : Re
   }
     where
       moved : PermMoved (frameLattice text [] .n) (frameLattice text [] .d) (frameLattice text [] .s) (frameCall text [] .group) (frameLattice text [] .fwd)
-          (frameChoices text .perms) (frameBuffers text) (v .answer) (v .bwd) (v .after .spins) (v .after .labels) (v .after .counts) (v .after .sizes)
+          (frameChoices text .choices) (frameBuffers text) (v .answer) (v .bwd) (v .after .spins) (v .after .labels) (v .after .counts) (v .after .sizes)
       moved = subst (λ x. x) (λ i. PermMoved (h .sizes i .n) (h .sizes i .d) (h .sizes i .s) (h .group i) (fwd-part h i) (perms-part h i) (buffers i)
           (v .answer) (v .bwd) (v .after .spins) (v .after .labels) (v .after .counts) (v .after .sizes)) (v .moved)
         where
@@ -249,7 +249,7 @@ panel-given {text} {b} {z} {g} h r k = record {
   rooms = record {
     spins = rw (h .spins) (behind (frameBuffers text .spins) (b .spins) (z .s * z .n) (spins-count h) (r .spins));
     fwd = rw (h .fwd) (behind (frameLattice text [] .fwd) (b .fwd) (z .n * z .d) (fwd-count h) (r .fwd));
-    perms = rw (h .perms) (behind (frameChoices text .perms) (b .perms) (z .n * g .len) (perms-count h) (r .perms));
+    perms = rw (h .perms) (behind (frameChoices text .choices) (b .perms) (z .n * g .len) (perms-count h) (r .perms));
   };
   blank = k;
 }

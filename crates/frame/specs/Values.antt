@@ -46,8 +46,7 @@ module _ (text bwd : List ℕ) (s : Spelling text) (long : length bwd ≡ frameL
     bwd = long;
     couplings = λ e. never e;
     cuts = λ e. never e;
-    flips = λ e. never e;
-    perms = λ e. s .perms-line .long;
+    choices = λ e. s .perms-line .long;
     greys = λ e. never e;
     labels = table-length (frameLattice text [] .n) (λ k. 0);
     grey-labels = λ e. never e;

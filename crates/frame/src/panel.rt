@@ -14,7 +14,7 @@ ghost use Rattle.frame_lines.specs.Reading.{Held, Readout};
 ghost use Rattle.frame_lines.specs.Writing.{WrittenAs};
 ghost use Rattle.frame.specs.Run.{PermMoved, Writable, answerText, MoveWritten, PanelGiven, RunAs};
 
-// The move takes no couplings, cuts, flips or grey numbers: they are empty.
+// The move takes no couplings, cuts or grey numbers: they are empty.
 fn perm_move(
     n: usize,
     d: usize,
@@ -55,7 +55,6 @@ fn perm_move(
         bwd,
         &couplings[..0],
         &cuts[..0],
-        &perms[..0],
         perms,
         &perms[..0],
         labels,

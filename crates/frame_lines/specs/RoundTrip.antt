@@ -7,7 +7,7 @@ use native.Mathlib.Omega.{arith}
 use lib.ListN.{length, getD, length-map, List·getD-map}
 use lib.IntN.{ℤ, pos}
 use lib.Signed.{mag}
-use Rattle.paper.specs.Refusal.Rules.{Spin, Spins}
+use Rattle.paper.specs.Refusal.Rules.{Spin}
 use Rattle.paper.specs.Answer.Frame.{hex, next, bytes, words, signed, twoBytes, spinByte, line}
 use Rattle.frame_text.specs.Digits.{Below, hex-digits, unhex-hex}
 use Rattle.frame_text.specs.Line.{Clean, digits-clean, first-line, next-line}
@@ -44,7 +44,7 @@ signed-back [] h = refl
 signed-back (z ∷ zs) h = λ i. signed-spinByte z (h 0 (omega arith)) i ∷ signed-back zs (λ k l. h (suc k) (omega arith)) i
 
 -- every spin is one
-pub spins-signed : (zs : List ℤ) → Spins zs → SignedBytes zs
+pub spins-signed : (zs : List ℤ) → ((k : ℕ) → k < length zs → Spin (getD zs k (pos 0))) → SignedBytes zs
 spins-signed zs h k l = at (getD zs k (pos 0)) (h k l)
   where
     at : (z : ℤ) → Spin z → mag z < 128

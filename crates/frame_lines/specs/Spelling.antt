@@ -6,7 +6,7 @@ use mathlib.Core.List.{List, [], _∷_, _++_}
 use native.Mathlib.Omega.{arith}
 use lib.ListN.{length}
 use Rattle.paper.specs.Refusal.Rule.{Rule, rule, Kept, Broken}
-use Rattle.paper.specs.Refusal.Rules.{Spins, Grouped, Chosen}
+use Rattle.paper.specs.Refusal.Rules.{AllSystems, Spins, Grouped, Chosen}
 use Rattle.paper.specs.Answer.Frame.{next, Spelt, Frame, frameLattice, frameBuffers, frameCall, frameChoices}
 use Rattle.paper.specs.Answer.Frame.{groupBytes, FrameSizes, HasBack, GroupSize, frameRules}
 
@@ -36,7 +36,7 @@ spellingRules text =
 
 abbrev pub valueRules : List ℕ → List Rule
 valueRules text =
-    rule 3 (Spins (frameBuffers text .spins))
+    rule 3 (Spins (frameLattice text [] .n) (AllSystems (frameLattice text [] .s)) (frameBuffers text .spins))
     ∷ rule 4 (HasBack text)
     ∷ rule 5 (Grouped (frameLattice text [] .s) (frameCall text [] .group))
     ∷ rule 9 (Chosen (frameCall text []) (frameChoices text))

@@ -18,7 +18,7 @@ use Rattle.paper.specs.Answer.Task.{Sweep}
 use Rattle.paper.specs.Answer.Sweep.{SweepRanged, sweepRules, SweepAnswers}
 use Rattle.paper.specs.Answer.Made.{sweepOf, planOf}
 use Rattle.tasks.specs.Plan.{Planned}
-use Rattle.tsorvenk.specs.Number.{Coded, Returned, valuesTo}
+use Rattle.tsorvenk.specs.Number.{Coded, takenOf, Returned, valuesTo}
 use Rattle.tsorvenk.specs.Sweep.{planFor, WithOutcomes, withOutcomes, outcomeRules, OutcomeAnswers, SweepNumbers, Roomless, Told}
 
 -- ---- the counts, written one after the other
@@ -66,9 +66,10 @@ module _ (w : Sweep) (b : Buffers) (ts : List ℕ) where
 module _ {n d s t r members : ℕ} {fwd bwd : List ℕ} {couplings : List ℤ} {order masks : List ℕ} {temperatures cuts : List Float}
     {references seeds flips perms greys : List ℕ} {m m′ : Mode} {f f′ : Form} where
   pub same-sweep : m ≡ m′ → f ≡ f′
-      → sweepOf (planFor m f n d s t r members) fwd bwd couplings order masks temperatures cuts references seeds flips perms greys
-      ≡ sweepOf (planFor m′ f′ n d s t r members) fwd bwd couplings order masks temperatures cuts references seeds flips perms greys
-  same-sweep em ef = λ i. sweepOf (planFor (em i) (ef i) n d s t r members) fwd bwd couplings order masks temperatures cuts references seeds flips perms greys
+      → sweepOf (planFor m f n d s t r members) fwd bwd couplings order masks temperatures cuts references seeds (takenOf m flips perms) greys
+      ≡ sweepOf (planFor m′ f′ n d s t r members) fwd bwd couplings order masks temperatures cuts references seeds (takenOf m′ flips perms) greys
+  same-sweep em ef = λ i.
+      sweepOf (planFor (em i) (ef i) n d s t r members) fwd bwd couplings order masks temperatures cuts references seeds (takenOf (em i) flips perms) greys
 
 pub uncoded-sweep : {mode form : ℕ} {w : Sweep} {l : WithOutcomes} → (Coded mode form → ⊥) → SweepNumbers mode form w l 1 l
 uncoded-sweep none = record { known = λ k. absurd (none k); unknown = λ _. record { number = refl; kept = refl } }

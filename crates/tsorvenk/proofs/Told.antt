@@ -1,6 +1,6 @@
 -- The returned number is that of the answer that was given.
 use Prim.Native.Nat.{ℕ}
-use mathlib.Core.Path.{_≡_, refl}
+use mathlib.Core.Path.{_≡_, refl, _∙_, ap}
 use mathlib.Core.Logic.{inl, inr}
 use mathlib.Core.List.{List, [], _∷_}
 use native.Mathlib.Omega.{arith}
@@ -13,11 +13,12 @@ use Rattle.paper.specs.declared.Group.{Group}
 use Rattle.paper.specs.declared.Answer.{Answer}
 use Rattle.paper.specs.declared.MeterAnswer.the-variants.{Unmetered, Energy}
 use Rattle.paper.specs.Panel.Input.{Lattice, Call, Choices, Buffers}
+use Rattle.paper.specs.Panel.Made.{choicesOf}
 use Rattle.paper.specs.Refusal.Rule.{Broken}
 use Rattle.paper.specs.Refusal.Rules.{Sizes}
 use Rattle.paper.specs.Answer.Move.{Answers}
 use Rattle.paper.specs.Answer.Meter.{meterRules, MeterAnswers}
-use Rattle.tsorvenk.specs.Number.{Coded, numberOf}
+use Rattle.tsorvenk.specs.Number.{Coded, takenOf, numberOf}
 use Rattle.tsorvenk.specs.Step.{StepAnswers}
 use Rattle.tsorvenk.specs.Energy.{energyRules, EnergyAnswers}
 
@@ -48,9 +49,15 @@ module _ {t : Lattice} {x : Float} {cuts : List Float} {q s : ℕ} {m m′ : Mod
   pub same-call : m ≡ m′ → f ≡ f′ → g ≡ g′ → callBy t x cuts q s m f g ≡ callBy t x cuts q s m′ f′ g′
   same-call em ef eg = λ i. callBy t x cuts q s (em i) (ef i) (eg i)
 
-module _ {mode form : ℕ} {c c′ : Call} {p : Choices} {b b′ : Buffers} {k : ℕ} where
-  pub known-code : (a : Answer) → k ≡ numberOf a → c ≡ c′ → Coded mode form → Answers c p b a b′ → StepAnswers mode form c′ p b k b′
-  known-code a ek ec d h = record { known = λ _. record { answer = a; allowed = rw ec at h; number = ek }; unknown = λ none. absurd (none d) }
+-- and the choices of that mode
+pub same-choices :
+    {m m′ : Mode} {choices flips perms greys : List ℕ} → choices ≡ takenOf m flips perms → m ≡ m′
+    → choicesOf choices greys ≡ choicesOf (takenOf m′ flips perms) greys
+same-choices {flips = flips} {perms} {greys} e em = λ i. choicesOf ((e ∙ ap (λ (z : Mode). takenOf z flips perms) em) i) greys
+
+module _ {mode form : ℕ} {c c′ : Call} {p p′ : Choices} {b b′ : Buffers} {k : ℕ} where
+  pub known-code : (a : Answer) → k ≡ numberOf a → c ≡ c′ → p ≡ p′ → Coded mode form → Answers c p b a b′ → StepAnswers mode form c′ p′ b k b′
+  known-code a ek ec ep d h = record { known = λ _. record { answer = a; allowed = rw (ec, ep) at h; number = ek }; unknown = λ none. absurd (none d) }
 
 -- ---- the meter
 module _ (t : Lattice) (xs : List ℤ) (k : ℕ) (es : List ℤ) where

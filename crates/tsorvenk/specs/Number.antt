@@ -1,6 +1,7 @@
 -- The numbers of the C interface: codes of modes and forms, and what is returned for an answer.
 use Prim.Native.Nat.{ℕ, zero, suc, _+_, _≤_}
 use mathlib.Core.Path.{_≡_}
+use mathlib.Core.Bool.{cond}
 use mathlib.Core.List.{List, [], _∷_}
 use native.Mathlib.Decide.{decLe}
 use lib.ListN.{length, getD}
@@ -11,6 +12,7 @@ use Rattle.paper.specs.declared.Form.{Form}
 use Rattle.paper.specs.declared.Form.the-variants.{Sw, Wolff, Observe}
 use Rattle.paper.specs.declared.Answer.{Answer}
 use Rattle.paper.specs.declared.Answer.the-variants.{Refused, Idle, Moved}
+use Rattle.paper.specs.Panel.Takes.{isPerm}
 use Rattle.paper.specs.Answer.Number.{number}
 use Rattle.paper.specs.Answer.Task.{table}
 
@@ -35,6 +37,10 @@ formOf (suc (suc k)) = Observe
 -- as many systems as are lent. A group has room for eight; more are refused for their number
 abbrev pub groupOf : List ℕ → Group
 groupOf xs = record { len = length xs; systems = table 8 (λ k. getD xs k 0) }
+
+-- the choices: of the two buffers that are lent the permutations in the modes that permute, in all others the flips
+abbrev pub takenOf : Mode → List ℕ → List ℕ → List ℕ
+takenOf mode flips perms = cond (isPerm mode) perms flips
 
 -- a step's answer: the paper's number, and for idle a mark of this interface on it
 abbrev pub numberOf : Answer → ℕ

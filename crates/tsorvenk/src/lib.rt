@@ -16,7 +16,7 @@ ghost use Rattle.label.specs.Entry.{labellingNumber};
 ghost use Rattle.meter.specs.Part.{latticeOf};
 ghost use Rattle.paper.specs.Panel.Made.{callOf, choicesOf, buffersOf};
 ghost use Rattle.steps.specs.Rule.{taskOf};
-ghost use Rattle.tsorvenk.specs.Number.{modeOf, formOf, groupOf, numberOf};
+ghost use Rattle.tsorvenk.specs.Number.{modeOf, formOf, groupOf, takenOf, numberOf};
 ghost use Rattle.tsorvenk.specs.Step.{StepAnswers};
 ghost use Rattle.tsorvenk.specs.Energy.{EnergyAnswers};
 ghost use Rattle.tsorvenk.specs.Label.{LabelAnswers};
@@ -77,6 +77,13 @@ fn group_of(group: &[u32]) -> Group
     }
 }
 
+// Of flips and permutations, what the mode takes.
+fn taken<'a>(mode: Mode, flips: &'a [u8], perms: &'a [u8]) -> &'a [u8]
+    ensures { λ r. ⌜ now r ≡ takenOf mode (now (flips .entry)) (now (perms .entry)) ⌝ }
+{
+    if mode.is_perm() { perms } else { flips }
+}
+
 fn number_of(answer: Answer) -> u8
     ensures { λ r. ⌜ r ≡ numberOf answer ⌝ }
 {
@@ -87,7 +94,7 @@ fn number_of(answer: Answer) -> u8
     }
 }
 
-// One move or observation. The length of `group` is the number of its systems.
+// One move or observation. The length of `group` is the number of its systems. Of `flips` and `perms` the mode takes one, and the other is ignored.
 #[no_mangle]
 pub extern "C" fn tsorvenk_step(
     mode: u8,
@@ -115,7 +122,7 @@ pub extern "C" fn tsorvenk_step(
     ensures { λ r. ⌜ StepAnswers mode form
         (callOf (taskOf (modeOf mode) (formOf form) n d s (groupOf (now (group .entry))) temperature reference seed)
         (now (fwd .entry)) (now (bwd .entry)) (now (couplings .entry)) (now (cuts .entry)))
-        (choicesOf (now (flips .entry)) (now (perms .entry)) (now (greys .entry)))
+        (choicesOf (takenOf (modeOf mode) (now (flips .entry)) (now (perms .entry))) (now (greys .entry)))
         (buffersOf (now (spins .entry)) (now (labels .entry)) (now («grey_labels» .entry)) (now (counts .entry)) (now (sizes .entry)))
         r
         (buffersOf (now (spins .exit)) (now (labels .exit)) (now («grey_labels» .exit)) (now (counts .exit)) (now (sizes .exit))) ⌝ }
@@ -126,8 +133,9 @@ pub extern "C" fn tsorvenk_step(
     if 2 < form {
         return 1;
     }
+    let m = mode_of(mode);
     let t = Task {
-        mode: mode_of(mode),
+        mode: m,
         form: form_of(form),
         n,
         d,
@@ -137,6 +145,7 @@ pub extern "C" fn tsorvenk_step(
         reference,
         seed,
     };
+    let choices = taken(m, flips, perms);
     let answer = steps::overlap_step(
         t,
         spins,
@@ -144,8 +153,7 @@ pub extern "C" fn tsorvenk_step(
         bwd,
         couplings,
         cuts,
-        flips,
-        perms,
+        choices,
         greys,
         labels,
         grey_labels,

@@ -1,6 +1,7 @@
 // A sweep, as C and Rust call it.
 use super::form_of;
 use super::mode_of;
+use super::taken;
 use paper::Form;
 use paper::Mode;
 use paper::Plan;
@@ -9,7 +10,7 @@ ghost use mathlib.Core.Path.{_≡_};
 ghost use lib.ListN.{length};
 ghost use Rattle.paper.specs.Panel.Made.{buffersOf};
 ghost use Rattle.paper.specs.Answer.Made.{sweepOf};
-ghost use Rattle.tsorvenk.specs.Number.{modeOf, formOf};
+ghost use Rattle.tsorvenk.specs.Number.{modeOf, formOf, takenOf};
 ghost use Rattle.tsorvenk.specs.Sweep.{planFor, Roomless, Told, withOutcomes, SweepNumbers};
 
 // What is refused for want of room for the two counts: test 1 comes first.
@@ -70,7 +71,7 @@ pub extern "C" fn tsorvenk_sweep(
     ensures { λ k. ⌜ SweepNumbers mode form
         (sweepOf (planFor (modeOf mode) (formOf form) n d s t r members) (now (fwd .entry)) (now (bwd .entry)) (now (couplings .entry)) (now (order .entry))
         (now (masks .entry)) (now (temperatures .entry)) (now (cuts .entry)) (now (references .entry)) (now (seeds .entry))
-        (now (flips .entry)) (now (perms .entry)) (now (greys .entry)))
+        (takenOf (modeOf mode) (now (flips .entry)) (now (perms .entry))) (now (greys .entry)))
         (withOutcomes (buffersOf (now (spins .entry)) (now (labels .entry)) (now («grey_labels» .entry)) (now (counts .entry)) (now (sizes .entry)))
         (now (outcomes .entry)))
         k
@@ -83,8 +84,9 @@ pub extern "C" fn tsorvenk_sweep(
     if 2 < form {
         return 1;
     }
+    let m = mode_of(mode);
     let plan = Plan {
-        mode: mode_of(mode),
+        mode: m,
         form: form_of(form),
         n,
         d,
@@ -96,6 +98,7 @@ pub extern "C" fn tsorvenk_sweep(
     if outcomes.len() != 2 {
         return roomless(plan);
     }
+    let choices = taken(m, flips, perms);
     let answer = sweep::overlap_update(
         plan,
         spins,
@@ -108,8 +111,7 @@ pub extern "C" fn tsorvenk_sweep(
         cuts,
         references,
         seeds,
-        flips,
-        perms,
+        choices,
         greys,
         labels,
         grey_labels,

@@ -1,7 +1,7 @@
 -- `tsorvenk_step` meets its contract: a code that is none is refused, and any other call is answered by `overlap_step`.
 use borrow.Author.Needs.{needs}
 use native.Mathlib.Omega.{arith}
-use Rattle.tsorvenk.proofs.Told.{unknown-code, known-code, same-call}
+use Rattle.tsorvenk.proofs.Told.{unknown-code, known-code, same-call, same-choices}
 use Rattle.tsorvenk.proofs.tsorvenk_step.Statement.{statement}
 use Rattle.tsorvenk.proofs.tsorvenk_step.Tie as tie
 
@@ -19,6 +19,9 @@ form-of-requires c κs = search needs
 
 group-of-requires : tie.Need-group-of-requires
 group-of-requires c κs = search needs
+
+taken-requires : tie.Need-taken-requires
+taken-requires c κs = search needs
 
 overlap-step-requires : tie.Need-overlap-step-requires
 overlap-step-requires c κs = search needs
@@ -47,10 +50,12 @@ step-of c = c .before .before .before .before .before .before .before .before .b
 returns-3 : tie.Need-returns-3
 returns-3 c =
     let o = step-of c in
-    let g = o .before .before .before .before .before .before in
+    let t = o .before .before .before .before .before .before in
+    let g = t .before in
     let f = g .before in
     let m = f .before in
     known-code (o .overlap-step .result) (c .number-of .ensures) (same-call (m .mode-of .ensures) (f .form-of .ensures) (g .group-of .ensures))
+    (same-choices (t .taken .ensures) (m .mode-of .ensures))
     (record { mode-known = m .before .before .if1 .left; form-known = m .before .if2 .left })
     (o .overlap-step .ensures)
 
@@ -63,6 +68,7 @@ tsorvenk-step-spec =
     mode-of-requires
     form-of-requires
     group-of-requires
+    taken-requires
     overlap-step-requires
     number-of-requires
     same-length

@@ -23,14 +23,11 @@ slice-aggregate-overlap-step-2 c = search needs
 slice-aggregate-overlap-step-3 : tie.Need-slice-aggregate-overlap-step-3
 slice-aggregate-overlap-step-3 c = search needs
 
-slice-aggregate-overlap-step-4 : tie.Need-slice-aggregate-overlap-step-4
-slice-aggregate-overlap-step-4 c = search needs
-
 array-borrow-prefix-grey-labels : tie.Need-array-borrow-prefix-grey-labels
 array-borrow-prefix-grey-labels c = search needs
 
-slice-aggregate-overlap-step-5 : tie.Need-slice-aggregate-overlap-step-5
-slice-aggregate-overlap-step-5 c = search needs
+slice-aggregate-overlap-step-4 : tie.Need-slice-aggregate-overlap-step-4
+slice-aggregate-overlap-step-4 c = search needs
 
 overlap-step-requires : tie.Need-overlap-step-requires
 overlap-step-requires c κs = search needs
@@ -54,7 +51,7 @@ returns : tie.Need-returns
 unfolding ofInt ofBits
 returns c =
     let o = c .before .before .before .before .before .before .before .before in
-    let k = o .before .before .before .before .before .before .before .before .before .before .before .before .before in
+    let k = o .before .before .before .before .before .before .before .before .before .before .before .before in
     record { long = search needs; reversed = reversed-of _ _ _ (k .backward .result) _ (k .backward .ensures); grey = _; answers = o .overlap-step .ensures }
 
 pub perm-move-spec : {M : Type 1} → statement M
@@ -67,9 +64,8 @@ perm-move-spec =
     array-share-prefix-cuts
     slice-aggregate-overlap-step-2
     slice-aggregate-overlap-step-3
-    slice-aggregate-overlap-step-4
     array-borrow-prefix-grey-labels
-    slice-aggregate-overlap-step-5
+    slice-aggregate-overlap-step-4
     overlap-step-requires
     same-length
     same-length-2

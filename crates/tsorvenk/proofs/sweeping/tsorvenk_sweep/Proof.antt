@@ -9,7 +9,7 @@ use Rattle.paper.specs.Panel.Input.{Buffers}
 use Rattle.paper.specs.Answer.Task.{Sweep}
 use Rattle.paper.specs.Panel.Made.{buffersOf}
 use Rattle.paper.specs.Answer.Made.{sweepOf}
-use Rattle.tsorvenk.specs.Number.{Coded, modeOf, formOf}
+use Rattle.tsorvenk.specs.Number.{Coded, modeOf, formOf, takenOf}
 use Rattle.tsorvenk.specs.Sweep.{planFor}
 use Rattle.tsorvenk.proofs.Swept.{same-sweep, uncoded-sweep, roomless-sweep, coded-sweep}
 use Rattle.tsorvenk.proofs.sweeping.tsorvenk_sweep.Statement.{statement}
@@ -27,7 +27,7 @@ abbrev W : tie.Start → Mode → Form → Sweep
 W k m f =
     let a = k .args in
     sweepOf (planFor m f (a .n) (a .d) (a .s) (a .t) (a .r) (a .members)) (now (a .fwd)) (now (a .bwd)) (now (a .couplings)) (now (a .order)) (now (a .masks))
-    (now (a .temperatures)) (now (a .cuts)) (now (a .references)) (now (a .seeds)) (now (a .flips)) (now (a .perms)) (now (a .greys))
+    (now (a .temperatures)) (now (a .cuts)) (now (a .references)) (now (a .seeds)) (takenOf m (now (a .flips)) (now (a .perms))) (now (a .greys))
 
 abbrev B : tie.Start → Buffers
 B k = let a = k .args in buffersOf (now (a .spins)) (now (a .labels)) (now (a .grey-labels)) (now (a .counts)) (now (a .sizes))
@@ -63,6 +63,9 @@ returns-3 c =
     roomless-sweep (made f) (meant f) (B (F f)) (now (F f .args .outcomes)) (c .roomless .result) (known f)
     (same-sweep (f .before .mode-of .ensures) (f .form-of .ensures)) (e .if3 .taken) (c .roomless .ensures)
 
+taken-requires : tie.Need-taken-requires
+taken-requires c κs = search needs
+
 overlap-update-requires : tie.Need-overlap-update-requires
 overlap-update-requires c κs = search needs
 
@@ -91,10 +94,11 @@ returns-4 : tie.Need-returns-4
 returns-4 c =
     let t = c .before .before in
     let o = t .before .before .before .before .before .before .before .before .before .before .before in
-    let e = o .before .before .before .before .before .before in
+    let k = o .before .before .before .before .before .before in
+    let e = k .before in
     let f = e .before in
     coded-sweep (made f) (meant f) (B (F f)) (now (F f .args .outcomes)) (t .tell .result) (o .overlap-update .result) _ _ (known f)
-    (same-sweep (f .before .mode-of .ensures) (f .form-of .ensures)) (e .if3 .left) (o .overlap-update .ensures) (t .tell .ensures)
+    (same-sweep (f .before .mode-of .ensures) (f .form-of .ensures)) (e .if3 .left) (rw (k .taken .ensures) at (o .overlap-update .ensures)) (t .tell .ensures)
 
 pub tsorvenk-sweep-spec : {M : Type 1} → statement M
 tsorvenk-sweep-spec =
@@ -106,6 +110,7 @@ tsorvenk-sweep-spec =
     form-of-requires
     roomless-requires
     returns-3
+    taken-requires
     overlap-update-requires
     tell-requires
     same-length
