@@ -98,7 +98,11 @@ fn size(list: &[u8], at: usize) -> usize {
 
 // The number at a place, where there is one.
 fn number(list: &[u8], at: usize, count: usize) -> usize {
-    if 0 < count { word(list, at) as usize } else { 0 }
+    if 0 < count {
+        word(list, at) as usize
+    } else {
+        0
+    }
 }
 
 fn temperature(list: &[u8], at: usize, count: usize) -> f32 {
@@ -188,7 +192,8 @@ pub(crate) fn step(
         sizes,
     );
     let end = past(d, z.greys);
-    compare(list, end, of_step(answer), spins, labels, grey_labels, counts, sizes)
+    let got = of_step(answer);
+    compare(list, end, got, spins, labels, grey_labels, counts, sizes)
 }
 
 // A sweep: its masks stand at `masks`, its choices at `at`.
@@ -241,7 +246,8 @@ fn update(
         sizes,
     );
     let end = past(d, z.greys);
-    compare(list, end, of_sweep(answer), spins, labels, grey_labels, counts, sizes)
+    let got = of_sweep(answer);
+    compare(list, end, got, spins, labels, grey_labels, counts, sizes)
 }
 
 // A sweep: its order stands at `from`, its temperatures at `at`.

@@ -104,13 +104,7 @@ fn seed_ok(t: Task, spins: &[i8]) -> bool
 }
 
 // The number of the first test that fails, or 0.
-pub fn test_choices(
-    t: Task,
-    spins: &[i8],
-    cuts: &[f32],
-    choices: &[u8],
-    greys: &[u8],
-) -> u8
+pub fn test_choices(t: Task, spins: &[i8], cuts: &[f32], choices: &[u8], greys: &[u8]) -> u8
     requires { ⌜ Tested t (now spins) (now choices) (now greys) ⌝ }
     ensures { λ r. ⌜ EveryCall t (now (cuts .entry))
         (λ c. Verdict (choiceRules c (choicesOf (now (choices .entry)) (now (greys .entry))) (now (spins .entry))) r) ⌝ }

@@ -1,6 +1,6 @@
 -- `spins_ok` meets its contract: after i turns the flag tells of the spins below i, and all of them are all rows.
 use Prim.Native.Nat.{ℕ, zero, suc, _-_, _+_, _*_, _/_, _%_, _<_}
-use mathlib.Core.Path.{_≡_, refl}
+use mathlib.Core.Path.{_≡_}
 use mathlib.Core.List.{List}
 use native.Mathlib.Omega.{arith}
 use native.Mathlib.Nat.{div-add-mod', mod-lt, div-lt-iff-lt-mul}
@@ -13,7 +13,7 @@ use mir.Syntax.{w8}
 use mir.Facts.{toZ-ofZ}
 use Rattle.paper.specs.Refusal.Rules.{Spin, AllSystems, Spins}
 use Rattle.paper.specs.Law.Cells.{cell-lt}
-use Rattle.lattice.specs.Telling.{Test, Each, Flagged, said, same, flag-start, flag-more, flag-end}
+use Rattle.lattice.specs.Telling.{Test, Flagged, said, same, flag-start, flag-more, flag-end}
 use Rattle.lattice.proofs.spins_ok.Statement.{statement}
 use Rattle.lattice.proofs.spins_ok.Tie as tie
 

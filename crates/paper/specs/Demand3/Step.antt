@@ -1,10 +1,9 @@
 -- What an accepted call of a reversible mode tells, all of it from the rules that it keeps.
-use Prim.Native.Nat.{ℕ, suc, _+_, _*_, _<_, _≤_}
+use Prim.Native.Nat.{ℕ, _<_}
 use mathlib.Core.Path.{_≡_, refl, _∙_, ap}
 use mathlib.Core.Bool.{true, false}
 use mathlib.Core.List.{List}
 use native.Mathlib.Omega.{arith}
-use native.Mathlib.Nat.{mul-le-mul-right, suc-mul}
 use lib.ListN.{length}
 use lib.IntN.{ℤ}
 use Rattle.paper.specs.declared.Form.{Form}
