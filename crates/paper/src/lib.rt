@@ -1,7 +1,8 @@
 // The types of document 01. Its definitions are in specs/, read in the order of specs/Lib.antt.
 ghost use mathlib.Core.Path.{_≡_};
 ghost use Rattle.paper.specs.Site.Bonds.{samplerOf};
-ghost use Rattle.paper.specs.Panel.Takes.{isPerm, isGperm, isCmr, isDrawn, isSw, isWolff, moves, flipsBy, permsBy, choicesBy, greysBy, entries, choiceWidth};
+ghost use Rattle.paper.specs.Panel.Takes.{isPerm, isGperm, isCmr, isDrawn, isSw, isWolff, moves};
+ghost use Rattle.paper.specs.Panel.Takes.{flipsBy, permsBy, choicesBy, greysBy, entries, choiceWidth};
 
 // A group: its size and up to eight system numbers.
 pub struct Group {

@@ -109,7 +109,9 @@ flipsOf c f = table (c .lattice .n) f
 -- k to p(q(k)); "Pair and houd choices add modulo 2"
 abbrev pub composite : Call → Choices → Choices → Choices
 composite c p q = record {
-  choices = cond (isPerm (c .mode)) (permsOf c (λ r k. permRow c p r (permRow c q r k))) (flipsOf c (λ l. (getD (p .choices) l 0 + getD (q .choices) l 0) % 2));
+  choices =
+      cond (isPerm (c .mode)) (permsOf c (λ r k. permRow c p r (permRow c q r k)))
+      (flipsOf c (λ l. (getD (p .choices) l 0 + getD (q .choices) l 0) % 2));
   greys = [];
 }
 

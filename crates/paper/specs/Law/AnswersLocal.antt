@@ -139,7 +139,8 @@ module _ {c : Call} {p : Choices} {b : Buffers} {xs : List ℤ} (s : Instead c b
 
 -- whatever the other systems' rows are
 module _
-    (c : Call) (p : Choices) (b b′ : Buffers) (xs : List ℤ) (long : length xs ≡ length (b .spins)) (spinning : Spins (c .lattice .n) (AllSystems (c .lattice .s)) xs)
+    (c : Call) (p : Choices) (b b′ : Buffers) (xs : List ℤ) (long : length xs ≡ length (b .spins))
+    (spinning : Spins (c .lattice .n) (AllSystems (c .lattice .s)) xs)
     (same : (i : ℕ) → i < c .lattice .n → Agree (size c) (pattern c xs i) (pattern c (b .spins) i))
   where
     s : Instead c b xs

@@ -7,7 +7,8 @@ use mathlib.Core.List.{List}
 use lib.ListN.{length, getD}
 use lib.IntN.{ℤ}
 use Rattle.paper.specs.Panel.Input.{Call, Choices, Buffers, size}
-use Rattle.paper.specs.Panel.Takes.{isWolff, takesCuts, takesFlips, takesPerms, takesChoices, takesGreys, takesReference, takesSeed, entries, choiceBytes}
+use Rattle.paper.specs.Panel.Takes.{isWolff, entries, choiceBytes}
+use Rattle.paper.specs.Panel.Takes.{takesCuts, takesFlips, takesPerms, takesChoices, takesGreys, takesReference, takesSeed}
 use Rattle.paper.specs.Site.Acting.{acts, SomeActs}
 use Rattle.paper.specs.Refusal.Rules.{Exact, Grouped, Permutes, SmallCouplings, Warm, Cuts, NotIdentity, Chosen, Seeded, choiceRules, rules}
 use Rattle.paper.specs.Answer.Same.{SameTaken, SameLent}

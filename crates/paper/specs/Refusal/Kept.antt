@@ -4,7 +4,8 @@ use lib.IntN.{ℤ}
 use Rattle.paper.specs.Panel.Input.{Call, Choices, Buffers, size}
 use Rattle.paper.specs.Panel.Takes.{takesCuts}
 use Rattle.paper.specs.Refusal.Rule.{Kept}
-use Rattle.paper.specs.Refusal.Rules.{When, Ranged, Exact, AllSystems, Spins, Inverse, Grouped, SmallCouplings, Warm, Cuts, Chosen, Seeded, choiceRules, rules}
+use Rattle.paper.specs.Refusal.Rules.{When, Ranged, Exact, AllSystems, Spins, Inverse, Grouped, SmallCouplings, Warm, Cuts}
+use Rattle.paper.specs.Refusal.Rules.{Chosen, Seeded, choiceRules, rules}
 
 -- 1 to 7
 pub record Sound (c : Call) (p : Choices) (b : Buffers) : Type 0 where

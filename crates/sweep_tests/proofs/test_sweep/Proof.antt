@@ -68,7 +68,13 @@ returns-2 c =
 test-panel-requires : tie.Need-test-panel-requires
 test-panel-requires c κs =
     let f = fits c in
-    record { few = planned (E1 c) .ranged .lattice .s-high; spins-long = f .each .spins; fwd-long = f .each .fwd; bwd-long = f .each .bwd; order-long = f .order }
+    record {
+      few = planned (E1 c) .ranged .lattice .s-high;
+      spins-long = f .each .spins;
+      fwd-long = f .each .fwd;
+      bwd-long = f .each .bwd;
+      order-long = f .order;
+    }
 
 returns-3 : tie.Need-returns-3
 returns-3 c =
