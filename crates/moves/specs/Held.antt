@@ -153,7 +153,7 @@ module _
     {t : Task} {fwd : List ℕ} {couplings : List ℤ} {cuts : List Float} {xs : List ℤ} {cols flags holding grey tally labels counts sizes : List ℕ} {r : Bool}
     (bwd : List ℕ) (h : HoldLeaves t fwd couplings cuts flags cols holding grey) (tested : Tested (t .mode) (t .n) (t .d) fwd (t .group) xs)
     (s : Sights (t .mode) (t .n) (t .group) (t .reference) xs cols flags r)
-    (l : Labelled (t .n) (t .d) fwd holding labels tally) (o : Reported labels counts sizes)
+    (l : Labelled (t .n) (t .d) fwd holding labels tally) (o : Reported everyOne labels counts sizes)
   where
     abbrev c : Call
     c = callOf t fwd bwd couplings cuts

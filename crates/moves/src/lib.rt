@@ -85,10 +85,13 @@ fn label_task(
 {
     let mode = t.mode;
     let group = t.group;
-    let some = rules::look(mode, t.n, spins, group, t.reference, cols, acts);
+    let n = t.n;
+    let some = rules::look(mode, n, spins, group, t.reference, cols, acts);
     hold(t, fwd, couplings, cuts, acts, cols, holds, grey);
-    label::label(t.n, t.d, fwd, holds, labels, tally);
-    label::count(labels, tally, counts, sizes);
+    label::label(n, t.d, fwd, holds, labels, tally);
+    // every component is counted, also a site that does not act
+    let every = [1u8; 4096];
+    label::count(labels, tally, &every[..n], counts, sizes);
     some
 }
 
