@@ -42,6 +42,12 @@ pub record JorgIn (n d : ℕ) (fwd : List ℕ) (couplings : List ℤ) (cuts : Li
   pub size-high : m ≤ 8
   pub cols-long : length cols ≡ n
 
+pub record BlueIn (n d : ℕ) (fwd : List ℕ) (couplings : List ℤ) (cuts : List Float) (cols blue : List ℕ) : Type 0 where
+  pub forward : Forward n d fwd
+  pub coupled : Coupled n d couplings cuts
+  pub cols-long : length cols ≡ n
+  pub blue-long : length blue ≡ n * d
+
 pub record CmrIn (n d : ℕ) (fwd : List ℕ) (couplings : List ℤ) (cuts : List Float) (cols blue grey : List ℕ) : Type 0 where
   pub forward : Forward n d fwd
   pub coupled : Coupled n d couplings cuts

@@ -9,7 +9,7 @@ ghost use Rattle.paper.specs.Site.Acting.{eqZ, sum};
 ghost use Rattle.paper.specs.Site.Bonds.{whole, drawn, pairTerm, jorgHolds, kindOf, blueHolds, greyHolds};
 ghost use Rattle.paper.specs.Component.Marks.{Marks};
 ghost use Rattle.columns.specs.Column.{shown};
-ghost use Rattle.bonds.specs.Table.{ActiveIn, JorgIn, CmrIn, CmrOut, Acts, bothActing, jorgAt, blueAt, greyAt};
+ghost use Rattle.bonds.specs.Table.{ActiveIn, JorgIn, BlueIn, CmrIn, CmrOut, Acts, bothActing, jorgAt, blueAt, greyAt};
 ghost use Rattle.bonds.specs.Row.{Row, BothRows, Blank};
 use paper::BondKind;
 use paper::Group;
@@ -131,6 +131,27 @@ pub fn draw_grey(kind: BondKind, sampler: Sampler, cut: f32) -> bool
     }
 }
 
+// What `draw_blue` makes of the kind that `classify` tells: tests that steer no jump, which random spins would make unforeseeable.
+fn blue_bond(a: u8, b: u8, coupling: i32, sampler: Sampler, cut: f32) -> bool
+    requires { ⌜ natAbs coupling ≤ 1000000 ⌝ }
+    ensures { λ r. ⌜ r ≡ blueHolds (kindOf coupling (shown a) (shown b)) sampler cut ⌝ }
+{
+    let same = agree(a) == agree(b);
+    let up = aligned(a, b, coupling) > 0;
+    same & up & is_drawn(sampler.four, size(coupling), cut)
+}
+
+// What `draw_grey` makes of it, once it is told whether the bond is blue.
+fn grey_bond(blue: bool, a: u8, b: u8, coupling: i32, sampler: Sampler, cut: f32) -> bool
+    requires { ⌜ natAbs coupling ≤ 1000000 ⌝ }
+    requires { ⌜ blue ≡ blueHolds (kindOf coupling (shown a) (shown b)) sampler cut ⌝ }
+    ensures { λ r. ⌜ r ≡ greyHolds (kindOf coupling (shown a) (shown b)) sampler cut ⌝ }
+{
+    let differ = agree(a) != agree(b);
+    let some = coupling != 0;
+    blue | (differ & some & is_drawn(sampler.two, size(coupling), cut))
+}
+
 // The bonds of site i.
 fn cmr_site(
     i: usize,
@@ -154,9 +175,12 @@ fn cmr_site(
     let col = cols[i];
     for e in 0..d {
         let b = base + e;
-        let kind = classify(col, cols[wide(fwd[b])], couplings[b]);
-        blue[b] = draw_blue(kind, sampler, cuts[b]) as u8;
-        grey[b] = draw_grey(kind, sampler, cuts[b]) as u8;
+        let other = cols[wide(fwd[b])];
+        let coupling = couplings[b];
+        let cut = cuts[b];
+        let on = blue_bond(col, other, coupling, sampler, cut);
+        blue[b] = on as u8;
+        grey[b] = grey_bond(on, col, other, coupling, sampler, cut) as u8;
     }
 }
 
@@ -178,6 +202,52 @@ pub fn cmr_bonds(
 {
     for i in 0..n {
         cmr_site(i, d, fwd, couplings, cuts, sampler, cols, blue, grey);
+    }
+}
+
+// The blue bonds of site i.
+fn blue_site(
+    i: usize,
+    d: usize,
+    fwd: &[u32],
+    couplings: &[i32],
+    cuts: &[f32],
+    sampler: Sampler,
+    cols: &[u8],
+    blue: &mut [u8],
+)
+    requires { ⌜ BlueIn (length (now cols)) d (now fwd) (now couplings) (now cuts) (now cols) (now blue) ⌝ }
+    requires { ⌜ i < length (now cols) ⌝ }
+    ensures { λ _. ⌜ Row (i * d) d
+        (blueAt d (now (fwd .entry)) (now (couplings .entry)) (now (cuts .entry)) sampler (now (cols .entry)) i)
+        (now (blue .entry)) (now (blue .exit)) ⌝ }
+{
+    let base = i * d;
+    let col = cols[i];
+    for e in 0..d {
+        let b = base + e;
+        blue[b] = blue_bond(col, cols[wide(fwd[b])], couplings[b], sampler, cuts[b]) as u8;
+    }
+}
+
+// The blue bonds alone, which are all that an observation labels.
+pub fn blue_bonds(
+    n: usize,
+    d: usize,
+    fwd: &[u32],
+    couplings: &[i32],
+    cuts: &[f32],
+    sampler: Sampler,
+    cols: &[u8],
+    blue: &mut [u8],
+)
+    requires { ⌜ BlueIn n d (now fwd) (now couplings) (now cuts) (now cols) (now blue) ⌝ }
+    ensures { λ _. ⌜ Marks n d
+        (blueAt d (now (fwd .entry)) (now (couplings .entry)) (now (cuts .entry)) sampler (now (cols .entry)))
+        (now (blue .exit)) ⌝ }
+{
+    for i in 0..n {
+        blue_site(i, d, fwd, couplings, cuts, sampler, cols, blue);
     }
 }
 

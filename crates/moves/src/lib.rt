@@ -39,7 +39,12 @@ fn hold(
     let mode = t.mode;
     let sampler = Sampler::new(t.temperature);
     if mode.is_cmr() {
-        bonds::cmr_bonds(t.n, t.d, fwd, couplings, cuts, sampler, cols, holds, grey);
+        let form = t.form;
+        if form.moves() {
+            bonds::cmr_bonds(t.n, t.d, fwd, couplings, cuts, sampler, cols, holds, grey);
+        } else {
+            bonds::blue_bonds(t.n, t.d, fwd, couplings, cuts, sampler, cols, holds);
+        }
     } else {
         if mode.is_drawn() {
             let group = t.group;

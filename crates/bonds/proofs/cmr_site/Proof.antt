@@ -5,7 +5,10 @@ use native.Mathlib.Nat.{le-antisymm}
 use native.Mathlib.Omega.{arith}
 use borrow.Author.Needs.{needs}
 use lib.ListN.{length, getD}
+use lib.IntN.{pos}
 use lib.Ieee.{nan}
+use mir.Syntax.{w32}
+use mir.Val.{toZ, ofZ}
 use Rattle.paper.specs.declared.BondKind.{BondKind}
 use Rattle.paper.specs.Site.Bonds.{kindOf, blueHolds, greyHolds}
 use Rattle.paper.specs.Component.Sizes.{bit}
@@ -30,21 +33,24 @@ of-turn c = c .before .before .before .before .before .before .before .before
 at : (c : tie.In-loop Inv-loop μ-loop) → (let a = of-turn c .args in Place (length (a .cols .now)) (a .d) (a .fwd .now) (a .i) (c .before .loop .e))
 at c = let s = of-turn c in place (s .pre .0 .forward) (s .args .i) (c .before .loop .e) (s .pre .1) (c .loop-test .taken)
 
-abbrev turn : tie.After-classify-arg Inv-loop μ-loop → tie.In-loop Inv-loop μ-loop
+abbrev turn : tie.After-coupling Inv-loop μ-loop → tie.In-loop Inv-loop μ-loop
 turn c = c .before .before .before .before
 
 coupled : (c : tie.In-loop Inv-loop μ-loop) → (let a = of-turn c .args in Coupled (length (a .cols .now)) (a .d) (a .couplings .now) (a .cuts .now))
 coupled c = of-turn c .pre .0 .coupled
 
-kind-is : (c : tie.After-classify Inv-loop μ-loop) → (let t = turn (c .before) in
+-- the kind of the bond, as the machine reads its coupling, and as the paper has it
+kind-is : (c : tie.After-coupling Inv-loop μ-loop) → (let t = turn c in
     let a = of-turn t .args in
-    c .classify .result ≡ kindAt (a .d) (a .fwd .now) (a .couplings .now) (a .cols .now) (a .i) (t .before .loop .e))
+    let cols = a .cols .now in
+    let read = toZ w32 (ofZ w32 (getD (a .couplings .now) (a .i * a .d + t .before .loop .e) (pos 0))) in
+    kindOf read (shown (getD cols (a .i) 0)) (shown (getD cols (c .before .before .wide .result) 0))
+    ≡ kindAt (a .d) (a .fwd .now) (a .couplings .now) cols (a .i) (t .before .loop .e))
 kind-is c =
-    let t = turn (c .before) in
+    let t = turn c in
     let cols = of-turn t .args .cols .now in
-    let j = c .before .before .before .wide .ensures in
-    c .classify .ensures
-    ∙ (λ i. kindOf (coupling-back (coupled t) (at t) i) (shown (getD cols (of-turn t .args .i) 0)) (shown (getD cols (j i) 0)))
+    let j = c .before .before .wide .ensures in
+    (λ i. kindOf (coupling-back (coupled t) (at t) i) (shown (getD cols (of-turn t .args .i) 0)) (shown (getD cols (j i) 0)))
 
 mul-base : tie.Need-mul-base Inv-loop μ-loop
 mul-base c = let s = c .before .before .before .before .before in omega (arith, base-short (s .pre .0 .forward) (s .args .i) (s .pre .1))
@@ -67,69 +73,60 @@ shared-slice-read-wide c = omega (arith, at (c .before))
 wide-requires : tie.Need-wide-requires Inv-loop μ-loop
 wide-requires c κs = search needs
 
-shared-slice-read-classify : tie.Need-shared-slice-read-classify Inv-loop μ-loop
-shared-slice-read-classify c = omega (arith, c .before .wide .ensures, at (c .before .before .before))
+shared-slice-read-other : tie.Need-shared-slice-read-other Inv-loop μ-loop
+shared-slice-read-other c = omega (arith, c .before .wide .ensures, at (c .before .before .before))
 
-mul-classify : tie.Need-mul-classify Inv-loop μ-loop
-mul-classify c = omega (arith, at (c .before .before .before))
+mul-coupling : tie.Need-mul-coupling Inv-loop μ-loop
+mul-coupling c = omega (arith, at (c .before .before .before))
 
-shared-slice-copy-out-classify : tie.Need-shared-slice-copy-out-classify Inv-loop μ-loop
-shared-slice-copy-out-classify c = let t = c .before .before .before in omega (arith, at t, coupled t)
+shared-slice-copy-out-coupling : tie.Need-shared-slice-copy-out-coupling Inv-loop μ-loop
+shared-slice-copy-out-coupling c = let t = c .before .before .before in omega (arith, at t, coupled t)
 
-classify-requires : tie.Need-classify-requires Inv-loop μ-loop
-classify-requires c κs = read-small (coupled (turn c)) (at (turn c))
+mul-cut : tie.Need-mul-cut Inv-loop μ-loop
+mul-cut c = omega (arith, at (turn c))
 
-mul-draw-blue : tie.Need-mul-draw-blue Inv-loop μ-loop
-mul-draw-blue c = omega (arith, at (turn (c .before)))
+shared-slice-read-cut : tie.Need-shared-slice-read-cut Inv-loop μ-loop
+shared-slice-read-cut c = let t = turn (c .before) in omega (arith, at t, coupled t)
 
-shared-slice-read-draw-blue : tie.Need-shared-slice-read-draw-blue Inv-loop μ-loop
-shared-slice-read-draw-blue c = let t = turn (c .before .before) in omega (arith, at t, coupled t)
-
-draw-blue-requires : tie.Need-draw-blue-requires Inv-loop μ-loop
-draw-blue-requires c κs = search needs
+blue-bond-requires : tie.Need-blue-bond-requires Inv-loop μ-loop
+blue-bond-requires c κs = let t = turn (c .before) in read-small (coupled t) (at t)
 
 cast-blue : tie.Need-cast-blue Inv-loop μ-loop
 cast-blue c = search needs
 
 slice-write-blue : tie.Need-slice-write-blue Inv-loop μ-loop
-slice-write-blue c = let t = turn (c .before .before .before) in omega (arith, at t, t .before .loop .inv .1 .blue .long, of-turn t .pre .0 .blue-long)
+slice-write-blue c = let t = turn (c .before .before) in omega (arith, at t, t .before .loop .inv .1 .blue .long, of-turn t .pre .0 .blue-long)
 
-mul-draw-grey : tie.Need-mul-draw-grey Inv-loop μ-loop
-mul-draw-grey c = omega (arith, at (turn (c .before .before .before)))
-
-shared-slice-read-draw-grey : tie.Need-shared-slice-read-draw-grey Inv-loop μ-loop
-shared-slice-read-draw-grey c = let t = turn (c .before .before .before .before) in omega (arith, at t, coupled t)
-
-draw-grey-requires : tie.Need-draw-grey-requires Inv-loop μ-loop
-draw-grey-requires c κs = search needs
+grey-bond-requires : tie.Need-grey-bond-requires Inv-loop μ-loop
+grey-bond-requires c κs = let t = turn (c .before .before) in (read-small (coupled t) (at t), c .blue-bond .ensures)
 
 cast-grey : tie.Need-cast-grey Inv-loop μ-loop
 cast-grey c = search needs
 
 slice-write-grey : tie.Need-slice-write-grey Inv-loop μ-loop
 slice-write-grey c =
-    let t = turn (c .before .before .before .before .before) in
+    let t = turn (c .before .before .before) in
     omega (arith, at t, t .before .loop .inv .1 .grey .long, of-turn t .pre .0 .grey-long)
 
 add-e : tie.Need-add-e Inv-loop μ-loop
-add-e c = let t = turn (c .before .before .before .before .before) in omega (arith, t)
+add-e c = let t = turn (c .before .before .before) in omega (arith, t)
 
 loop-less : tie.Need-loop-less Inv-loop μ-loop
-loop-less c = let t = turn (c .before .before .before .before .before) in omega (arith, t)
+loop-less c = let t = turn (c .before .before .before) in omega (arith, t)
 
 loop-again : tie.Need-loop-again Inv-loop μ-loop
 loop-again c =
-    let k = c .before .before .before .before in
-    let t = turn (k .before) in
+    let k = c .before .before .before in
+    let t = turn k in
     let s = of-turn t in
     let l = t .before .loop in
     let cut = getD (s .args .cuts .now) (s .args .i * s .args .d + l .e) nan in (
       omega (arith, t),
       record {
         blue = row-more _ (l .e) _ _ _ _ (l .inv .1 .blue) (omega (arith, at t, s .pre .0 .blue-long))
-            (ap bit (c .before .before .draw-blue .ensures ∙ ap (λ (x : BondKind). blueHolds x (s .args .sampler) cut) (kind-is k)));
+            (ap bit (c .before .blue-bond .ensures ∙ ap (λ (x : BondKind). blueHolds x (s .args .sampler) cut) (kind-is k)));
         grey = row-more _ (l .e) _ _ _ _ (l .inv .1 .grey) (omega (arith, at t, s .pre .0 .grey-long))
-            (ap bit (c .draw-grey .ensures ∙ ap (λ (x : BondKind). greyHolds x (s .args .sampler) cut) (kind-is k)));
+            (ap bit (c .grey-bond .ensures ∙ ap (λ (x : BondKind). greyHolds x (s .args .sampler) cut) (kind-is k)));
       },
     )
 
@@ -155,18 +152,15 @@ cmr-site-spec =
     mul-wide
     shared-slice-read-wide
     wide-requires
-    shared-slice-read-classify
-    mul-classify
-    shared-slice-copy-out-classify
-    classify-requires
-    mul-draw-blue
-    shared-slice-read-draw-blue
-    draw-blue-requires
+    shared-slice-read-other
+    mul-coupling
+    shared-slice-copy-out-coupling
+    mul-cut
+    shared-slice-read-cut
+    blue-bond-requires
     cast-blue
     slice-write-blue
-    mul-draw-grey
-    shared-slice-read-draw-grey
-    draw-grey-requires
+    grey-bond-requires
     cast-grey
     slice-write-grey
     add-e
