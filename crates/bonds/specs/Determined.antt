@@ -15,7 +15,7 @@ use Rattle.paper.specs.declared.BondKind.{BondKind}
 use Rattle.paper.specs.Site.Bonds.{kindOf, blueHolds, greyHolds}
 use Rattle.paper.specs.Component.Marks.{Marks}
 use Rattle.columns.specs.Column.{shown}
-use Rattle.bonds.specs.Table.{CmrOut, bothActing, jorgAt}
+use Rattle.bonds.specs.Table.{CmrOut, bothActing, jorgAt, blueAt}
 
 some-directions : (n d k : ℕ) → k < n * d → 0 < d
 some-directions n zero k h = absurd (omega (arith, mul-zero n))
@@ -58,6 +58,12 @@ pub record SameTables (bs gs bs′ gs′ : List ℕ) : Type 0 where
   pub grey : gs ≡ gs′
 
 module _ (n d : ℕ) (fwd : List ℕ) (couplings : List ℤ) (cuts : List Float) (s : Sampler) (cols : List ℕ) where
+  abbrev blueBond : ℕ → ℕ → Bool
+  blueBond = blueAt d fwd couplings cuts s cols
+
+  pub blue-bonds-determined : (xs ys : List ℕ) → Marks n d blueBond xs → Marks n d blueBond ys → xs ≡ ys
+  blue-bonds-determined xs ys = marks-same
+
   pub cmr-bonds-determined : (bs gs bs′ gs′ : List ℕ)
       → CmrOut n d fwd couplings cuts s cols bs gs → CmrOut n d fwd couplings cuts s cols bs′ gs′ → SameTables bs gs bs′ gs′
   cmr-bonds-determined bs gs bs′ gs′ p q = record { blue = marks-same (p .blue) (q .blue); grey = marks-same (p .grey) (q .grey) }

@@ -178,7 +178,7 @@ module _
               labels = d .labelled;
               grey-labels = λ q.
                   let cmr = and-right (moves (t .form)) (isCmr (t .mode)) q in
-                  grey-labels c (b .spins) grey greyLabels (d .grey-held cmr) (w .grey-labels cmr);
+                  grey-labels c (b .spins) grey greyLabels (d .grey-held cmr moving) (w .grey-labels cmr);
               grey-kept = λ q. w .grey-kept (rw moving at q);
               counts = d .counted;
               sizes = d .largest;

@@ -13,7 +13,7 @@ use Rattle.paper.specs.declared.Mode.the-variants.{Houd, Pair, Perm, Gperm, Jor
 use Rattle.paper.specs.declared.Sampler.{Sampler}
 use Rattle.paper.specs.Panel.Input.{Call, pattern, size, ahead, graph}
 use Rattle.paper.specs.Panel.Made.{callOf}
-use Rattle.paper.specs.Panel.Takes.{isDrawn, isCmr}
+use Rattle.paper.specs.Panel.Takes.{isDrawn, isCmr, moves}
 use Rattle.paper.specs.Site.Acting.{acts}
 use Rattle.paper.specs.Site.Bonds.{samplerOf, jorgHolds, kindOf, blueHolds, greyHolds, bothAct, couplingAt, cutAt, kindAt, holdsBy, holds, holdsGrey}
 use Rattle.paper.specs.Component.Sizes.{bit}
@@ -25,7 +25,7 @@ use Rattle.paper.specs.Demand3.Turns.{labels-ext}
 use Rattle.columns.specs.Column.{shown, Columns}
 use Rattle.columns.specs.Laws.{columns-shown}
 use Rattle.bonds.specs.Laws.{jorg-ext, kind-ext}
-use Rattle.bonds.specs.Table.{bothActing, jorgAt, greyAt, CmrOut}
+use Rattle.bonds.specs.Table.{bothActing, jorgAt, blueAt, greyAt, CmrOut}
 use Rattle.rules.specs.Sight.{Sights, flag-at, acts-flags, acts-tells}
 use Rattle.label.specs.Contract.{Labelled, Reported}
 use Rattle.moves.specs.Ready.{Tested, TestedFor}
@@ -40,7 +40,7 @@ cmr-drawn Gperm e = never e
 cmr-drawn Jorg e = refl
 cmr-drawn Cmr e = refl
 
--- ---- hold: its three ways
+-- ---- hold: its four ways
 module _ {t : Task} {fwd : List ℕ} {couplings : List ℤ} {cuts : List Float} {flags cols holding grey : List ℕ} where
   pub cmr-leaves :
       {s : Sampler} → s ≡ samplerOf (t .temperature) → isCmr (t .mode) ≡ true
@@ -48,8 +48,18 @@ module _ {t : Task} {fwd : List ℕ} {couplings : List ℤ} {cuts : List Float} 
       → HoldLeaves t fwd couplings cuts flags cols holding grey
   cmr-leaves q e h = record {
     held = record { long = h .blue .long; at = λ i k hi hk. rw (e, ← q) (h .blue .at i k hi hk) };
-    grey-held = λ _. rw (← q) (h .grey);
+    grey-held = λ _ _. rw (← q) (h .grey);
     grey-long = h .grey .long;
+  }
+
+  pub blue-leaves :
+      {s : Sampler} → s ≡ samplerOf (t .temperature) → isCmr (t .mode) ≡ true → moves (t .form) ≡ false → length grey ≡ t .n * t .d
+      → Marks (t .n) (t .d) (blueAt (t .d) fwd couplings cuts s cols) holding
+      → HoldLeaves t fwd couplings cuts flags cols holding grey
+  blue-leaves q e rests long h = record {
+    held = record { long = h .long; at = λ i k hi hk. rw (e, ← q) (h .at i k hi hk) };
+    grey-held = λ _ m. never (sym rests ∙ m);
+    grey-long = long;
   }
 
   pub drawn-leaves :
@@ -58,7 +68,7 @@ module _ {t : Task} {fwd : List ℕ} {couplings : List ℤ} {cuts : List Float} 
       → HoldLeaves t fwd couplings cuts flags cols holding grey
   drawn-leaves q e d long h = record {
     held = record { long = h .long; at = λ i k hi hk. rw (e, d) (drawn .at i k hi hk) };
-    grey-held = λ w. never (sym e ∙ w);
+    grey-held = λ w _. never (sym e ∙ w);
     grey-long = long;
   }
     where
@@ -71,7 +81,7 @@ module _ {t : Task} {fwd : List ℕ} {couplings : List ℤ} {cuts : List Float} 
       → HoldLeaves t fwd couplings cuts flags cols holding grey
   plain-leaves e d long h = record {
     held = record { long = h .long; at = λ i k hi hk. rw (e, d) (h .at i k hi hk) };
-    grey-held = λ w. never (sym e ∙ w);
+    grey-held = λ w _. never (sym e ∙ w);
     grey-long = long;
   }
 
@@ -167,7 +177,7 @@ module _
       acting = acting;
       some = acts-tells c xs r (s .some);
       labelled = held-labels c xs tested flags cols acting (s .columns) holding labels (h .held) (l .labels);
-      grey-held = λ e. grey-marks c xs tested flags cols acting (s .columns) grey e (h .grey-held e);
+      grey-held = λ e m. grey-marks c xs tested flags cols acting (s .columns) grey e (h .grey-held e m);
       grey-long = h .grey-long;
       tallied = l .sized;
       counted = o .counted;

@@ -28,7 +28,7 @@ use Rattle.choose.specs.Chosen.{Becomes, reachedAt, greyed}
 use Rattle.moves.specs.Ready.{Tested}
 use Rattle.moves.specs.Moved.{choiceColumn}
 
--- ---- hold: the tables of bonds
+-- ---- hold: the tables of bonds. The grey one is worked out where CMR moves
 -- the bonds that hold, worked out on marks of acting sites and on columns; in CMR the blue ones
 abbrev pub heldAt : Mode → ℕ → List ℕ → List ℤ → List Float → ℕ → Sampler → List ℕ → List ℕ → ℕ → ℕ → Bool
 heldAt mode d fwd couplings cuts m s flags cols i e =
@@ -45,7 +45,8 @@ pub record HoldAsks (t : Task) (fwd : List ℕ) (couplings : List ℤ) (cuts : L
 
 pub record HoldLeaves (t : Task) (fwd : List ℕ) (couplings : List ℤ) (cuts : List Float) (flags cols holding grey : List ℕ) : Type 0 where
   pub held : Marks (t .n) (t .d) (heldAt (t .mode) (t .d) fwd couplings cuts (t .group .len) (samplerOf (t .temperature)) flags cols) holding
-  pub grey-held : isCmr (t .mode) ≡ true → Marks (t .n) (t .d) (table.greyAt (t .d) fwd couplings cuts (samplerOf (t .temperature)) cols) grey
+  pub grey-held :
+      isCmr (t .mode) ≡ true → moves (t .form) ≡ true → Marks (t .n) (t .d) (table.greyAt (t .d) fwd couplings cuts (samplerOf (t .temperature)) cols) grey
   pub grey-long : length grey ≡ t .n * t .d
 
 -- ---- label: from spins to columns, labels, counts and sizes
@@ -73,7 +74,7 @@ pub record LabelLeaves (c : Call) (xs : List ℤ) (cols flags grey tally labels 
   pub acting : Flags (c .lattice .n) (acts c xs) flags
   pub some : Tells r (SomeActs c xs)
   pub labelled : Labels (graph c) (holds c xs) labels
-  pub grey-held : isCmr (c .mode) ≡ true → Marks (c .lattice .n) (c .lattice .d) (holdsGrey c xs) grey
+  pub grey-held : isCmr (c .mode) ≡ true → moves (c .form) ≡ true → Marks (c .lattice .n) (c .lattice .d) (holdsGrey c xs) grey
   pub grey-long : length grey ≡ c .lattice .n * c .lattice .d
   pub tallied : Sized labels tally
   pub counted : Counted everyOne labels counts
