@@ -26,36 +26,65 @@ pub fn median<S>(
     times[times.len() / 2]
 }
 
+/// The same of a call that is too short for the clock: `batch` runs are timed together, each with its `ready`.
+pub fn batched<S>(
+    repetitions: usize,
+    batch: usize,
+    state: &mut S,
+    ready: impl Fn(&mut S),
+    mut run: impl FnMut(&mut S),
+) -> f64 {
+    if batch == 1 {
+        return median(repetitions, state, ready, run);
+    }
+    let all = |state: &mut S| {
+        (0..batch).for_each(|_| {
+            ready(state);
+            run(state);
+        })
+    };
+    median(repetitions, state, |_| {}, all) / batch as f64
+}
+
 pub const N: usize = 4096;
 
 /// The torus of N sites whose D sides are equal: a ring, 64 by 64, 16 by 16 by 16, or 8 four times.
 pub fn torus(d: usize) -> Vec<u32> {
-    let side = 1usize << (N.ilog2() as usize / d);
+    torus_of(N, d)
+}
+
+/// The same of n sites, a power of two.
+fn torus_of(n: usize, d: usize) -> Vec<u32> {
+    let side = 1usize << (n.ilog2() as usize / d);
     let step = |bond: usize| {
         let stride = side.pow((bond % d) as u32);
         let (i, at) = (bond / d, bond / d / stride % side);
         (i - at * stride + (at + 1) % side * stride) as u32
     };
-    (0..N * d).map(step).collect()
+    (0..n * d).map(step).collect()
 }
 
 /// A torus with couplings of size 1.
 pub fn panel(rand: &mut Rand, mode: Mode, form: Form, d: usize, s: usize) -> Panel {
-    let fwd = torus(d);
+    panel_of(rand, mode, form, N, d, s)
+}
+
+pub fn panel_of(rand: &mut Rand, mode: Mode, form: Form, n: usize, d: usize, s: usize) -> Panel {
+    let fwd = torus_of(n, d);
     Panel {
         mode,
         form,
-        n: N,
+        n,
         d,
         s,
-        bwd: backward(N, d, &fwd),
+        bwd: backward(n, d, &fwd),
         fwd,
-        couplings: (0..d * N).map(|_| rand.pick(&[1, -1])).collect(),
+        couplings: (0..d * n).map(|_| rand.pick(&[1, -1])).collect(),
     }
 }
 
-pub fn spins(rand: &mut Rand, s: usize) -> Vec<i8> {
-    (0..s * N).map(|_| rand.pick(&[1, -1])).collect()
+pub fn spins(rand: &mut Rand, s: usize, n: usize) -> Vec<i8> {
+    (0..s * n).map(|_| rand.pick(&[1, -1])).collect()
 }
 
 fn permutations(rand: &mut Rand, count: usize, members: usize) -> Vec<u8> {
@@ -71,7 +100,7 @@ fn permutations(rand: &mut Rand, count: usize, members: usize) -> Vec<u8> {
 
 /// Choices as a caller would draw them; a one-cluster permutation is not the identity.
 fn choices(rand: &mut Rand, panel: &Panel, members: usize, tasks: usize) -> Choices {
-    let exact = lengths(panel.mode, panel.form, N, panel.d, members, tasks);
+    let exact = lengths(panel.mode, panel.form, panel.n, panel.d, members, tasks);
     let least = usize::from(panel.form == Form::Wolff);
     Choices {
         cuts: (0..exact.cuts.unwrap_or(0))
@@ -88,7 +117,7 @@ fn choices(rand: &mut Rand, panel: &Panel, members: usize, tasks: usize) -> Choi
 }
 
 fn outputs(panel: &Panel, members: usize, tasks: usize, spins: Vec<i8>) -> Lent {
-    let exact = lengths(panel.mode, panel.form, N, panel.d, members, tasks);
+    let exact = lengths(panel.mode, panel.form, panel.n, panel.d, members, tasks);
     Lent {
         spins,
         labels: vec![0; exact.labels],
@@ -100,8 +129,12 @@ fn outputs(panel: &Panel, members: usize, tasks: usize, spins: Vec<i8>) -> Lent 
 
 /// A move of one group in a panel of `s` systems.
 pub fn single(rand: &mut Rand, panel: Panel, members: usize) -> Single {
-    let s = panel.s;
-    let spins = spins(rand, s);
+    let spins = spins(rand, panel.s, panel.n);
+    single_on(rand, panel, members, spins)
+}
+
+/// The same on given spins.
+pub fn single_on(rand: &mut Rand, panel: Panel, members: usize, spins: Vec<i8>) -> Single {
     let mut case = Single {
         group: (0..members as u32).collect(),
         temperature: 1.0,
@@ -121,7 +154,7 @@ pub fn swept(rand: &mut Rand, mode: Mode, form: Form, d: usize, members: usize) 
     let (t, r) = (8, 8);
     let tasks = t * (r / members);
     let panel = panel(rand, mode, form, d, t * r);
-    let spins = spins(rand, t * r);
+    let spins = spins(rand, t * r, N);
     let mut case = Swept {
         t,
         r,
@@ -167,10 +200,10 @@ pub fn refused_single(case: &Single) -> Single {
     let (mode, form) = (case.panel.mode, case.panel.form);
     // a seed that acts is all that test 10 reads, so one past the sites stands for it; one that does not act would have the panel scanned
     if form == Form::Wolff {
-        case.seed = N;
+        case.seed = case.panel.n;
     } else if form == Form::Observe && !mode.draws() {
         match mode {
-            Mode::Gperm => case.reference = N,
+            Mode::Gperm => case.reference = case.panel.n,
             _ => case.group[1] = case.group[0],
         }
     } else {

@@ -207,5 +207,6 @@ module _ (ones : ℕ) where
   pub top-none : (sizes : List ℕ) {a b c d : ℕ} → Top4 (onesOrMore ones) a b c d → Top4 (allOrMore ones sizes 0) a b c d
   top-none sizes r = top-ext (λ v. omega (arith, count-none (λ t. leb v (getD sizes t 0)))) r
 
-  pub top-more : (sizes : List ℕ) (i : ℕ) {a b c d : ℕ} → Top4 (with (allOrMore ones sizes i) (getD sizes i 0)) a b c d → Top4 (allOrMore ones sizes (i + 1)) a b c d
+  pub top-more : (sizes : List ℕ) (i : ℕ) {a b c d : ℕ} → Top4 (with (allOrMore ones sizes i) (getD sizes i 0)) a b c d
+      → Top4 (allOrMore ones sizes (i + 1)) a b c d
   top-more sizes i r = top-ext (λ v. omega (arith, count-suc (λ t. leb v (getD sizes t 0)) i)) r

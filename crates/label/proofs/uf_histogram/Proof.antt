@@ -21,7 +21,8 @@ start-counts-requires : tie.Need-start-counts-requires Inv-loop μ-loop
 start-counts-requires c κs = c .before .before .before .pre .ones-low
 
 -- the cleared counts are as long as the lent ones
-asked : (c : tie.In-loop Inv-loop μ-loop) → Histogramming (S c .args .sizes .now) (S c .args .ones) (length (c .before .before .before .before .start-counts .last .1 .0))
+asked : (c : tie.In-loop Inv-loop μ-loop)
+    → Histogramming (S c .args .sizes .now) (S c .args .ones) (length (c .before .before .before .before .start-counts .last .1 .0))
 asked c = rw (← c .before .before .before .before .start-counts .ensures .long) at (S c .pre)
 
 bin : (c : tie.After-wide Inv-loop μ-loop) → c .wide .result < length (c .before .before .before .loop .counts)
