@@ -145,7 +145,6 @@ pub extern "C" fn tsorvenk_step(
         reference,
         seed,
     };
-    let choices = taken(m, flips, perms);
     let answer = steps::overlap_step(
         t,
         spins,
@@ -153,7 +152,7 @@ pub extern "C" fn tsorvenk_step(
         bwd,
         couplings,
         cuts,
-        choices,
+        taken(m, flips, perms),
         greys,
         labels,
         grey_labels,

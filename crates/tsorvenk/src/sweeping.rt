@@ -98,7 +98,6 @@ pub extern "C" fn tsorvenk_sweep(
     if outcomes.len() != 2 {
         return roomless(plan);
     }
-    let choices = taken(m, flips, perms);
     let answer = sweep::overlap_update(
         plan,
         spins,
@@ -111,7 +110,7 @@ pub extern "C" fn tsorvenk_sweep(
         cuts,
         references,
         seeds,
-        choices,
+        taken(m, flips, perms),
         greys,
         labels,
         grey_labels,

@@ -50,8 +50,8 @@ step-of c = c .before .before .before .before .before .before .before .before .b
 returns-3 : tie.Need-returns-3
 returns-3 c =
     let o = step-of c in
-    let t = o .before .before .before .before .before .before in
-    let g = t .before in
+    let t = o .before .before .before .before .before in
+    let g = t .before .before in
     let f = g .before in
     let m = f .before in
     known-code (o .overlap-step .result) (c .number-of .ensures) (same-call (m .mode-of .ensures) (f .form-of .ensures) (g .group-of .ensures))

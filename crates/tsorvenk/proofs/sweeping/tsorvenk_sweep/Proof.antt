@@ -94,8 +94,8 @@ returns-4 : tie.Need-returns-4
 returns-4 c =
     let t = c .before .before in
     let o = t .before .before .before .before .before .before .before .before .before .before .before in
-    let k = o .before .before .before .before .before .before in
-    let e = k .before in
+    let k = o .before .before .before .before .before in
+    let e = k .before .before in
     let f = e .before in
     coded-sweep (made f) (meant f) (B (F f)) (now (F f .args .outcomes)) (t .tell .result) (o .overlap-update .result) _ _ (known f)
     (same-sweep (f .before .mode-of .ensures) (f .form-of .ensures)) (e .if3 .left) (rw (k .taken .ensures) at (o .overlap-update .ensures)) (t .tell .ensures)
