@@ -16,7 +16,7 @@ use Rattle.paper.specs.Panel.Made.{callOf}
 use Rattle.paper.specs.Panel.Takes.{isDrawn, isCmr, moves}
 use Rattle.paper.specs.Site.Acting.{acts}
 use Rattle.paper.specs.Site.Bonds.{samplerOf, jorgHolds, kindOf, blueHolds, greyHolds, bothAct, couplingAt, cutAt, kindAt, holdsBy, holds, holdsGrey}
-use Rattle.paper.specs.Component.Sizes.{bit}
+use Rattle.paper.specs.Component.Sizes.{bit, everyOne}
 use Rattle.paper.specs.Component.Labels.{Labels}
 use Rattle.paper.specs.Component.Marks.{Flags, Marks, marked}
 use Rattle.paper.specs.Law.ByTest.{never}
