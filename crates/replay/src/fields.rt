@@ -79,8 +79,10 @@ pub(crate) fn part(list: &[u8], from: usize, count: usize) -> &[u8] {
     if all <= from {
         return &list[..0];
     }
-    let rest = all - from;
-    let end = if count < rest { from + count } else { all };
+    if all - from <= count {
+        return &list[from..all];
+    }
+    let end = from + count;
     &list[from..end]
 }
 
