@@ -64,7 +64,7 @@ module _ (w : Sweep) (b : Buffers) (ts : List ℕ) where
 
 -- the mode and the form that were made of the lent numbers
 module _ {n d s t r members : ℕ} {fwd bwd : List ℕ} {couplings : List ℤ} {order masks : List ℕ} {temperatures cuts : List Float}
-    {references seeds flips perms greys : List ℕ} {m m′ : Mode} {f f′ : Form} where
+    {references seeds greys : List ℕ} (flips perms : List ℕ) {m m′ : Mode} {f f′ : Form} where
   pub same-sweep : m ≡ m′ → f ≡ f′
       → sweepOf (planFor m f n d s t r members) fwd bwd couplings order masks temperatures cuts references seeds (takenOf m flips perms) greys
       ≡ sweepOf (planFor m′ f′ n d s t r members) fwd bwd couplings order masks temperatures cuts references seeds (takenOf m′ flips perms) greys

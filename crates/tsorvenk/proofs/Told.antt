@@ -51,9 +51,9 @@ module _ {t : Lattice} {x : Float} {cuts : List Float} {q s : ℕ} {m m′ : Mod
 
 -- and the choices of that mode
 pub same-choices :
-    {m m′ : Mode} {choices flips perms greys : List ℕ} → choices ≡ takenOf m flips perms → m ≡ m′
+    {m m′ : Mode} {choices greys : List ℕ} (flips perms : List ℕ) → choices ≡ takenOf m flips perms → m ≡ m′
     → choicesOf choices greys ≡ choicesOf (takenOf m′ flips perms) greys
-same-choices {flips = flips} {perms} {greys} e em = λ i. choicesOf ((e ∙ ap (λ (z : Mode). takenOf z flips perms) em) i) greys
+same-choices {greys = greys} flips perms e em = λ i. choicesOf ((e ∙ ap (λ (z : Mode). takenOf z flips perms) em) i) greys
 
 module _ {mode form : ℕ} {c c′ : Call} {p p′ : Choices} {b b′ : Buffers} {k : ℕ} where
   pub known-code : (a : Answer) → k ≡ numberOf a → c ≡ c′ → p ≡ p′ → Coded mode form → Answers c p b a b′ → StepAnswers mode form c′ p′ b k b′

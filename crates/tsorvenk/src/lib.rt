@@ -96,7 +96,7 @@ fn number_of(answer: Answer) -> u8
 
 // One move or observation. The length of `group` is the number of its systems. Of `flips` and `perms` the mode takes one, and the other is ignored.
 #[no_mangle]
-pub extern "C" fn tsorvenk_step(
+pub extern "C" fn tsorvenk_step<'a>(
     mode: u8,
     form: u8,
     n: usize,
@@ -111,8 +111,8 @@ pub extern "C" fn tsorvenk_step(
     cuts: &[f32],
     reference: usize,
     seed: usize,
-    flips: &[u8],
-    perms: &[u8],
+    flips: &'a [u8],
+    perms: &'a [u8],
     greys: &[u8],
     labels: &mut [u32],
     grey_labels: &mut [u32],

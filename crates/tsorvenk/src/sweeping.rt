@@ -40,7 +40,7 @@ fn tell(answer: SweepAnswer, outcomes: &mut [u32]) -> u8
 
 // A sweep over t temperatures of r replicas in groups of `members`. `outcomes` gets the number of idle tasks, then of all others.
 #[no_mangle]
-pub extern "C" fn tsorvenk_sweep(
+pub extern "C" fn tsorvenk_sweep<'a>(
     mode: u8,
     form: u8,
     n: usize,
@@ -59,8 +59,8 @@ pub extern "C" fn tsorvenk_sweep(
     cuts: &[f32],
     references: &[u32],
     seeds: &[u32],
-    flips: &[u8],
-    perms: &[u8],
+    flips: &'a [u8],
+    perms: &'a [u8],
     greys: &[u8],
     labels: &mut [u32],
     grey_labels: &mut [u32],

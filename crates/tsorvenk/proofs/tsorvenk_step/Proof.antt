@@ -1,6 +1,7 @@
 -- `tsorvenk_step` meets its contract: a code that is none is refused, and any other call is answered by `overlap_step`.
 use borrow.Author.Needs.{needs}
 use native.Mathlib.Omega.{arith}
+use denote.Ref.{now}
 use Rattle.tsorvenk.proofs.Told.{unknown-code, known-code, same-call, same-choices}
 use Rattle.tsorvenk.proofs.tsorvenk_step.Statement.{statement}
 use Rattle.tsorvenk.proofs.tsorvenk_step.Tie as tie
@@ -44,6 +45,9 @@ same-length-4 c = search needs
 same-length-5 : tie.Need-same-length-5
 same-length-5 c = search needs
 
+abbrev S : tie.Else1 → tie.Start
+S e = e .before .before .before .before .before .before .before .before .before .before .before .before
+
 abbrev step-of : tie.After-number-of → tie.After-overlap-step
 step-of c = c .before .before .before .before .before .before .before .before .before .before
 
@@ -54,8 +58,9 @@ returns-3 c =
     let g = t .before .before in
     let f = g .before in
     let m = f .before in
+    let a = S (m .before .before) .args in
     known-code (o .overlap-step .result) (c .number-of .ensures) (same-call (m .mode-of .ensures) (f .form-of .ensures) (g .group-of .ensures))
-    (same-choices (t .taken .ensures) (m .mode-of .ensures))
+    (same-choices (now (a .flips)) (now (a .perms)) (t .taken .ensures) (m .mode-of .ensures))
     (record { mode-known = m .before .before .if1 .left; form-known = m .before .if2 .left })
     (o .overlap-step .ensures)
 

@@ -61,7 +61,7 @@ returns-3 c =
     let e = c .before in
     let f = e .before in
     roomless-sweep (made f) (meant f) (B (F f)) (now (F f .args .outcomes)) (c .roomless .result) (known f)
-    (same-sweep (f .before .mode-of .ensures) (f .form-of .ensures)) (e .if3 .taken) (c .roomless .ensures)
+    (same-sweep (now (F f .args .flips)) (now (F f .args .perms)) (f .before .mode-of .ensures) (f .form-of .ensures)) (e .if3 .taken) (c .roomless .ensures)
 
 taken-requires : tie.Need-taken-requires
 taken-requires c κs = search needs
@@ -98,7 +98,7 @@ returns-4 c =
     let e = k .before .before in
     let f = e .before in
     coded-sweep (made f) (meant f) (B (F f)) (now (F f .args .outcomes)) (t .tell .result) (o .overlap-update .result) _ _ (known f)
-    (same-sweep (f .before .mode-of .ensures) (f .form-of .ensures)) (e .if3 .left) (rw (k .taken .ensures) at (o .overlap-update .ensures)) (t .tell .ensures)
+    (same-sweep (now (F f .args .flips)) (now (F f .args .perms)) (f .before .mode-of .ensures) (f .form-of .ensures)) (e .if3 .left) (rw (k .taken .ensures) at (o .overlap-update .ensures)) (t .tell .ensures)
 
 pub tsorvenk-sweep-spec : {M : Type 1} → statement M
 tsorvenk-sweep-spec =
