@@ -90,17 +90,27 @@ mul-t27 c = search needs
 
 returns : tie.Need-returns
 returns c =
-    let tasks = c .before .before .before .before .before .before .before .before .before .before .before .before .before .before .before .before .before .before .before .room3 .ensures in
-    let labels = c .before .before .before .before .before .before .before .before .before .before .before .before .before .before .before .before .before .before .room4 .ensures in
+    let o4 = c .before .before .before .before .before .before in
+    let o3 = o4 .before .before in
+    let r9 = o3 .before .before in
+    let o2 = r9 .before in
+    let r8 = o2 .before in
+    let r7 = r8 .before in
+    let r4 = r7 .before .before .before .before .before in
+    let r3 = r4 .before in
+    let o1 = r3 .before in
+    let r2 = o1 .before in
+    let tasks = r3 .room3 .ensures in
+    let labels = r4 .room4 .ensures in
     record {
-      systems = c .before .before .before .before .before .before .before .before .before .before .before .before .before .room7 .ensures;
-      spins = c .before .before .before .before .before .before .before .before .before .before .before .before .room8 .ensures;
-      bonds = c .before .before .before .before .before .before .before .before .before .before .before .before .before .before .before .before .before .before .before .before .before .room2 .ensures;
-      couplings = omega (arith, c .before .before .before .before .before .before .before .before .before .before .before .before .before .before .before .before .before .before .before .before .only .ensures, c .before .before .before .before .before .before .before .before .before .before .before .before .before .before .before .before .before .before .before .before .before .room2 .ensures);
-      temperatures = omega (arith, c .before .before .before .before .before .before .before .before .before .before .before .only2 .ensures, c .before .before .before .before .before .before .before .before .before .before .before .before .before .before .before .before .before .before .before .before .before .before .room .ensures);
-      cuts = c .before .before .before .before .before .before .before .before .before .before .room9 .ensures;
-      references = omega (arith, c .before .before .before .before .before .before .before .before .only3 .ensures, tasks);
-      seeds = omega (arith, c .before .before .before .before .before .before .only4 .ensures, tasks);
+      systems = r7 .room7 .ensures;
+      spins = r8 .room8 .ensures;
+      bonds = r2 .room2 .ensures;
+      couplings = omega (arith, o1 .only .ensures, r2 .room2 .ensures);
+      temperatures = omega (arith, o2 .only2 .ensures, r2 .before .room .ensures);
+      cuts = r9 .room9 .ensures;
+      references = omega (arith, o3 .only3 .ensures, tasks);
+      seeds = omega (arith, o4 .only4 .ensures, tasks);
       labels = labels;
       grey-labels = omega (arith, c .only7 .ensures, labels);
       counts = omega (arith, labels, tasks);

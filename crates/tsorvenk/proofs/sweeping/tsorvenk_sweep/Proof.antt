@@ -98,7 +98,8 @@ returns-4 c =
     let e = k .before .before in
     let f = e .before in
     coded-sweep (made f) (meant f) (B (F f)) (now (F f .args .outcomes)) (t .tell .result) (o .overlap-update .result) _ _ (known f)
-    (same-sweep (now (F f .args .flips)) (now (F f .args .perms)) (f .before .mode-of .ensures) (f .form-of .ensures)) (e .if3 .left) (rw (k .taken .ensures) at (o .overlap-update .ensures)) (t .tell .ensures)
+    (same-sweep (now (F f .args .flips)) (now (F f .args .perms)) (f .before .mode-of .ensures) (f .form-of .ensures)) (e .if3 .left)
+    (rw (k .taken .ensures) at (o .overlap-update .ensures)) (t .tell .ensures)
 
 pub tsorvenk-sweep-spec : {M : Type 1} → statement M
 tsorvenk-sweep-spec =
