@@ -6,7 +6,7 @@ use native.Mathlib.Nat.{div-one, mod-lt, mul-one}
 use native.Mathlib.Omega.{arith}
 use lib.Dec.{eqb}
 use lib.IntN.{ℤ, pos, negsuc, negℤ, _*ℤ_, *ℤ-negsuc, negℤ-negℤ}
-use Rattle.paper.specs.Site.Acting.{eqZ}
+use Rattle.lemmas.specs.Ints.{eqZ}
 use Rattle.columns.specs.Column.{sign, shown}
 
 pub data Bit : ℕ → Type 0 where

@@ -8,8 +8,8 @@ use lib.IntN.{ℤ, pos, natAbs}
 use lib.Ieee.{Float}
 use mir.Syntax.{w32}
 use mir.Val.{toZ, ofZ}
+use Rattle.lemmas.specs.Held.{given, reads, small-fits}
 use Rattle.bonds.specs.Table.{Coupled}
-use Rattle.lattice.specs.Held.{given, reads, small-fits}
 use Rattle.bonds.proofs.Rows.{Place}
 
 module _ {n d i e : ℕ} {fwd : List ℕ} {couplings : List ℤ} {cuts : List Float} (h : Coupled n d couplings cuts) (p : Place n d fwd i e) where

@@ -12,15 +12,15 @@ use lib.Signed.{ltZ, mag}
 use mir.Syntax.{w32}
 use mir.Val.{SFits, toZ, ofZ, hbits}
 use mir.Facts.{sfits-lit}
+use Rattle.lemmas.specs.Ints.{eqZ}
+use Rattle.lemmas.specs.Bools.{never}
+use Rattle.lemmas.specs.Held.{Holds, given, bounded, reads, held-lt, held-same, held-differ}
 use Rattle.paper.specs.declared.BondKind.{BondKind}
 use Rattle.paper.specs.declared.BondKind.the-variants.{None, Blue, Red}
 use Rattle.paper.specs.declared.Sampler.{Sampler}
 use Rattle.paper.specs.Panel.Input.{Pattern}
-use Rattle.paper.specs.Site.Acting.{eqZ}
 use Rattle.paper.specs.Site.Bonds.{whole, pick, drawn, kindOf, blueHolds, greyHolds}
-use Rattle.paper.specs.Law.ByTest.{never}
 use Rattle.columns.specs.Column.{bitOf, shown}
-use Rattle.lattice.specs.Held.{Holds, given, bounded, reads, held-lt, held-same, held-differ}
 use Rattle.bonds.proofs.Bits.{overlaps-same}
 
 pub zero-held : Holds w32 0 (pos 0)

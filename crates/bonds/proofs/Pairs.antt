@@ -8,11 +8,11 @@ use native.Mathlib.Omega.{arith}
 use lib.Dec.{eqb, lit≤}
 use lib.IntN.{ℤ, pos, natAbs, _+ℤ_, _*ℤ_}
 use lib.Pow.{shr-shr}
-use Rattle.paper.specs.Site.Acting.{eqZ, sum}
+use Rattle.lemmas.specs.Ints.{eqZ, abs-add}
+use Rattle.lemmas.specs.Sums.{sum}
 use Rattle.paper.specs.Site.Bonds.{pairTerm}
 use Rattle.columns.specs.Column.{sign, bitOf, shown}
 use Rattle.bonds.proofs.Bits.{product}
-use Rattle.lattice.specs.Ints.{abs-add}
 
 -- the column without its first k pairs
 abbrev pub past : ℕ → ℕ → ℕ

@@ -3,22 +3,19 @@ use Prim.Native.Nat.{ℕ, _+_, _*_, _≤_, _<_}
 use mathlib.Core.Path.{_≡_, refl, sym, _∙_, ap}
 use mathlib.Core.Bool.{Bool, false}
 use mathlib.Core.List.{List}
-use native.Mathlib.Nat.{le-of-lt, le-trans, mul-le-mul-left, mul-le-mul-right, suc-mul, zero-add}
+use native.Mathlib.Nat.{le-of-lt, le-trans, mul-le-mul-left, mul-le-mul-right, suc-mul}
 use native.Mathlib.Numerals.{add-one}
-use native.Mathlib.Decide.{decLt}
 use native.Mathlib.Omega.{arith}
 use borrow.Author.Count.{below-more}
-use lib.ListN.{length, getD, set, length-set, List·getD-eq-default}
+use lib.ListN.{length, getD, set, length-set}
 use lib.Seq.{getD-set-same, getD-set-other}
-use Rattle.paper.specs.Component.Sizes.{bit}
+use Rattle.lemmas.specs.Counts.{bit}
+use Rattle.lemmas.specs.Cells.{cell-lt}
 use Rattle.paper.specs.Component.Marks.{Marks}
 use Rattle.bonds.specs.Table.{Forward, ActiveIn}
 use Rattle.bonds.specs.Row.{Row, Blank}
 
 -- ---- the bond (i, e): its entry is in the table, which is short, and it leads to a site
-slot : (n d i e : ℕ) → i < n → e < d → i * d + e < n * d
-slot n d i e hi he = omega (arith, mul-le-mul-right d hi, suc-mul i d)
-
 pub record Place (n d : ℕ) (fwd : List ℕ) (i e : ℕ) : Type 0 where
   pub entry : i * d + e < n * d
   pub short : n * d ≤ 16384
@@ -28,7 +25,7 @@ short-table : {n d : ℕ} {fwd : List ℕ} → Forward n d fwd → n * d ≤ 163
 short-table {n} {d} h = le-trans (mul-le-mul-right d (h .sites)) (mul-le-mul-left 4096 (h .directions))
 
 pub place : {n d : ℕ} {fwd : List ℕ} → Forward n d fwd → (i e : ℕ) → i < n → e < d → Place n d fwd i e
-place {n} {d} h i e hi he = record { entry = slot n d i e hi he; short = short-table h; ahead = h .inside i e hi he }
+place {n} {d} h i e hi he = record { entry = cell-lt n d i e hi he; short = short-table h; ahead = h .inside i e hi he }
 
 pub base-short : {n d : ℕ} {fwd : List ℕ} → Forward n d fwd → (i : ℕ) → i < n → i * d ≤ 16384
 base-short {n} {d} h i hi = le-trans (mul-le-mul-right d (le-of-lt hi)) (short-table h)
@@ -50,14 +47,6 @@ row-more base m v f xs ys r h e =
       above = λ k l. getD-set-other ys (base + m) k v 0 (λ q. omega arith) ∙ r .above k (omega arith);
     }
 
--- a row of noughts over the whole list
-pub all-blank : (f : ℕ → Bool) (xs ys : List ℕ) → ((e : ℕ) → f e ≡ false) → Row 0 (length xs) f xs ys → Blank 0 ys
-all-blank f xs ys none r k h = go (decLt k (length xs))
-  where
-    go : Dec (k < length xs) → getD ys k 0 ≡ 0
-    go (yes l) = rw zero-add at (r .at k l ∙ ap bit (none k))
-    go (no l) = List·getD-eq-default ys 0 (omega (arith, r .long))
-
 -- ---- the sites below i are marked
 pub record Begun (n d : ℕ) (f : ℕ → ℕ → Bool) (i : ℕ) (xs : List ℕ) : Type 0 where
   pub long : length xs ≡ n * d
@@ -77,7 +66,7 @@ module _ (n d : ℕ) (f : ℕ → ℕ → Bool) where
           long = r .long ∙ b .long;
           at =
               λ k e l m. below-more (λ k. getD ys (k * d + e) 0 ≡ bit (f k e)) i
-              (λ k l. r .below (k * d + e) (slot i d k e l m) ∙ b .at k e l m)
+              (λ k l. r .below (k * d + e) (cell-lt i d k e l m) ∙ b .at k e l m)
               (r .at e m) k l;
         }
 

@@ -1,5 +1,5 @@
 -- Laws of the bonds' rules: which places of the patterns they read, and that blue flips keep what is red.
-use Prim.Native.Nat.{ℕ, zero, suc, _+_, _*_, _/_, _<_}
+use Prim.Native.Nat.{ℕ, zero, suc, _/_, _<_}
 use mathlib.Core.Path.{_≡_, refl, sym, _∙_, ap}
 use mathlib.Core.Logic.{_↔_}
 use mathlib.Core.Bool.{Bool, true, false, cond}
@@ -8,31 +8,21 @@ use native.Mathlib.Omega.{arith}
 use lib.IntN.{ℤ, pos, negsuc, natAbs, negℤ, _*ℤ_, zero-*ℤ, *ℤ-zero}
 use lib.Signed.{ltZ}
 use lib.Ieee.{Float}
+use Rattle.lemmas.specs.Ints.{eqZ}
+use Rattle.lemmas.specs.Counts.{bit}
+use Rattle.lemmas.specs.Sums.{sum-ext}
 use Rattle.paper.specs.declared.Sampler.{Sampler}
 use Rattle.paper.specs.declared.BondKind.{BondKind}
 use Rattle.paper.specs.declared.BondKind.the-variants.{None, Blue, Red}
 use Rattle.paper.specs.Panel.Input.{Pattern}
-use Rattle.paper.specs.Site.Acting.{eqZ}
 use Rattle.paper.specs.Site.Bonds.{whole, pairTerm, jorgHolds, pick, kindOf}
-use Rattle.paper.specs.Component.Sizes.{bit}
 use Rattle.paper.specs.Component.Marks.{Marks}
-use Rattle.paper.specs.Law.Local.{Agree}
-use Rattle.paper.specs.Law.Partners.{pairs-fit}
-use Rattle.paper.specs.Law.Sums.{sum-ext}
+use Rattle.laws.specs.Local.{Agree, term-ext}
 
 -- ---- the rules read the first m places alone, CMR's the first two
-term-ext : (m : ℕ) (f g f′ g′ : Pattern) → Agree m f f′ → Agree m g g′ → (x : ℕ) → x < m / 2 → pairTerm f g x ≡ pairTerm f′ g′ x
-term-ext m f g f′ g′ p q x h =
-    let l : 2 * x < m = omega (arith, pairs-fit m) in
-    let r : 2 * x + 1 < m = omega (arith, pairs-fit m) in
-    cc (p (2 * x) l, p (2 * x + 1) r, q (2 * x) l, q (2 * x + 1) r)
-
 pub jorg-ext : (j : ℤ) (m : ℕ) (f g f′ g′ : Pattern) (s : Sampler) (cut : Float)
     → Agree m f f′ → Agree m g g′ → jorgHolds j m f g s cut ≡ jorgHolds j m f′ g′ s cut
 jorg-ext j m f g f′ g′ s cut p q = cc (sum-ext (m / 2) (pairTerm f g) (pairTerm f′ g′) (term-ext m f g f′ g′ p q))
-
-pub kind-ext : (j : ℤ) (f g f′ g′ : Pattern) → Agree 2 f f′ → Agree 2 g g′ → kindOf j f g ≡ kindOf j f′ g′
-kind-ext j f g f′ g′ p q = cc (p 0 (omega arith), p 1 (omega arith), q 0 (omega arith), q 1 (omega arith))
 
 -- ---- a table of one rule is a table of another that says the same
 pub marks-ext : {n d : ℕ} {f g : ℕ → ℕ → Bool} {xs : List ℕ} → ((i e : ℕ) → i < n → e < d → f i e ≡ g i e) → Marks n d f xs → Marks n d g xs

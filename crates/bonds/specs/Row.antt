@@ -4,7 +4,7 @@ use mathlib.Core.Path.{_≡_}
 use mathlib.Core.Bool.{Bool}
 use mathlib.Core.List.{List}
 use lib.ListN.{length, getD}
-use Rattle.paper.specs.Component.Sizes.{bit}
+use Rattle.lemmas.specs.Counts.{bit}
 
 -- ys is xs with m bytes written from base on: 1 where f, and else 0
 pub record Row (base m : ℕ) (f : ℕ → Bool) (xs ys : List ℕ) : Type 0 where

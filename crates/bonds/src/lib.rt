@@ -5,30 +5,18 @@ ghost use lib.ListN.{length};
 ghost use mathlib.Core.Bool.{_&&_};
 ghost use lib.Dec.{eqb};
 ghost use lib.IntN.{natAbs, _*ℤ_};
-ghost use Rattle.paper.specs.Site.Acting.{eqZ, sum};
+ghost use Rattle.lemmas.specs.Ints.{eqZ};
+ghost use Rattle.lemmas.specs.Sums.{sum};
 ghost use Rattle.paper.specs.Site.Bonds.{whole, drawn, pairTerm, jorgHolds, kindOf, blueHolds, greyHolds};
 ghost use Rattle.paper.specs.Component.Marks.{Marks};
 ghost use Rattle.columns.specs.Column.{shown};
 ghost use Rattle.bonds.specs.Table.{ActiveIn, JorgIn, BlueIn, CmrIn, CmrOut, Acts, bothActing, jorgAt, blueAt, greyAt};
-ghost use Rattle.bonds.specs.Row.{Row, BothRows, Blank};
+ghost use Rattle.bonds.specs.Row.{Row, BothRows};
+use lemmas::bytes::clear;
+use lemmas::wide;
 use paper::BondKind;
 use paper::Group;
 use paper::Sampler;
-
-fn wide(x: u32) -> usize
-    ensures { λ r. ⌜ r ≡ x ⌝ }
-{
-    x as usize
-}
-
-// One fill of the whole table costs less than clearing the few bytes of each site that does not act.
-fn clear(holds: &mut [u8])
-    ensures { λ _. ⌜ Blank 0 (now (holds .exit)) ⌝ }
-{
-    for k in 0..holds.len() {
-        holds[k] = 0;
-    }
-}
 
 // The bonds of site i, which acts.
 fn active_site(i: usize, d: usize, fwd: &[u32], acts: &[u8], holds: &mut [u8])
@@ -48,6 +36,7 @@ pub fn active_bonds(n: usize, d: usize, fwd: &[u32], acts: &[u8], holds: &mut [u
     requires { ⌜ ActiveIn n d (now fwd) (now acts) (now holds) ⌝ }
     ensures { λ _. ⌜ Marks n d (bothActing d (now (fwd .entry)) (now (acts .entry))) (now (holds .exit)) ⌝ }
 {
+    // One fill of the whole table costs less than clearing the few bytes of each site that does not act.
     clear(holds);
     for i in 0..n {
         if acts[i] == 1 {

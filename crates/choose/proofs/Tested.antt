@@ -6,11 +6,12 @@ use mathlib.Core.List.{List}
 use native.Mathlib.Omega.{arith}
 use lib.Dec.{eqb, leb}
 use lib.ListN.{length, getD}
+use Rattle.lemmas.specs.Counts.{bit}
 use Rattle.paper.specs.declared.Form.{Form}
 use Rattle.paper.specs.declared.Form.the-variants.{Sw, Wolff, Observe}
 use Rattle.paper.specs.declared.Mode.{Mode}
 use Rattle.paper.specs.Panel.Takes.{isSw, isWolff}
-use Rattle.paper.specs.Component.Sizes.{bit, labelOf, sizeOf}
+use Rattle.paper.specs.Component.Sizes.{labelOf, sizeOf}
 use Rattle.paper.specs.Component.Marks.{Flags}
 use Rattle.paper.specs.Move.Moving.{leastSize, reachedBy}
 use Rattle.choose.specs.Chosen.{Becomes, Marked, isOne, reachedAt}

@@ -20,15 +20,10 @@ ghost use Rattle.choose.specs.Chosen.{
   Perms,
   permutedAt,
 };
+use lemmas::wide;
 use paper::Form;
 use paper::Group;
 use paper::Mode;
-
-fn wide(x: u32) -> usize
-    ensures { λ r. ⌜ r ≡ x ⌝ }
-{
-    x as usize
-}
 
 // A byte by a test: both values are at hand, so this is a select and no branch.
 fn pick(test: bool, a: u8, b: u8) -> u8

@@ -9,11 +9,11 @@ use native.Mathlib.Nat.{mul-le-mul-right, suc-mul}
 use lib.ListN.{length, getD, take, drop, length-append, length-take, length-drop, List·getD-append}
 use lib.Seq.{length-take-le, getD-append-add, getD-take, getD-drop, ext-getD}
 use lib.IntN.{ℤ, pos}
+use Rattle.lemmas.specs.Stores.{Whole}
 use Rattle.paper.specs.declared.Group.{Group}
 use Rattle.paper.specs.Panel.Input.{member, spin, patternOf}
 use Rattle.paper.specs.Refusal.Rules.{Distinct}
 use Rattle.columns.specs.Column.{shown, Inside}
-use Rattle.columns.specs.Filled.{Whole}
 use Rattle.columns.specs.Rows.{Written}
 
 -- the m elements of xs from a on are put back as ys

@@ -1,4 +1,3 @@
--- Laws for the proofs on columns: signed numbers, then rows that are read, then rows that are written.
-pub mod Ints
+-- Laws for the proofs on columns: rows that are read, then rows that are written.
 pub mod Packed
 pub mod Lent

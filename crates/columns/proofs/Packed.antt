@@ -10,11 +10,11 @@ use lib.ListN.{length, getD, take, drop}
 use lib.Seq.{getD-take, getD-drop}
 use lib.IntN.{ℤ, pos}
 use lib.Pow.{pow-mono, shl-exact}
-use Rattle.paper.specs.Component.Sizes.{bit}
+use Rattle.lemmas.specs.Counts.{bit}
+use Rattle.lemmas.specs.Stores.{Filled, Cleared}
 use Rattle.paper.specs.Panel.Input.{Pattern}
 use Rattle.columns.specs.Column.{isUp, columnOf, column-lt, Columns}
 use Rattle.columns.specs.Bits.{code-none, code-more}
-use Rattle.columns.specs.Filled.{Filled}
 
 -- the weight of the place k
 pub weight : (k : ℕ) → k < 8 → 1 * 2 ^ k % 256 ≡ 2 ^ k
@@ -26,10 +26,10 @@ room {n} {k} {f} {xs} w was h e i l =
     let p : 2 ^ (k + 1) ≤ 256 = pow-mono {i = k + 1} {j = 8} (omega arith) in
     omega (arith, was .at i (omega (arith, was .long)), column-lt k (f i), rw add-one at p, pow-suc 2 k)
 
-pub none-packed : {n : ℕ} {f : ℕ → Pattern} {xs ys : List ℕ} → length xs ≡ n → Filled 0 (λ i. 0) (length xs) xs ys → Columns n 0 f ys
+pub none-packed : {n m : ℕ} {f : ℕ → Pattern} {ys : List ℕ} → m ≡ n → Cleared m ys → Columns n 0 f ys
 none-packed {n} {f} long cleared = record {
   long = cleared .long ∙ long;
-  at = λ i h. cleared .done i (omega arith) ∙ sym (code-none (λ k. isUp (f i k)));
+  at = λ i h. cleared .zeros i (omega arith) ∙ sym (code-none (λ k. isUp (f i k)));
 }
 
 pub row-packed :

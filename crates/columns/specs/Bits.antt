@@ -8,7 +8,7 @@ use native.Mathlib.Nat.{mod-lt, lt-of-lt-of-le}
 use lib.Dec.{eqb}
 use lib.IntN.{negℤ}
 use lib.Pow.{pow-mono, shl-exact}
-use Rattle.paper.specs.Component.Sizes.{bit}
+use Rattle.lemmas.specs.Counts.{bit}
 use Rattle.columns.specs.Column.{code, code-lt, bitOf, sign, shown, isUp}
 
 -- a code with one place more

@@ -11,12 +11,12 @@ use lib.Dec.{eqb, ltb}
 use lib.ListN.{length, getD}
 use lib.IntN.{ℤ, pos, negsuc, negℤ}
 use lib.Pow.{pow-add, pow-pos}
+use Rattle.lemmas.specs.Ints.{eqZ}
+use Rattle.lemmas.specs.Counts.{bit}
 use Rattle.paper.specs.declared.Group.{Group}
 use Rattle.paper.specs.declared.Mode.{Mode}
 use Rattle.paper.specs.declared.Mode.the-variants.{Houd, Pair, Perm, Gperm, Jorg, Cmr}
 use Rattle.paper.specs.Panel.Input.{Pattern, member, patternOf}
-use Rattle.paper.specs.Site.Acting.{eqZ}
-use Rattle.paper.specs.Component.Sizes.{bit}
 use Rattle.paper.specs.Move.Moving.{partner}
 use Rattle.paper.specs.Refusal.Rules.{Spin}
 

@@ -9,10 +9,10 @@ use native.Mathlib.Nat.{div-add-mod', mod-lt}
 use lib.ListN.{length, getD}
 use lib.Seq.{ext-getD}
 use lib.IntN.{ℤ, pos}
+use Rattle.lemmas.specs.Places.{Placed, place}
 use Rattle.paper.specs.declared.Group.{Group}
 use Rattle.paper.specs.declared.Mode.{Mode}
 use Rattle.paper.specs.Panel.Input.{Pattern, member, spin, patternOf}
-use Rattle.paper.specs.Law.Unique.{Placed, place}
 use Rattle.columns.specs.Column.{shown, columnOf, Columns}
 use Rattle.columns.specs.Gauge.{gaugeOf}
 use Rattle.columns.specs.Rows.{Signed, Written}

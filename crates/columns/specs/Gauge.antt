@@ -8,13 +8,13 @@ use native.Mathlib.Nat.{add-comm}
 use lib.ListN.{length, getD}
 use lib.IntN.{ℤ, negℤ, _*ℤ_}
 use lib.Bits.{bitXor, xor-block, xor-zero-r}
+use Rattle.lemmas.specs.Counts.{bit}
 use Rattle.paper.specs.declared.Group.{Group}
 use Rattle.paper.specs.declared.Mode.{Mode}
 use Rattle.paper.specs.declared.Mode.the-variants.{Houd, Pair, Perm, Gperm, Jorg, Cmr}
 use Rattle.paper.specs.Panel.Input.{Pattern}
 use Rattle.paper.specs.Panel.Takes.{isGperm}
 use Rattle.paper.specs.Site.Acting.{gauge}
-use Rattle.paper.specs.Component.Sizes.{bit}
 use Rattle.paper.specs.Refusal.Rules.{Spin}
 use Rattle.columns.specs.Column.{code, code-lt, code-ext, isUp, shown, columnOf, shown-column, Columns}
 

@@ -6,6 +6,7 @@ use mathlib.Core.Bool.{true, false}
 use mathlib.Core.List.{List}
 use lib.ListN.{getD}
 use lib.IntN.{ℤ, pos, _*ℤ_, one, *ℤ-one, *ℤ-comm}
+use Rattle.lemmas.specs.Bools.{never}
 use Rattle.paper.specs.declared.Group.{Group}
 use Rattle.paper.specs.declared.Mode.{Mode}
 use Rattle.paper.specs.declared.Mode.the-variants.{Houd, Pair, Perm, Gperm, Jorg, Cmr}
@@ -13,7 +14,6 @@ use Rattle.paper.specs.Panel.Input.{Pattern, patternOf}
 use Rattle.paper.specs.Panel.Takes.{isGperm}
 use Rattle.paper.specs.Site.Acting.{gauge}
 use Rattle.paper.specs.Refusal.Rules.{Spin}
-use Rattle.paper.specs.Law.ByTest.{never}
 use Rattle.columns.specs.Column.{columnOf, shown, shown-column, shown-spin, signBy, Columns, Spinning}
 use Rattle.columns.specs.Rows.{Signed, Signs, signed, Written}
 

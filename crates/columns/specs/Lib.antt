@@ -2,7 +2,6 @@
 pub mod Column
 pub mod Bits
 pub mod Gauge
-pub mod Filled
 pub mod Rows
 pub mod Laws
 pub mod Determined

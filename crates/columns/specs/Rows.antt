@@ -6,11 +6,11 @@ use mathlib.Core.Bool.{true}
 use mathlib.Core.List.{List}
 use lib.ListN.{length, getD}
 use lib.IntN.{ℤ, pos, _*ℤ_}
+use Rattle.lemmas.specs.Counts.{bit}
 use Rattle.paper.specs.declared.Group.{Group}
 use Rattle.paper.specs.declared.Mode.{Mode}
 use Rattle.paper.specs.Panel.Input.{Pattern, member, spin, patternOf}
 use Rattle.paper.specs.Panel.Takes.{isGperm}
-use Rattle.paper.specs.Component.Sizes.{bit}
 use Rattle.paper.specs.Refusal.Rules.{Spin, Distinct}
 use Rattle.columns.specs.Column.{shown, isUp, signBy, Inside}
 

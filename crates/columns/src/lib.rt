@@ -3,12 +3,13 @@ ghost use mathlib.Core.Path.{_≡_};
 ghost use Prim.Native.Nat.{_*_, _≤_, _<_};
 ghost use lib.ListN.{getD};
 ghost use lib.IntN.{pos, negℤ};
-ghost use Rattle.paper.specs.Component.Sizes.{bit};
+ghost use Rattle.lemmas.specs.Counts.{bit};
 ghost use Rattle.paper.specs.Panel.Input.{patternOf};
 ghost use Rattle.columns.specs.Column.{shown, isUp, columnOf, Columns};
-ghost use Rattle.columns.specs.Filled.{Whole};
+ghost use Rattle.lemmas.specs.Stores.{Whole};
 ghost use Rattle.columns.specs.Gauge.{gaugeOf, Gaugeable};
 ghost use Rattle.columns.specs.Rows.{Signable, Signed, Places, Packable, Writable, Written, Adds, Fills, added};
+use lemmas::bytes::clear;
 use paper::Group;
 use paper::Mode;
 
@@ -55,17 +56,6 @@ pub fn permute_group_site(column: u8, group: Group, perm: &[u8]) -> u8
         k += 1;
     }
     out
-}
-
-fn clear(cols: &mut [u8])
-    ensures { λ _. ⌜ Whole 0 (λ i. 0) (now (cols .entry)) (now (cols .exit)) ⌝ }
-{
-    let n = cols.len();
-    let mut i: usize = 0;
-    while i < n {
-        cols[i] = 0;
-        i += 1;
-    }
 }
 
 fn weigh(spin: i8, weight: u8) -> u8

@@ -2,7 +2,7 @@
 use mathlib.Core.Path.{_≡_}
 use mathlib.Core.List.{List}
 use Prim.Native.Nat.{ℕ}
-use Rattle.paper.specs.Law.FramesDetermined.{frames-determined}
+use Rattle.laws.specs.FramesDetermined.{frames-determined}
 use Rattle.frame_lines.specs.declared.Written.{Written}
 use Rattle.frame_lines.specs.Determined.{SameWritten, written-same}
 use Rattle.frame.specs.Run.{RunAs}

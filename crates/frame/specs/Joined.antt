@@ -1,18 +1,19 @@
 -- Reading and writing against the whole program: what was read is the paper's call, and what was written is an answer to the text.
-use Prim.Native.Nat.{ℕ, zero, suc, _*_, _≤_, _<_}
+use Prim.Native.Nat.{ℕ, _*_, _≤_, _<_}
 use mathlib.Core.Path.{_≡_, sym, _∙_, ap, subst}
 use mathlib.Core.Logic.{inl, inr}
-use mathlib.Core.Bool.{Bool, true, false, _&&_}
+use mathlib.Core.Bool.{_&&_}
 use mathlib.Core.List.{List, []}
 use native.Mathlib.Omega.{arith}
 use lib.Dec.{eqb}
 use lib.ListN.{length, take, drop, length-map}
 use lib.Seq.{take-at}
+use Rattle.lemmas.specs.Counts.{count-most}
 use Rattle.paper.specs.declared.Group.{Group}
 use Rattle.paper.specs.declared.Answer.{Answer}
 use Rattle.paper.specs.Panel.Input.{Call, Buffers}
 use Rattle.paper.specs.Component.Links.{Linked.stay}
-use Rattle.paper.specs.Component.Sizes.{bit, countWhere, counted, sizeOf}
+use Rattle.paper.specs.Component.Sizes.{counted, sizeOf}
 use Rattle.paper.specs.Refusal.Rule.{Kept, Broken}
 use Rattle.paper.specs.Refusal.Verdict.{Verdict}
 use Rattle.paper.specs.Answer.Move.{Answers, Seen, Accepted, accepted-zero}
@@ -81,15 +82,6 @@ module _ (text out : List ℕ) (m : ℕ) (out′ : List ℕ) where
   })
 
 -- ---- what an accepted move leaves is held by two bytes
-count-most : (f : ℕ → Bool) (m : ℕ) → countWhere f m ≤ m
-unfolding countWhere
-count-most f zero = omega arith
-count-most f (suc m) = let h = count-most f m in let one = bit-most (f m) in omega arith
-  where
-    bit-most : (t : Bool) → bit t ≤ 1
-    bit-most true = omega arith
-    bit-most false = omega arith
-
 pub seen-small : (c : Call) (b b′ : Buffers) → Seen c b b′ → c .lattice .n ≤ 4096 → TwoByte (b′ .labels) (b′ .counts)
 seen-small c b b′ v h = record { small-labels = labels; small-counts = counts }
   where

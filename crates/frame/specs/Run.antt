@@ -7,6 +7,7 @@ use native.Mathlib.Omega.{arith}
 use lib.ListN.{length, getD, take, drop, replicate, length-replicate, getD-replicate, length-append, length-drop}
 use lib.Seq.{take-all}
 use lib.IntN.{ℤ}
+use Rattle.lemmas.specs.Cells.{table}
 use Rattle.paper.specs.declared.Group.{Group}
 use Rattle.paper.specs.declared.Answer.{Answer}
 use Rattle.paper.specs.declared.Answer.the-variants.{Refused, Idle, Moved}
@@ -17,7 +18,6 @@ use Rattle.paper.specs.Site.Bonds.{whole}
 use Rattle.paper.specs.Refusal.Rule.{Kept}
 use Rattle.paper.specs.Refusal.Rules.{Inverse, rules}
 use Rattle.paper.specs.Answer.Move.{Refuses, Answers, Accepted.idle, Accepted.moved}
-use Rattle.paper.specs.Answer.Task.{table}
 use Rattle.paper.specs.Answer.Frame.{frameLattice, frameCall, frameChoices, frameBuffers, HasBack, refusal, FrameAnswers}
 use Rattle.paper.specs.Panel.Made.{callOf, choicesOf, buffersOf}
 use Rattle.steps.specs.Rule.{taskOf}
@@ -27,7 +27,7 @@ use Rattle.frame_lines.specs.declared.Found.the-variants.{Fault, Panel}
 use Rattle.frame_lines.specs.declared.Written.{Written}
 use Rattle.frame_lines.specs.declared.Written.the-variants.{Wrote, NoRoom}
 use Rattle.frame_lines.specs.Spelling.{spellingRules, Spelling, spelling-of, misspelt, misvalued, all-kept, broken-small, misspelt-small}
-use Rattle.frame_lines.specs.Reading.{Rooms, Held, Misread, Readout, FoundAs}
+use Rattle.frame_lines.specs.Reading.{AnyPanelFits, Held, Misread, Readout, FoundAs}
 use Rattle.frame_lines.specs.Writing.{resultOf, TwoByte, Fitted, WrittenAs, RefusalAs, count, shorter, fitted-take, fitted-drop}
 use Rattle.frame.specs.Back.{Reversed, back-complete}
 use Rattle.frame.specs.Values.{values-kept, values-broken}
@@ -171,7 +171,7 @@ pub record PanelGiven (z : Sizes) (g : Group) (spins : List ℤ) (fwd perms bwd 
   pub d-high : z .d ≤ 4
   pub s-high : z .s ≤ 8
   pub size-high : g .len ≤ 8
-  pub rooms : Rooms (length spins) (length fwd) (length perms)
+  pub rooms : AnyPanelFits (length spins) (length fwd) (length perms)
   pub blank : Blank bwd labels counts sizes
 
 -- so it is as it is made
@@ -237,7 +237,7 @@ pub readout-of : (text : List ℕ) (b : Held) (f : Found) (g : Group) (a : Held)
 readout-of text b f g a z e h = subst (λ (y : Found). FoundAs text b y g a) e h
 
 pub panel-given : {text : List ℕ} {b : Held} {z : Sizes} {g : Group} {a : Held} {bwd labels counts sizes : List ℕ} → Readout text b z g a
-    → Rooms (length (b .spins)) (length (b .fwd)) (length (b .perms)) → Blank bwd labels counts sizes
+    → AnyPanelFits (length (b .spins)) (length (b .fwd)) (length (b .perms)) → Blank bwd labels counts sizes
     → PanelGiven z g (a .spins) (a .fwd) (a .perms) bwd labels counts sizes
 panel-given {text} {b} {z} {g} h r k = record {
   n-low = rw (h .sizes) (spelling .sizes .n-low);

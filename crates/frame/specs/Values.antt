@@ -1,23 +1,18 @@
 -- The library's rules on the move that a text asks for: of a text that is spelt well, they are broken just where the program's other rules are.
-use Prim.Native.Nat.{ℕ, zero, suc, _+_, _*_}
-use mathlib.Core.Path.{_≡_, refl, _∙_, ap}
+use Prim.Native.Nat.{ℕ, _+_, _*_}
+use mathlib.Core.Path.{_≡_, _∙_}
 use mathlib.Core.Logic.{inl, inr}
 use mathlib.Core.List.{List, []}
 use native.Mathlib.Omega.{arith}
 use lib.ListN.{length, drop, length-map}
+use Rattle.lemmas.specs.Bools.{never}
+use Rattle.lemmas.specs.Cells.{length-table}
 use Rattle.paper.specs.declared.Mode.the-variants.{Perm}
 use Rattle.paper.specs.Refusal.Rule.{Rule, Kept, Broken}
 use Rattle.paper.specs.Refusal.Rules.{Ranged, Exact, Inverse, Chosen, rules}
-use Rattle.paper.specs.Law.ByTest.{never}
-use Rattle.paper.specs.Answer.Task.{table}
 use Rattle.paper.specs.Answer.Frame.{bytes, signed, frameLattice, frameCall, frameChoices, frameBuffers, groupBytes, HasBack}
 use Rattle.frame_lines.specs.Spelling.{line2, line3, Spelling, valueRules}
 use Rattle.frame_lines.specs.Words.{words-length}
-
-table-length : (m : ℕ) (f : ℕ → ℕ) → length (table m f) ≡ m
-unfolding table
-table-length zero f = refl
-table-length (suc m) f = ap suc (table-length m (λ k. f (suc k)))
 
 -- what a move's rules are asked of
 abbrev pub frameMoveRules : List ℕ → List ℕ → List Rule
@@ -48,10 +43,10 @@ module _ (text bwd : List ℕ) (s : Spelling text) (long : length bwd ≡ frameL
     cuts = λ e. never e;
     choices = λ e. s .perms-line .long;
     greys = λ e. never e;
-    labels = table-length (frameLattice text [] .n) (λ k. 0);
+    labels = length-table (frameLattice text [] .n) (λ k. 0);
     grey-labels = λ e. never e;
-    counts = table-length (frameLattice text [] .n + 1) (λ k. 0);
-    sizes = table-length 4 (λ k. 0);
+    counts = length-table (frameLattice text [] .n + 1) (λ k. 0);
+    sizes = length-table 4 (λ k. 0);
   }
 
   chosen-of : Chosen (frameCall text bwd) (frameChoices text) → Chosen (frameCall text []) (frameChoices text)

@@ -8,7 +8,7 @@ use frame_lines::Written;
 use panel::run_panel;
 use paper::Group;
 ghost use lib.ListN.{length};
-ghost use Rattle.frame_lines.specs.Reading.{Rooms};
+ghost use Rattle.frame_lines.specs.Reading.{AnyPanelFits};
 ghost use Rattle.frame.specs.Run.{Blank, RunAs};
 
 // A text's answer, on lent work arrays.
@@ -23,7 +23,7 @@ fn run_in(
     sizes: &mut [u32],
     out: &mut [u8],
 ) -> Written
-    requires { ⌜ Rooms (length (now spins)) (length (now fwd)) (length (now perms)) ⌝ }
+    requires { ⌜ AnyPanelFits (length (now spins)) (length (now fwd)) (length (now perms)) ⌝ }
     requires { ⌜ Blank (now bwd) (now labels) (now counts) (now sizes) ⌝ }
     ensures { λ w. ⌜ RunAs (now (text .entry)) (now (out .entry)) w (now (out .exit)) ⌝ }
 {

@@ -6,9 +6,9 @@ use mathlib.Core.List.{List, [], _∷_}
 use native.Mathlib.Omega.{arith}
 use native.Mathlib.Nat.{mul-le-mul}
 use lib.ListN.{length, drop, length-drop, drop-of-length-le}
-use Rattle.paper.specs.Panel.Input.{Lattice}
 use Rattle.paper.specs.Refusal.Rule.{Rule, rule, Broken}
 use Rattle.paper.specs.Answer.Frame.{next, bytes, Spelt, Frame, FrameSizes, GroupSize, frameLattice, groupBytes}
+use Rattle.frame_text.specs.Walk.{sizes-alike}
 use Rattle.frame_lines.specs.declared.Sizes.{Sizes}
 use Rattle.frame_lines.specs.Spelling.{line2, line3, line4, line5, spellingRules}
 use Rattle.frame_lines.specs.Scan.{Passed, sizesIn, latticeOf, Headed, Tabled, Placed}
@@ -22,14 +22,11 @@ groupRules t =
     ∷ []
 
 -- ---- the first line
-same-sizes : (u v : Lattice) → u .n ≡ v .n → u .d ≡ v .d → u .s ≡ v .s → FrameSizes u → FrameSizes v
-same-sizes u v a b c s = omega arith
-
 pub bare : (t : List ℕ) → FrameSizes (frameLattice t []) → FrameSizes (latticeOf (sizesIn t))
-bare t s = same-sizes (frameLattice t []) (latticeOf (sizesIn t)) refl refl refl s
+bare t s = sizes-alike (frameLattice t []) (latticeOf (sizesIn t)) refl refl refl s
 
 whole : (t : List ℕ) → FrameSizes (latticeOf (sizesIn t)) → FrameSizes (frameLattice t [])
-whole t s = same-sizes (latticeOf (sizesIn t)) (frameLattice t []) refl refl refl s
+whole t s = sizes-alike (latticeOf (sizesIn t)) (frameLattice t []) refl refl refl s
 
 pub no-head : (t : List ℕ) → (Frame 0x10 4 t → ⊥) → Broken (spellingRules t) 11
 no-head t h = inl (h, refl)

@@ -6,7 +6,7 @@ use native.Mathlib.Omega.{arith}
 use native.Mathlib.Numerals.{add-one}
 use lib.ListN.{length, getD, take, drop, set, length-set, replicate}
 use lib.Seq.{take-all}
-use Rattle.paper.specs.Answer.Task.{table}
+use Rattle.lemmas.specs.Cells.{table}
 
 -- the first k of the m entries of xs stand in ys, and behind them what was there before
 pub record Filling {A : Type 0} (xs before : List A) (m k : ℕ) (ys : List A) : Type 0 where

@@ -18,14 +18,14 @@ use Rattle.frame_lines.specs.declared.Found.the-variants.{Fault, Panel}
 use Rattle.frame_lines.specs.declared.Frames.{Frames}
 
 -- room for the largest panel: 8 systems of 256 sites, 4 directions, groups of 8
-pub record Rooms (s f p : ℕ) : Type 0 where
+pub record AnyPanelFits (s f p : ℕ) : Type 0 where
   pub spins : 2048 ≤ s
   pub fwd : 1024 ≤ f
   pub perms : 2048 ≤ p
 
 -- what is known when the lines are read: the room, and the places
-pub record Ready (text : List ℕ) (at : Places) (s f p : ℕ) : Type 0 where
-  pub rooms : Rooms s f p
+pub record LinesFit (text : List ℕ) (at : Places) (s f p : ℕ) : Type 0 where
+  pub rooms : AnyPanelFits s f p
   pub placed : Placed text at
 
 -- the lent buffers, before or after

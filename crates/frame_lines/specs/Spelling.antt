@@ -9,6 +9,7 @@ use Rattle.paper.specs.Refusal.Rule.{Rule, rule, Kept, Broken}
 use Rattle.paper.specs.Refusal.Rules.{AllSystems, Spins, Grouped, Chosen}
 use Rattle.paper.specs.Answer.Frame.{next, Spelt, Frame, frameLattice, frameBuffers, frameCall, frameChoices}
 use Rattle.paper.specs.Answer.Frame.{groupBytes, FrameSizes, HasBack, GroupSize, frameRules}
+use Rattle.paper.specs.Refusal.Verdict.{kept-both, broken-first, broken-later}
 
 abbrev pub line2 : List ℕ → List ℕ
 line2 text = next text
@@ -46,29 +47,12 @@ pub rules-are : (text : List ℕ) → frameRules text ≡ spellingRules text ++ 
 rules-are text = refl
 
 -- ---- rules behind others
-pub kept-both : (rs qs : List Rule) → Kept rs → Kept qs → Kept (rs ++ qs)
-kept-both [] qs a b = b
-kept-both (r ∷ rs) qs a b = (a .0, kept-both rs qs (a .1) b)
-
-pub kept-first : (rs qs : List Rule) → Kept (rs ++ qs) → Kept rs
-kept-first [] qs a = tt
-kept-first (r ∷ rs) qs a = (a .0, kept-first rs qs (a .1))
-
-pub broken-first : (rs qs : List Rule) (c : ℕ) → Broken rs c → Broken (rs ++ qs) c
-broken-first [] qs c a = absurd a
-broken-first (r ∷ rs) qs c (inl a) = inl a
-broken-first (r ∷ rs) qs c (inr a) = inr (a .0, broken-first rs qs c (a .1))
-
-pub broken-then : (rs qs : List Rule) (c : ℕ) → Kept rs → Broken qs c → Broken (rs ++ qs) c
-broken-then [] qs c a b = b
-broken-then (r ∷ rs) qs c a b = inr (a .0, broken-then rs qs c (a .1) b)
-
 -- a text that breaks one of the eight is refused so; one that keeps them is refused by the others
 pub misspelt : (text : List ℕ) (c : ℕ) → Broken (spellingRules text) c → Broken (frameRules text) c
 misspelt text c b = broken-first (spellingRules text) (valueRules text) c b
 
 pub misvalued : (text : List ℕ) (c : ℕ) → Kept (spellingRules text) → Broken (valueRules text) c → Broken (frameRules text) c
-misvalued text c a b = broken-then (spellingRules text) (valueRules text) c a b
+misvalued text c a b = broken-later (spellingRules text) (valueRules text) c a b
 
 pub all-kept : (text : List ℕ) → Kept (spellingRules text) → Kept (valueRules text) → Kept (frameRules text)
 all-kept text a b = kept-both (spellingRules text) (valueRules text) a b

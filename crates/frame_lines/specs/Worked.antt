@@ -6,8 +6,8 @@ use mathlib.Core.Logic.{inl, inr}
 use mathlib.Core.List.{List, [], _∷_, _++_}
 use native.Mathlib.Omega.{arith}
 use lib.ListN.{length, getD}
+use Rattle.lemmas.specs.Bools.{every, belowTest, below-by}
 use Rattle.paper.specs.Refusal.Rule.{Broken}
-use Rattle.paper.specs.Law.ByTest.{every, belowTest, below-by}
 use Rattle.paper.specs.Answer.Frame.{hex, unhex, firstLine, next, bytes, Spelt}
 use Rattle.frame_lines.specs.Spelling.{spellingRules}
 

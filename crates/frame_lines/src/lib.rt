@@ -15,7 +15,7 @@ use scan::scan;
 ghost use mathlib.Core.Path.{_≡_};
 ghost use lib.ListN.{length};
 ghost use Rattle.frame_lines.specs.Writing.{TwoByte, resultOf, WrittenAs, RefusalAs};
-ghost use Rattle.frame_lines.specs.Reading.{Rooms, Ready, noGroup, ReadAs};
+ghost use Rattle.frame_lines.specs.Reading.{AnyPanelFits, LinesFit, noGroup, ReadAs};
 
 // The sizes that the first line says.
 pub struct Sizes {
@@ -88,7 +88,7 @@ fn read_places(
     fwd: &mut [u32],
     perms: &mut [u8],
 ) -> Frames
-    requires { ⌜ Ready (now text) p (length (now spins)) (length (now fwd)) (length (now perms)) ⌝ }
+    requires { ⌜ LinesFit (now text) p (length (now spins)) (length (now fwd)) (length (now perms)) ⌝ }
     ensures { λ r. ⌜ ReadAs
         (now (text .entry))
         (record { spins = now (spins .entry); fwd = now (fwd .entry); perms = now (perms .entry) })
@@ -109,7 +109,7 @@ fn read_places(
 
 // The rules on spelling and sizes are tested first; then the spins, the neighbours and the permutations are written from the front of their buffers.
 pub fn read(text: &[u8], spins: &mut [i8], fwd: &mut [u32], perms: &mut [u8]) -> Frames
-    requires { ⌜ Rooms (length (now spins)) (length (now fwd)) (length (now perms)) ⌝ }
+    requires { ⌜ AnyPanelFits (length (now spins)) (length (now fwd)) (length (now perms)) ⌝ }
     ensures { λ r. ⌜ ReadAs
         (now (text .entry))
         (record { spins = now (spins .entry); fwd = now (fwd .entry); perms = now (perms .entry) })

@@ -9,7 +9,7 @@ use super::lines::byte_at;
 use super::lines::line_at;
 use super::lines::word_at;
 ghost use mathlib.Core.Path.{_≡_};
-ghost use Rattle.paper.specs.Component.Marks.{Tells};
+ghost use Rattle.lemmas.specs.Tells.{Tells};
 ghost use Rattle.paper.specs.Answer.Frame.{Frame, FrameSizes, GroupSize};
 ghost use Rattle.frame_lines.specs.Scan.{sizesIn, latticeOf, Headed, Tabled, ScannedAs};
 

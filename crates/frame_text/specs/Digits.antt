@@ -8,7 +8,7 @@ use native.Mathlib.Omega.{arith}
 use native.Mathlib.Decide.{decLt}
 use borrow.Author.Tests.{lt-ltb, le-ltb}
 use lib.ListN.{length, getD}
-use Rattle.paper.specs.Component.Marks.{Tells}
+use Rattle.lemmas.specs.Tells.{Tells}
 use Rattle.paper.specs.Answer.Frame.{digit, digitValue, hex, unhex}
 
 -- a to f; 0 to 9 or a to f

@@ -9,7 +9,7 @@ use lib.ListN.{length, getD, drop}
 use Rattle.paper.specs.Panel.Input.{Lattice}
 use Rattle.paper.specs.Refusal.Rule.{Rule, rule, Kept, Broken}
 use Rattle.paper.specs.Answer.Frame.{next, bytes, Spelt, Frame, frameLattice, groupBytes, FrameSizes, GroupSize, frameRules, FrameAnswers}
-use Rattle.paper.specs.Law.FramesDetermined.{kept-of}
+use Rattle.laws.specs.FramesDetermined.{kept-of}
 use Rattle.frame_text.specs.Cut.{SameAnswers}
 use Rattle.frame_text.specs.Shared.{Stuck, Shared, SameLine, shared-sym, shared-some, first}
 
@@ -74,7 +74,7 @@ module _ (b c : ℕ) (x y : List ℕ) (w : c + 19 ≤ b) (s : Shared b x y) wher
           (λ g. omega (arith, g .high, k .wide′ 0x13 (omega arith) (k .to 0x13 (omega arith) l))))
 
 -- ---- the five lines, of at most 11, 4,099, 4,099, 19 and 4,099 characters
-sizes-alike : (u v : Lattice) → u .n ≡ v .n → u .d ≡ v .d → u .s ≡ v .s → FrameSizes u → FrameSizes v
+pub sizes-alike : (u v : Lattice) → u .n ≡ v .n → u .d ≡ v .d → u .s ≡ v .s → FrameSizes u → FrameSizes v
 sizes-alike u v a b c s = omega arith
 
 module _ {c : ℕ} {x y : List ℕ} (k : Next c x y) where

@@ -1,7 +1,7 @@
 // The characters of a text of frames: where digits end, and how much of a long text decides its answer.
 ghost use Prim.Native.Nat.{_≤_};
 ghost use lib.ListN.{length};
-ghost use Rattle.paper.specs.Component.Marks.{Tells};
+ghost use Rattle.lemmas.specs.Tells.{Tells};
 ghost use Rattle.frame_text.specs.Digits.{Letter, Digit};
 ghost use Rattle.frame_text.specs.Line.{DigitsEnd, LineStart};
 ghost use Rattle.frame_text.specs.Cut.{CutAs};

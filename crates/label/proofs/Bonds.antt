@@ -8,10 +8,10 @@ use native.Mathlib.Nat.{not-suc-le-zero, lt-of-not-le}
 use native.Mathlib.Decide.{ℕ-discrete, decLe}
 use native.Mathlib.Omega.{arith}
 use lib.ListN.{length, getD}
+use Rattle.lemmas.specs.Stores.{lt-of-ne}
 use Rattle.label.specs.Closure.{Only, none, more}
 use Rattle.label.specs.Forest.{Adds, Down, Keeps}
 use Rattle.label.specs.Steps.{Passes, Gathered, Listed, Part, Bonding}
-use Rattle.label.proofs.Stores.{lt-of-ne}
 
 -- ---- a loop that adds steps to a forest: after i of m turns q has p's links and those of B i
 pub record Joining (p : List ℕ) (B : ℕ → ℕ → ℕ → Type 0) (m : ℕ) (q : List ℕ) (i : ℕ) : Type 0 where

@@ -10,13 +10,13 @@ use borrow.Author.Tests.{eq-eqb, ne-eqb}
 use lib.Dec.{eqb}
 use lib.ListN.{length, getD, set, length-set}
 use lib.Seq.{getD-set-same, getD-set-other}
+use Rattle.lemmas.specs.Counts.{countWhere, count-zero, count-ext, count-most}
+use Rattle.lemmas.specs.Stores.{AfterSet, AfterSet.here, AfterSet.there, after-set, lt-of-ne}
 use Rattle.paper.specs.Component.Links.{Linked, Linked.stay, Linked.along, Linked.against}
-use Rattle.paper.specs.Component.Sizes.{countWhere, labelOf, sizeOf}
+use Rattle.paper.specs.Component.Sizes.{labelOf, sizeOf}
 use Rattle.label.specs.Closure.{one, same-refl, same-trans, reroute}
-use Rattle.label.specs.Counting.{count-zero, count-ext, count-most}
 use Rattle.label.specs.Forest.{Edge, Down, Keeps, Flat}
 use Rattle.label.specs.Steps.{Flattening, Flattened}
-use Rattle.label.proofs.Stores.{AfterSet, AfterSet.here, AfterSet.there, after-set, lt-of-ne}
 use Rattle.label.proofs.Forest.{set-down, edge-kept, set-edge, edge-new, edge-old}
 use Rattle.label.proofs.Tallies.{Tallied, tally-hit}
 

@@ -7,11 +7,11 @@ use native.Mathlib.Nat.{lt-of-le-of-lt, lt-irrefl, eq-or-lt-of-le}
 use native.Mathlib.Omega.{arith}
 use lib.ListN.{length, getD, set, length-set}
 use lib.Seq.{getD-set-same, getD-set-other}
+use Rattle.lemmas.specs.Stores.{AfterSet, AfterSet.here, AfterSet.there, after-set}
 use Rattle.paper.specs.Component.Links.{Linked.stay, Linked.along, Linked.against}
 use Rattle.label.specs.Closure.{SameLinks, Or, Only, same-refl, same-trans, flip, settled, splice}
 use Rattle.label.specs.Forest.{Adds, Edge, Down}
 use Rattle.label.specs.Steps.{Climbing}
-use Rattle.label.proofs.Stores.{AfterSet, AfterSet.here, AfterSet.there, after-set}
 
 -- ---- a new parent v for the site x
 module _ (p : List ℕ) (x v : ℕ) (xl : x < length p) where

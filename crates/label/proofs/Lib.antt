@@ -1,5 +1,4 @@
 -- Laws for labelling, to `Whole`, and then for counting; each file stands after those of the list that it uses.
-mod Stores
 mod Forest
 mod Lists
 mod Bonds

@@ -8,9 +8,9 @@ use native.Mathlib.Numerals.{add-one}
 use native.Mathlib.Decide.{ℕ-discrete}
 use native.Mathlib.Omega.{arith}
 use lib.ListN.{length, getD, set, length-set}
-use Rattle.paper.specs.Component.Sizes.{bit}
+use Rattle.lemmas.specs.Counts.{bit}
+use Rattle.lemmas.specs.Stores.{AfterSet, AfterSet.here, AfterSet.there, after-set, lt-of-ne}
 use Rattle.label.specs.Steps.{Passes, Among, Gathered}
-use Rattle.label.proofs.Stores.{AfterSet, AfterSet.here, AfterSet.there, after-set, lt-of-ne}
 
 module _ {f : ℕ → Bool} {lo i : ℕ} {list : List ℕ} {m : ℕ} (h : Gathered f lo i list m) (room : m < length list) where
   -- what was listed stays listed

@@ -7,10 +7,10 @@ use lib.Seq.{getD-set-same, getD-set-other}
 use native.Mathlib.Nat.{lt-irrefl, not-suc-le-zero, add-zero, le-antisymm, le-trans, le-of-eq}
 use native.Mathlib.Omega.{arith}
 use lib.ListN.{length, getD, set, length-set}
-use Rattle.paper.specs.Component.Sizes.{bit, countWhere, sizeOf, Sized}
-use Rattle.label.specs.Counting.{bit-le, count-none, count-suc, count-no, count-ext, count-most}
+use Rattle.lemmas.specs.Counts.{bit, countWhere, bit-le, count-none, count-suc, count-no, count-ext, count-most}
+use Rattle.lemmas.specs.Stores.{AfterSet, AfterSet.here, AfterSet.there, after-set, lt-of-ne}
+use Rattle.paper.specs.Component.Sizes.{sizeOf, Sized}
 use Rattle.label.specs.Sizes.{Picking, several, Picked}
-use Rattle.label.proofs.Stores.{AfterSet, AfterSet.here, AfterSet.there, after-set, lt-of-ne}
 
 pub size-le : {l tally : List ℕ} → Sized l tally → (r : ℕ) → r < length l → getD tally r 0 ≤ length l
 unfolding sizeOf

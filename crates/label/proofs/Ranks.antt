@@ -9,9 +9,7 @@ use native.Mathlib.Omega.{arith}
 use borrow.Author.Tests.{le-leb, lt-leb, leb-true}
 use lib.Dec.{leb}
 use lib.ListN.{getD}
-use Rattle.paper.specs.Component.Sizes.{bit}
-use Rattle.paper.specs.Law.Unique.{count-le}
-use Rattle.label.specs.Counting.{bit-le, count-none, count-suc}
+use Rattle.lemmas.specs.Counts.{bit, bit-le, count-none, count-suc, count-le}
 use Rattle.label.specs.Sizes.{orMore, onesOrMore, allOrMore, Place, Top4, with, Falling}
 
 below-bit : (v x : ℕ) → v ≤ x → bit (leb v x) ≡ 1

@@ -10,8 +10,8 @@ use borrow.Author.Tests.{ne-eqb, eqb-true}
 use lib.Dec.{eqb, leb}
 use lib.ListN.{length, getD, set, take, length-set}
 use lib.Seq.{length-take-le, getD-take, getD-set-same, getD-set-other}
-use Rattle.paper.specs.Component.Sizes.{bit, countWhere, labelOf, counted, sizeOf, ofSize, atLeast, Counted, Rank, Largest, Sized}
-use Rattle.label.specs.Counting.{count-zero, count-pos, count-most, count-ext}
+use Rattle.lemmas.specs.Counts.{bit, countWhere, count-zero, count-pos, count-most, count-ext}
+use Rattle.paper.specs.Component.Sizes.{labelOf, counted, sizeOf, ofSize, atLeast, Counted, Rank, Largest, Sized}
 use Rattle.label.specs.Contract.{isOne}
 use Rattle.label.specs.Sizes.{single, several, Picked, Histogramming, onesPass, Histogram, allOrMore, Place, Top4}
 use Rattle.label.proofs.Ranks.{top-ext}
@@ -56,44 +56,44 @@ module _
     {l tally marks list : List ℕ} {ones m : ℕ} (z : Sized l tally) (s : ones ≡ countWhere (single l tally marks) (length l))
     (p : Picked l tally marks list m) (fits : m ≤ length list)
   where
-  pub part-long : length (take m list) ≡ m
-  part-long = length-take-le m list fits
+    pub part-long : length (take m list) ≡ m
+    part-long = length-take-le m list fits
 
-  -- as many of the list and of the sizes 1 pass a test as components
-  passing : (f : ℕ → Bool)
-      → onesPass ones f + countWhere (λ t. f (getD (take m list) t 0)) (length (take m list))
-      ≡ countWhere (λ r. counted (isOne marks) l r && f (sizeOf l r)) (length l)
-  passing f =
-      rw (s, listed) (parts l tally marks f (length l))
-      ∙ count-ext (λ r. counted (isOne marks) l r && f (getD tally r 0)) (λ r. counted (isOne marks) l r && f (sizeOf l r)) (length l)
-      (λ r rl. ap (λ (y : ℕ). counted (isOne marks) l r && f y) (z .each r rl))
-    where
-      listed : countWhere (λ t. f (getD (take m list) t 0)) (length (take m list))
-          ≡ countWhere (λ r. several l tally marks r && f (getD tally r 0)) (length l)
-      listed = rw part-long (count-ext (λ t. f (getD (take m list) t 0)) (λ t. f (getD list t 0)) m (λ t tl. ap f (getD-take m list t 0 tl))) ∙ p .same f
+    -- as many of the list and of the sizes 1 pass a test as components
+    passing : (f : ℕ → Bool)
+        → onesPass ones f + countWhere (λ t. f (getD (take m list) t 0)) (length (take m list))
+        ≡ countWhere (λ r. counted (isOne marks) l r && f (sizeOf l r)) (length l)
+    passing f =
+        rw (s, listed) (parts l tally marks f (length l))
+        ∙ count-ext (λ r. counted (isOne marks) l r && f (getD tally r 0)) (λ r. counted (isOne marks) l r && f (sizeOf l r)) (length l)
+        (λ r rl. ap (λ (y : ℕ). counted (isOne marks) l r && f y) (z .each r rl))
+      where
+        listed : countWhere (λ t. f (getD (take m list) t 0)) (length (take m list))
+            ≡ countWhere (λ r. several l tally marks r && f (getD tally r 0)) (length l)
+        listed = rw part-long (count-ext (λ t. f (getD (take m list) t 0)) (λ t. f (getD list t 0)) m (λ t tl. ap f (getD-take m list t 0 tl))) ∙ p .same f
 
-  few : ones ≤ length l
-  few = rw s (count-most (single l tally marks) (length l))
+    few : ones ≤ length l
+    few = rw s (count-most (single l tally marks) (length l))
 
-  pub histogramming : length l ≤ 4096 → Histogramming (take m list) ones (length l + 1)
-  histogramming h = record {
-    few = omega (arith, part-long, p .short);
-    low = λ t tl. low t (rw part-long at tl);
-    few-ones = le-trans few h;
-    ones-low = omega (arith, few);
-  }
-    where
-      low : (t : ℕ) → t < m → getD (take m list) t 0 < length l + 1
-      low t tl = rw (getD-take m list t 0 tl) (omega (arith, p .low t tl))
+    pub histogramming : length l ≤ 4096 → Histogramming (take m list) ones (length l + 1)
+    histogramming h = record {
+      few = omega (arith, part-long, p .short);
+      low = λ t tl. low t (rw part-long at tl);
+      few-ones = le-trans few h;
+      ones-low = omega (arith, few);
+    }
+      where
+        low : (t : ℕ) → t < m → getD (take m list) t 0 < length l + 1
+        low t tl = rw (getD-take m list t 0 tl) (omega (arith, p .low t tl))
 
-  pub counted-are : {counts : List ℕ} → Histogram (take m list) ones counts (length l + 1) → Counted (isOne marks) l counts
-  counted-are {counts} h = record { long = h .long; zeroth = each 0 (omega arith) ∙ no-empty (isOne marks) l; each = each }
-    where
-      each : (s : ℕ) → s ≤ length l → getD counts s 0 ≡ ofSize (isOne marks) l s
-      each s sl = h .each s (omega arith) ∙ passing (λ x. eqb x s)
+    pub counted-are : {counts : List ℕ} → Histogram (take m list) ones counts (length l + 1) → Counted (isOne marks) l counts
+    counted-are {counts} h = record { long = h .long; zeroth = each 0 (omega arith) ∙ no-empty (isOne marks) l; each = each }
+      where
+        each : (s : ℕ) → s ≤ length l → getD counts s 0 ≡ ofSize (isOne marks) l s
+        each s sl = h .each s (omega arith) ∙ passing (λ x. eqb x s)
 
-  pub largest-are : {a b c d : ℕ} → Top4 (allOrMore ones (take m list) (length (take m list))) a b c d → Top4 (atLeast (isOne marks) l) a b c d
-  largest-are = top-ext (λ v. passing (leb v))
+    pub largest-are : {a b c d : ℕ} → Top4 (allOrMore ones (take m list) (length (take m list))) a b c d → Top4 (atLeast (isOne marks) l) a b c d
+    largest-are = top-ext (λ v. passing (leb v))
 
 -- ---- the four sizes are written
 past : (xs : List ℕ) (i j v : ℕ) → j < i → getD (set xs i v) j 0 ≡ getD xs j 0

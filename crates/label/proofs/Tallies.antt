@@ -8,10 +8,9 @@ use native.Mathlib.Omega.{arith}
 use borrow.Author.Tests.{eq-eqb, ne-eqb}
 use lib.Dec.{eqb}
 use lib.ListN.{length, getD, set, length-set}
-use Rattle.paper.specs.Component.Sizes.{countWhere}
-use Rattle.label.specs.Counting.{count-none, count-yes, count-no, count-most}
-use Rattle.label.specs.Sizes.{Cleared, Started, Histogramming, onesPass, Histogram}
-use Rattle.label.proofs.Stores.{AfterSet, AfterSet.here, AfterSet.there, after-set}
+use Rattle.lemmas.specs.Counts.{countWhere, count-none, count-yes, count-no, count-most}
+use Rattle.lemmas.specs.Stores.{Cleared, AfterSet, AfterSet.here, AfterSet.there, after-set}
+use Rattle.label.specs.Sizes.{Started, Histogramming, onesPass, Histogram}
 
 -- of the entries below m, each beside what it starts with
 abbrev Raised : (ℕ → ℕ) → (ℕ → ℕ → Bool) → List ℕ → ℕ → ℕ → Type 0

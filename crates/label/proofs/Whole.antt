@@ -6,10 +6,10 @@ use mathlib.Core.Bool.{Bool}
 use mathlib.Core.List.{List}
 use native.Mathlib.Nat.{le-trans, le-of-eq}
 use lib.ListN.{length, getD}
+use Rattle.lemmas.specs.Cells.{cell-lt}
 use Rattle.paper.specs.Component.Links.{Linked, Linked.stay, bind}
 use Rattle.paper.specs.Component.Labels.{Bond, Joined, Labels}
 use Rattle.paper.specs.Refusal.Rules.{Sizes}
-use Rattle.lattice.specs.Tables.{cell-lt}
 use Rattle.label.specs.Closure.{one, alike}
 use Rattle.label.specs.Contract.{graphOf, Given}
 use Rattle.label.specs.Entry.{ExactLengths, Below}

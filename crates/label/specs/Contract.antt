@@ -46,7 +46,7 @@ pub record Reported (mark : ℕ → Bool) (labels counts sizes : List ℕ) : Typ
   pub largest : Largest mark labels sizes
 
 -- both steps: places for all that is written, and for a tally of all sites
-pub record Room (n d : ℕ) (fwd holds : List ℕ) (labels counts sizes tally : ℕ) : Type 0 where
+pub record LabelLent (n d : ℕ) (fwd holds : List ℕ) (labels counts sizes tally : ℕ) : Type 0 where
   pub given : Given n d fwd holds labels n
   pub counts-long : counts ≡ n + 1
   pub sizes-long : sizes ≡ 4

@@ -6,8 +6,8 @@ use mathlib.Core.List.{List}
 use lib.Seq.{ext-getD}
 use Rattle.paper.specs.Component.Marks.{marked}
 use Rattle.paper.specs.Component.Sizes.{Sized}
-use Rattle.paper.specs.Law.Unique.{labels-unique, counts-unique, sizes-unique}
 use Rattle.paper.specs.Refusal.Rule.{Kept, Broken, broken-unique, broken-not-kept}
+use Rattle.laws.specs.Unique.{labels-unique, counts-unique, sizes-unique}
 use Rattle.label.specs.declared.Labelling.{Labelling}
 use Rattle.label.specs.declared.Labelling.the-variants.{Unlabelled, Written}
 use Rattle.label.specs.Contract.{graphOf, Labelled, Reported}

@@ -9,8 +9,8 @@ use borrow.Author.Tests.{eq-eqb}
 use lib.Dec.{eqb, leb}
 use lib.ListN.{length, getD, take, replicate, getD-replicate}
 use lib.Seq.{getD-take}
-use Rattle.paper.specs.Component.Sizes.{countWhere, labelOf, counted, everyOne, sizeOf, ofSize, atLeast, Counted, Rank, Largest}
-use Rattle.label.specs.Counting.{count-ext}
+use Rattle.lemmas.specs.Counts.{countWhere, count-ext}
+use Rattle.paper.specs.Component.Sizes.{labelOf, counted, everyOne, sizeOf, ofSize, atLeast, Counted, Rank, Largest}
 use Rattle.label.specs.Contract.{isOne, Reported}
 
 -- two marks that are equal at each site count the same

@@ -9,13 +9,13 @@ use native.Mathlib.Omega.{arith}
 use borrow.Author.Tests.{eq-eqb, ne-eqb, eqb-true}
 use lib.Dec.{eqb}
 use lib.ListN.{length, getD}
+use Rattle.lemmas.specs.Counts.{countWhere, count-most}
 use Rattle.paper.specs.Panel.Input.{Graph}
 use Rattle.paper.specs.Component.Labels.{Joined, Labels}
 use Rattle.paper.specs.Component.Marks.{marked}
-use Rattle.paper.specs.Component.Sizes.{countWhere, labelOf, counted, everyOne, sizeOf, Counted}
-use Rattle.paper.specs.Law.Unique.{same-label, label-lt}
+use Rattle.paper.specs.Component.Sizes.{labelOf, counted, everyOne, sizeOf, Counted}
+use Rattle.laws.specs.Unique.{same-label, label-lt}
 use Rattle.label.specs.Contract.{graphOf, Labelled}
-use Rattle.label.specs.Counting.{count-most}
 use Rattle.label.specs.Totals.{total, total-ext, total-zero, total-ones, total-swap, total-one, total-count}
 
 -- two sites have one label just if they are joined

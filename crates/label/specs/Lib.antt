@@ -1,6 +1,5 @@
 -- Links, counts and the forest; what the functions and their steps promise; what that says to callers; and that it allows one answer.
 pub mod Closure
-pub mod Counting
 pub mod Forest
 pub mod Contract
 pub mod Steps

@@ -6,12 +6,9 @@ use mathlib.Core.Bool.{Bool, not, cond, _&&_}
 use mathlib.Core.List.{List}
 use lib.Dec.{eqb, leb}
 use lib.ListN.{length, getD}
-use Rattle.paper.specs.Component.Sizes.{bit, countWhere, counted, Sized}
+use Rattle.lemmas.specs.Counts.{bit, countWhere}
+use Rattle.paper.specs.Component.Sizes.{counted, Sized}
 use Rattle.label.specs.Contract.{isOne}
-
-pub record Cleared (n : ℕ) (xs : List ℕ) : Type 0 where
-  pub long : length xs ≡ n
-  pub zeros : (x : ℕ) → x < n → getD xs x 0 ≡ 0
 
 pub record Picking (l tally marks : List ℕ) (room : ℕ) : Type 0 where
   pub n-high : length l ≤ 4096

@@ -6,7 +6,7 @@ use mathlib.Core.Bool.{Bool, true, false, cond}
 use native.Mathlib.Nat.{zero-add, add-zero, mul-add, mul-zero, mul-one}
 use native.Mathlib.Decide.{ℕ-discrete}
 use native.Mathlib.Omega.{arith}
-use Rattle.paper.specs.Component.Sizes.{bit, countWhere}
+use Rattle.lemmas.specs.Counts.{bit, countWhere}
 
 unfoldable pub total : (ℕ → ℕ) → ℕ → ℕ
 total f zero = 0

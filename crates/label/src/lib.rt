@@ -2,20 +2,17 @@
 ghost use mathlib.Core.Path.{_≡_};
 ghost use Prim.Native.Nat.{ℕ, _+_, _≤_, _<_};
 ghost use lib.ListN.{length};
-ghost use Rattle.paper.specs.Component.Sizes.{bit, countWhere};
-ghost use Rattle.paper.specs.Component.Marks.{marked, Tells};
+ghost use Rattle.lemmas.specs.Counts.{bit, countWhere};
+ghost use Rattle.paper.specs.Component.Marks.{marked};
+ghost use Rattle.lemmas.specs.Tells.{Tells};
 ghost use Rattle.label.specs.Closure.{Only};
-ghost use Rattle.label.specs.Contract.{isOne, Given, Labelled, Countable, Reported, Room, Seen};
+ghost use Rattle.label.specs.Contract.{isOne, Given, Labelled, Countable, Reported, LabelLent, Seen};
 ghost use Rattle.label.specs.Forest.{Adds};
 ghost use Rattle.label.specs.Entry.{ExactLengths, Below, Answers};
-ghost use Rattle.label.specs.Sizes.{Cleared, Picking, single, Picked, Started, Histogramming, Histogram, onesOrMore, allOrMore, Top4, with, Falling};
+ghost use Rattle.label.specs.Sizes.{Picking, single, Picked, Started, Histogramming, Histogram, onesOrMore, allOrMore, Top4, with, Falling};
 ghost use Rattle.label.specs.Steps.{Own, Climbing, Gathering, Gathered, Listing, Listed, Part, Block, Ends, Bonding, Flattening, Flattened};
-
-fn wide(x: u32) -> usize
-    ensures { λ r. ⌜ r ≡ x ⌝ }
-{
-    x as usize
-}
+use lemmas::wide;
+use lemmas::words::clear;
 
 fn one(yes: bool) -> usize
     ensures { λ r. ⌜ r ≡ bit yes ⌝ }
@@ -158,16 +155,6 @@ pub fn label(n: usize, d: usize, fwd: &[u32], holds: &[u8], labels: &mut [u32], 
     start(labels);
     uf_bonds(d, fwd, holds, labels, tally);
     uf_flatten_counts(labels, tally);
-}
-
-fn clear(xs: &mut [u32])
-    ensures { λ _. ⌜ Cleared (length (now (xs .entry))) (now (xs .exit)) ⌝ }
-{
-    let mut i = 0;
-    while i < xs.len() {
-        xs[i] = 0;
-        i += 1;
-    }
 }
 
 // How many components have one site. Where few sites act these are most, and to count them size by size is a chain of stores to one place.
@@ -341,7 +328,7 @@ fn label_and_count(
     sizes: &mut [u32],
     tally: &mut [u32],
 )
-    requires { ⌜ Room n d (now fwd) (now holds) (length (now labels)) (length (now counts)) (length (now sizes)) (length (now tally)) ⌝ }
+    requires { ⌜ LabelLent n d (now fwd) (now holds) (length (now labels)) (length (now counts)) (length (now sizes)) (length (now tally)) ⌝ }
     ensures { λ _. ⌜ Seen n d (now (fwd .entry)) (now (holds .entry)) (now (labels .exit)) (now (counts .exit)) (now (sizes .exit)) ⌝ }
 {
     label(n, d, fwd, holds, labels, &mut tally[..n]);

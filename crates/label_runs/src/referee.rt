@@ -1,11 +1,9 @@
 // What labels, counts and sizes must be, found in another way: each end of a bond takes the smaller mark until no mark changes, and the counts and
 // sizes are held against the number of sites of each mark.
+use lemmas::wide;
+use lemmas::words::clear;
 use std::num::wrapping_add_u32;
 use std::num::wrapping_sub_u32;
-
-fn wide(x: u32) -> usize {
-    x as usize
-}
 
 fn get(xs: &[u32], i: usize) -> u32 {
     if i < xs.len() { xs[i] } else { 0 }
@@ -86,14 +84,6 @@ fn same(a: &[u32], b: &[u32]) -> bool {
         i += 1;
     }
     ok
-}
-
-fn clear(xs: &mut [u32]) {
-    let mut i = 0;
-    while i < xs.len() {
-        xs[i] = 0;
-        i += 1;
-    }
 }
 
 // How many sites have each mark.

@@ -6,9 +6,8 @@ use mathlib.Core.Bool.{Bool, false, _||_}
 use native.Mathlib.Decide.{ℕ-discrete}
 use native.Mathlib.Nat.{le-antisymm}
 use native.Mathlib.Omega.{arith}
-use Rattle.paper.specs.Component.Marks.{Tells}
+use Rattle.lemmas.specs.Tells.{Tells, Test, same, either, said}
 use Rattle.paper.specs.Refusal.Rules.{NotIdentity}
-use Rattle.lattice.specs.Telling.{Test, same, either, said}
 
 pub record Moving (n : ℕ) (p : ℕ → ℕ) (i : ℕ) (flag : Bool) : Type 0 where
   pub reached : i ≤ n

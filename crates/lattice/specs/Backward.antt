@@ -8,9 +8,9 @@ use native.Mathlib.Nat.{div-add-mod', div-lt-iff-lt-mul, mod-lt, mul-le-mul-righ
 use native.Mathlib.Omega.{arith}
 use lib.ListN.{length, getD, set, length-set}
 use lib.Seq.{ext-getD, getD-set-same, getD-set-other}
+use Rattle.lemmas.specs.Cells.{cell-lt}
 use Rattle.paper.specs.Refusal.Rules.{Inverse}
-use Rattle.lattice.specs.Tables.{cell-lt, inverse-of}
-use Rattle.lattice.specs.Telling.{Each}
+use Rattle.lattice.specs.Tables.{inverse-of}
 
 -- what is lent: a table to read and one to fill
 pub record Turnable (n d : ℕ) (fwd bwd : List ℕ) : Type 0 where
@@ -65,14 +65,6 @@ backward-determined n d fwd p false true b b′ f f′ = absurd (f .none b′ (f
 backward-determined n d fwd p false false b b′ f f′ = (refl, missing-same n d fwd b b′ f f′)
 
 -- ---- filling it
-
--- a 0 is stored behind the zeros
-pub zeros-more : (xs : List ℕ) (k : ℕ) → k < length xs → Each k (λ j. getD xs j 0 ≡ 0) → Each (k + 1) (λ j. getD (set xs k 0) j 0 ≡ 0)
-zeros-more xs k l h j lj = go (ℕ-discrete j k)
-  where
-    go : Dec (j ≡ k) → getD (set xs k 0) j 0 ≡ 0
-    go (yes e) = rw e (getD-set-same xs k 0 0 l)
-    go (no n) = getD-set-other xs k j 0 0 n ∙ h j (omega arith)
 
 -- of the first t bonds, the table leads back from the neighbour, provided that there is an inverse
 pub record Led (n d : ℕ) (fwd : List ℕ) (t : ℕ) (bwd : List ℕ) : Type 0 where

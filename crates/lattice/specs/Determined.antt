@@ -6,11 +6,10 @@ use mathlib.Core.List.{List}
 use lib.IntN.{ℤ}
 use lib.ListN.{length, getD}
 use lib.Ieee.{Float, nan}
+use Rattle.lemmas.specs.Tells.{Tells, tells-determined}
 use Rattle.paper.specs.declared.Group.{Group}
 use Rattle.paper.specs.declared.Mode.{Mode}
-use Rattle.paper.specs.Component.Marks.{Tells}
 use Rattle.paper.specs.Refusal.Rules.{When, Sizes, Ranged, AllSystems, Spins, Inverse, Grouped, SmallCouplings, Warm, Cuts, Permutes, NotIdentity}
-use Rattle.lattice.specs.Telling.{tells-determined}
 
 -- any two answers r and r′ that tell of P are equal
 abbrev pub OneAnswer : Type 0 → Type 0

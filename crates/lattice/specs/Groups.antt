@@ -3,10 +3,10 @@ use Prim.Native.Nat.{ℕ, _<_}
 use mathlib.Core.Path.{_≡_, sym}
 use native.Mathlib.Decide.{decLt}
 use native.Mathlib.Omega.{arith}
+use Rattle.lemmas.specs.Tells.{Each}
 use Rattle.paper.specs.declared.Group.{Group}
 use Rattle.paper.specs.Panel.Input.{member}
 use Rattle.paper.specs.Refusal.Rules.{Distinct, Grouped}
-use Rattle.lattice.specs.Telling.{Each}
 
 -- none before k is the same
 abbrev pub Fresh : (ℕ → ℕ) → ℕ → Type 0

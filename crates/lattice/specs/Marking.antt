@@ -11,10 +11,10 @@ use lib.Bits.{bitOr, or-shr, or-mod, or-comm, or-zero-l, or-lt, shifted-even}
 use lib.Dec.{eqb}
 use lib.ListN.{length, getD}
 use lib.Pow.{pow-add, pow-lt, pow-pos, ones-lt, ones-split, high, shl-shr, shl-exact, shr-shr}
+use Rattle.lemmas.specs.Places.{Placed}
+use Rattle.lemmas.specs.Tells.{Test, Each, same, test-eq}
 use Rattle.paper.specs.Refusal.Rules.{Permutes}
-use Rattle.paper.specs.Law.Sums.{onto}
-use Rattle.paper.specs.Law.Unique.{Placed}
-use Rattle.lattice.specs.Telling.{Test, Each, same, test-eq}
+use Rattle.laws.specs.Permuted.{onto}
 
 -- bit v of x is set
 abbrev pub Bit : ℕ → ℕ → Type 0

@@ -2,14 +2,13 @@
 use Prim.Native.Nat.{ℕ, _+_, _*_, _≤_, _<_}
 use mathlib.Core.Path.{_≡_, sym, _∙_, ap}
 use mathlib.Core.List.{List}
-use native.Mathlib.Nat.{mul-le-mul-right, suc-mul}
 use native.Mathlib.Omega.{arith}
 use lib.Dec.{eqb}
 use lib.ListN.{length, getD}
+use Rattle.lemmas.specs.Places.{Placed}
+use Rattle.lemmas.specs.Tells.{Test, same, test-eq}
 use Rattle.paper.specs.Refusal.Rules.{Back, Inverse, Permutes}
-use Rattle.paper.specs.Law.Sums.{onto}
-use Rattle.paper.specs.Law.Unique.{Placed}
-use Rattle.lattice.specs.Telling.{Test, same, test-eq}
+use Rattle.laws.specs.Permuted.{onto}
 
 -- both tables have an entry for each bond
 pub record Tabled (n d : ℕ) (fwd bwd : List ℕ) : Type 0 where
@@ -24,10 +23,6 @@ pub record TabledBond (n d : ℕ) (fwd bwd : List ℕ) (i e : ℕ) : Type 0 wher
   pub tables : Tabled n d fwd bwd
   pub site : i < n
   pub way : e < d
-
--- the cell of row i and column e
-pub cell-lt : (n d i e : ℕ) → i < n → e < d → i * d + e < n * d
-cell-lt n d i e hi he = let h : i * d + d ≤ n * d = rw suc-mul at (mul-le-mul-right d hi) in omega arith
 
 -- in the sense there alone: b leads back from each neighbour by a
 abbrev pub LeadsBack : ℕ → ℕ → List ℕ → List ℕ → Type 0

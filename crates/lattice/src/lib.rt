@@ -5,23 +5,18 @@ ghost use lib.Bits.{bitOr};
 ghost use lib.ListN.{length, getD};
 ghost use lib.IntN.{natAbs};
 ghost use lib.Ieee.{nan};
-ghost use Rattle.paper.specs.Component.Marks.{Tells};
+ghost use Rattle.lemmas.specs.Tells.{Tells, Each};
 ghost use Rattle.paper.specs.Panel.Input.{member};
-ghost use Rattle.paper.specs.Refusal.Rules.{When, Sizes, Ranged, Spin, AllSystems, Spins, SmallCouplings, Warm, isCut};
-ghost use Rattle.paper.specs.Refusal.Rules.{Cuts, Back, Inverse, Grouped, Permutes, NotIdentity};
-ghost use Rattle.lattice.specs.Telling.{Each};
-ghost use Rattle.lattice.specs.Backward.{Turnable, Turned, Zeros, Led, Filling, FillingSite, FillingBond};
+ghost use Rattle.paper.specs.Refusal.Rules.{When, Sizes, Ranged, Spin, AllSystems, Spins, SmallCouplings, Warm, isCut, Cuts, Back, Inverse, Grouped};
+ghost use Rattle.paper.specs.Refusal.Rules.{Permutes, NotIdentity};
+ghost use Rattle.lattice.specs.Backward.{Turnable, Turned, Led, Filling, FillingSite, FillingBond};
 ghost use Rattle.lattice.specs.Groups.{Fresh, Alone};
 ghost use Rattle.lattice.specs.Marking.{Marked, MarkedBelow, RowIn, Rows, RowsBelow, rowAt, OrderOf};
 ghost use Rattle.lattice.specs.Tables.{Tabled, TabledSite, TabledBond};
+use lemmas::wide;
+use lemmas::words::clear;
 use paper::Group;
 use paper::Mode;
-
-fn wide(x: u32) -> usize
-    ensures { λ r. ⌜ r ≡ x ⌝ }
-{
-    x as usize
-}
 
 fn size(x: u8) -> usize
     ensures { λ r. ⌜ r ≡ x ⌝ }
@@ -146,16 +141,6 @@ fn lead_all_back(n: usize, d: usize, fwd: &[u32], bwd: &mut [u32])
     while i < n {
         lead_site_back(n, d, fwd, bwd, i);
         i += 1;
-    }
-}
-
-fn clear(xs: &mut [u32])
-    ensures { λ _. ⌜ Zeros (now (xs .exit)) ⌝ }
-{
-    let mut k = 0;
-    while k < xs.len() {
-        xs[k] = 0;
-        k += 1;
     }
 }
 

@@ -6,9 +6,9 @@ use native.Mathlib.Omega.{arith}
 use lib.ListN.{getD}
 use lib.IntN.{ℤ, pos, natAbs}
 use mir.Syntax.{w64}
-use Rattle.lattice.specs.Adding.{Bounded, sum-size}
-use Rattle.lattice.specs.Signs.{Sign, sign, sign-abs}
-use Rattle.lattice.specs.Tables.{cell-lt}
+use Rattle.lemmas.specs.Adding.{Bounded, sum-size}
+use Rattle.lemmas.specs.Signs.{Sign, sign, sign-abs}
+use Rattle.lemmas.specs.Cells.{cell-lt}
 use Rattle.meter.specs.Row.{Row, bondTerm, siteTerm, rowSum}
 
 module _ {n d : ℕ} {fwd : List ℕ} {js row : List ℤ} (r : Row n d fwd js row) where

@@ -7,12 +7,12 @@ use native.Mathlib.Omega.{arith}
 use lib.ListN.{length, getD, take, drop, length-take, length-drop}
 use lib.Seq.{getD-drop, getD-take}
 use lib.IntN.{ℤ, pos, negℤ, _*ℤ_}
+use Rattle.lemmas.specs.Sums.{sum-ext}
 use Rattle.paper.specs.Panel.Input.{Lattice, spin, aheadOf}
 use Rattle.paper.specs.Refusal.Rule.{Kept}
 use Rattle.paper.specs.Refusal.Rules.{Sizes, AllSystems, Spins, Inverse, SmallCouplings}
 use Rattle.paper.specs.Site.Energy.{energy}
 use Rattle.paper.specs.Answer.Meter.{MeterExact, meterRules}
-use Rattle.paper.specs.Law.Sums.{sum-ext}
 use Rattle.meter.specs.Row.{Lengths, Row, bondTerm, rowSum}
 
 -- the lattice that is lent

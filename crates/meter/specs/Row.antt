@@ -4,8 +4,8 @@ use mathlib.Core.Path.{_≡_}
 use mathlib.Core.List.{List}
 use lib.ListN.{length, getD}
 use lib.IntN.{ℤ, pos, natAbs, _*ℤ_}
+use Rattle.lemmas.specs.Sums.{sum}
 use Rattle.paper.specs.Refusal.Rules.{Spin, SmallCouplings}
-use Rattle.paper.specs.Site.Acting.{sum}
 
 -- the lengths that are asked, as numbers
 pub record Lengths (n d s spins fwd bwd couplings : ℕ) : Type 0 where

@@ -1,11 +1,12 @@
 // The energy meter.
 ghost use mathlib.Core.Path.{_≡_};
 ghost use lib.IntN.{_*ℤ_};
-ghost use Rattle.paper.specs.Component.Marks.{Tells};
+ghost use Rattle.lemmas.specs.Tells.{Tells};
 ghost use Rattle.paper.specs.Refusal.Rules.{Sizes};
 ghost use Rattle.paper.specs.Answer.Meter.{MeterAnswers};
 ghost use Rattle.meter.specs.Part.{latticeOf};
 ghost use Rattle.meter.specs.Row.{Lengths, Row, RowSite, RowBond, RowSum, Bond, bondTerm, siteTerm};
+use lemmas::wide;
 use paper::MeterAnswer;
 
 fn exact(
@@ -29,12 +30,6 @@ fn bond(j: i32, s: i8, t: i8) -> i64
     ensures { λ r. ⌜ r ≡ j *ℤ s *ℤ t ⌝ }
 {
     (j as i64) * (s as i64) * (t as i64)
-}
-
-fn wide(x: u32) -> usize
-    ensures { λ r. ⌜ r ≡ x ⌝ }
-{
-    x as usize
 }
 
 fn bond_at(n: usize, d: usize, fwd: &[u32], js: &[i32], row: &[i8], i: usize, e: usize) -> i64

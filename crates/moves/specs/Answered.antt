@@ -9,6 +9,8 @@ use lib.ListN.{length, take, replicate}
 use lib.Seq.{length-take-le}
 use lib.IntN.{ℤ}
 use lib.Ieee.{Float}
+use Rattle.lemmas.specs.Tells.{passed, refused}
+use Rattle.lemmas.specs.Bools.{never, and-left, and-right}
 use Rattle.paper.specs.declared.Task.{Task}
 use Rattle.paper.specs.declared.Mode.{Mode}
 use Rattle.paper.specs.declared.Mode.the-variants.{Houd, Pair, Perm, Gperm, Jorg, Cmr}
@@ -18,14 +20,13 @@ use Rattle.paper.specs.Panel.Made.{callOf, buffersOf}
 use Rattle.paper.specs.Panel.Takes.{isCmr, isPerm, moves, permsBy, greysBy, entries}
 use Rattle.paper.specs.Site.Acting.{acts, SomeActs}
 use Rattle.paper.specs.Site.Bonds.{holds}
-use Rattle.paper.specs.Component.Marks.{passed, refused}
 use Rattle.paper.specs.Move.Moving.{Moves}
 use Rattle.paper.specs.Refusal.Kept.{Valid, valid-kept}
 use Rattle.paper.specs.Answer.Move.{Answers}
-use Rattle.paper.specs.Law.ByTest.{never, and-left, and-right, flips-taken, perms-taken, flips-bytes, perms-bytes}
-use Rattle.paper.specs.Law.Unique.{label-lt}
-use Rattle.moves.specs.Ready.{TestedFor, ready}
+use Rattle.laws.specs.Choices.{flips-taken, perms-taken, flips-bytes, perms-bytes}
+use Rattle.laws.specs.Unique.{label-lt}
 use Rattle.rules.specs.Sight.{none-acts}
+use Rattle.moves.specs.Tested.{TestedFor, ready}
 use Rattle.moves.specs.Moved.{Rows}
 use Rattle.moves.specs.Steps.{LabelAsks, LabelLeaves, ChooseAsks, ChooseLeaves, WriteAsks, WriteLeaves}
 use Rattle.moves.specs.Held.{grey-labels}

@@ -15,8 +15,8 @@ use Rattle.paper.specs.Component.Sizes.{labelOf}
 use Rattle.paper.specs.Component.Marks.{Flags}
 use Rattle.paper.specs.Move.Moving.{reached, reachedBy}
 use Rattle.paper.specs.Refusal.Rules.{Permutes}
-use Rattle.paper.specs.Law.Unique.{label-lt}
-use Rattle.paper.specs.Demand3.Step.{entry-lt}
+use Rattle.laws.specs.Unique.{label-lt}
+use Rattle.laws.specs.Entries.{entry-lt}
 use Rattle.columns.specs.Column.{Columns, column-lt}
 use Rattle.choose.specs.Chosen.{reachedAt}
 use Rattle.rules.specs.Sight.{flag-at}

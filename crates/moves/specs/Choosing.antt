@@ -4,6 +4,7 @@ use mathlib.Core.Path.{_≡_, refl, sym, _∙_, ap, subst}
 use mathlib.Core.Bool.{Bool, true, false, cond, _&&_}
 use mathlib.Core.List.{List}
 use lib.ListN.{length, getD}
+use Rattle.lemmas.specs.Bools.{never}
 use Rattle.paper.specs.declared.Task.{Task}
 use Rattle.paper.specs.declared.Mode.{Mode}
 use Rattle.paper.specs.declared.Mode.the-variants.{Houd, Pair, Perm, Gperm, Jorg, Cmr}
@@ -12,7 +13,6 @@ use Rattle.paper.specs.Panel.Takes.{isPerm, isCmr}
 use Rattle.paper.specs.Component.Sizes.{labelOf}
 use Rattle.paper.specs.Component.Marks.{Flags}
 use Rattle.paper.specs.Move.Moving.{flipBy, permAt, greyAt}
-use Rattle.paper.specs.Law.ByTest.{never}
 use Rattle.columns.specs.Column.{shown, columnOf, column-lt, flipped}
 use Rattle.columns.specs.Gauge.{gaugeOf}
 use Rattle.rules.specs.Tables.{Table}

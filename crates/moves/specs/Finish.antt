@@ -6,6 +6,7 @@ use mathlib.Core.List.{List}
 use lib.ListN.{getD}
 use lib.IntN.{ℤ, negℤ}
 use lib.Ieee.{Float}
+use Rattle.lemmas.specs.Bools.{never}
 use Rattle.paper.specs.declared.Task.{Task}
 use Rattle.paper.specs.declared.Form.{Form}
 use Rattle.paper.specs.declared.Form.the-variants.{Sw, Wolff, Observe}
@@ -17,13 +18,12 @@ use Rattle.paper.specs.Component.Sizes.{labelOf}
 use Rattle.paper.specs.Component.Marks.{Flags}
 use Rattle.paper.specs.Move.Moving.{flipSome, greyBit, greyAt, reached, reachedBy, after, final, Moves}
 use Rattle.paper.specs.Refusal.Rules.{Spin}
-use Rattle.paper.specs.Law.Patterns.{flip-spin}
-use Rattle.paper.specs.Law.ByTest.{never}
+use Rattle.laws.specs.Patterns.{flip-spin}
 use Rattle.columns.specs.Column.{shown, columnOf, shown-column, column-ext, Columns}
 use Rattle.columns.specs.Gauge.{gaugeOf, gauge-is}
 use Rattle.columns.specs.Laws.{columns-shown}
 use Rattle.choose.specs.Chosen.{Becomes, greyed}
-use Rattle.moves.specs.Ready.{TestedFor}
+use Rattle.moves.specs.Tested.{TestedFor}
 use Rattle.moves.specs.Moved.{Rows, choiceColumn, chosen-column, after-spin}
 use Rattle.moves.specs.Steps.{chosenAt, finalAt}
 use Rattle.moves.specs.Choices.{reached-is}

@@ -7,6 +7,8 @@ use native.Mathlib.Omega.{arith}
 use lib.ListN.{length, getD}
 use lib.IntN.{ℤ}
 use lib.Ieee.{Float}
+use Rattle.lemmas.specs.Counts.{bit}
+use Rattle.lemmas.specs.Bools.{never}
 use Rattle.paper.specs.declared.Task.{Task}
 use Rattle.paper.specs.declared.Mode.{Mode}
 use Rattle.paper.specs.declared.Mode.the-variants.{Houd, Pair, Perm, Gperm, Jorg, Cmr}
@@ -16,19 +18,18 @@ use Rattle.paper.specs.Panel.Made.{callOf}
 use Rattle.paper.specs.Panel.Takes.{isDrawn, isCmr, moves}
 use Rattle.paper.specs.Site.Acting.{acts}
 use Rattle.paper.specs.Site.Bonds.{samplerOf, jorgHolds, kindOf, blueHolds, greyHolds, bothAct, couplingAt, cutAt, kindAt, holdsBy, holds, holdsGrey}
-use Rattle.paper.specs.Component.Sizes.{bit, everyOne}
+use Rattle.paper.specs.Component.Sizes.{everyOne}
 use Rattle.paper.specs.Component.Labels.{Labels}
 use Rattle.paper.specs.Component.Marks.{Flags, Marks, marked}
-use Rattle.paper.specs.Law.ByTest.{never}
-use Rattle.paper.specs.Law.Local.{Agree}
-use Rattle.paper.specs.Demand3.Turns.{labels-ext}
+use Rattle.laws.specs.Local.{Agree, kind-ext}
+use Rattle.laws.specs.Unique.{labels-ext}
 use Rattle.columns.specs.Column.{shown, Columns}
 use Rattle.columns.specs.Laws.{columns-shown}
-use Rattle.bonds.specs.Laws.{jorg-ext, kind-ext}
+use Rattle.bonds.specs.Laws.{jorg-ext}
 use Rattle.bonds.specs.Table.{bothActing, jorgAt, blueAt, greyAt, CmrOut}
 use Rattle.rules.specs.Sight.{Sights, flag-at, acts-flags, acts-tells}
 use Rattle.label.specs.Contract.{Labelled, Reported}
-use Rattle.moves.specs.Ready.{Tested, TestedFor}
+use Rattle.moves.specs.Tested.{Tested, TestedFor}
 use Rattle.moves.specs.Looked.{mark-at}
 use Rattle.moves.specs.Steps.{heldAt, HoldLeaves, LabelLeaves}
 

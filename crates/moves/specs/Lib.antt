@@ -1,5 +1,5 @@
 -- What tested input says; what the steps ask and leave; laws from columns, bonds and choices to the paper; the answers; that there is one.
-pub mod Ready
+pub mod Tested
 pub mod Looked
 pub mod Moved
 pub mod Steps

@@ -7,6 +7,7 @@ use mathlib.Core.List.{List}
 use lib.Dec.{ltb}
 use lib.IntN.{ℤ, negℤ, _*ℤ_}
 use lib.Bits.{bitXor}
+use Rattle.lemmas.specs.Bools.{and-right}
 use Rattle.paper.specs.declared.Mode.{Mode}
 use Rattle.paper.specs.declared.Mode.the-variants.{Houd, Pair, Perm, Gperm, Jorg, Cmr}
 use Rattle.paper.specs.declared.Form.{Form}
@@ -16,15 +17,14 @@ use Rattle.paper.specs.Site.Acting.{acts, gauge}
 use Rattle.paper.specs.Component.Sizes.{labelOf}
 use Rattle.paper.specs.Move.Moving.{partner, flipBy, permAt, flipSome, actBy, reached, after}
 use Rattle.paper.specs.Refusal.Rules.{Spin, Permutes}
-use Rattle.paper.specs.Law.Patterns.{flip-spin, times-spin}
-use Rattle.paper.specs.Law.Partners.{partner-lt}
-use Rattle.paper.specs.Law.ByTest.{and-right}
-use Rattle.paper.specs.Demand3.Turns.{form-moves}
+use Rattle.laws.specs.Patterns.{flip-spin, times-spin}
+use Rattle.laws.specs.Partners.{partner-lt}
+use Rattle.laws.specs.Entries.{form-moves}
 use Rattle.columns.specs.Column.{shown, columnOf, shown-column, column-ext, flipped}
 use Rattle.columns.specs.Gauge.{gaugeOf, gauge-column}
 use Rattle.rules.specs.Laws.{gauge-spin}
 use Rattle.choose.specs.Chosen.{permutedBy}
-use Rattle.moves.specs.Ready.{TestedFor}
+use Rattle.moves.specs.Tested.{TestedFor}
 
 -- what the choice of the component with the label r makes of a column of m members; g is the gauge
 abbrev pub choiceColumn : Mode → Form → ℕ → ℕ → List ℕ → ℕ → ℕ → ℕ

@@ -6,6 +6,7 @@ use mathlib.Core.List.{List}
 use lib.ListN.{length, getD}
 use lib.IntN.{ℤ}
 use lib.Ieee.{Float}
+use Rattle.lemmas.specs.Tells.{Tells}
 use Rattle.paper.specs.declared.Task.{Task}
 use Rattle.paper.specs.declared.Mode.{Mode}
 use Rattle.paper.specs.declared.Sampler.{Sampler}
@@ -15,7 +16,7 @@ use Rattle.paper.specs.Site.Acting.{acts, SomeActs}
 use Rattle.paper.specs.Site.Bonds.{samplerOf, holds, holdsGrey}
 use Rattle.paper.specs.Component.Labels.{Labels}
 use Rattle.paper.specs.Component.Sizes.{labelOf, everyOne, Sized, Counted, Largest}
-use Rattle.paper.specs.Component.Marks.{Flags, Marks, marked, Tells}
+use Rattle.paper.specs.Component.Marks.{Flags, Marks, marked}
 use Rattle.paper.specs.Move.Moving.{greyAt}
 use Rattle.paper.specs.Refusal.Rules.{Distinct}
 use Rattle.columns.specs.Column.{Inside, Columns}
@@ -25,7 +26,7 @@ use Rattle.bonds.specs.Table as table
 use Rattle.bonds.specs.Table.{Coupled, ActiveIn, bothActing, jorgAt, blueAt}
 use Rattle.label.specs.Contract.{graphOf}
 use Rattle.choose.specs.Chosen.{Becomes, reachedAt, greyed}
-use Rattle.moves.specs.Ready.{Tested}
+use Rattle.moves.specs.Tested.{Tested}
 use Rattle.moves.specs.Moved.{choiceColumn}
 
 -- ---- hold: the tables of bonds. The grey one is worked out where CMR moves

@@ -1,13 +1,4 @@
--- Document 01's rows: their inputs, their statement, the moves that they ask for and the proof; then worked cases that no row has.
+-- The inputs of document 01's rows, the rows that are values, and what no row pins: a slip in a definition is refused here.
 pub mod Cases
-pub mod Table
-pub mod Worked
-pub mod FrameCase
-pub mod Proved
-pub mod Cmr
-pub mod Refused
+pub mod Values
 pub mod Guards
-pub mod Swept
-pub mod Slips
-pub mod SweepRefused
-pub mod Such

@@ -8,19 +8,19 @@ use native.Mathlib.Decide.{ℕ-discrete}
 use lib.ListN.{length, getD, set}
 use lib.Bits.{bitXor}
 use lib.Seq.{getD-set-same, getD-set-other}
-use Rattle.paper.specs.Component.Marks.{Tells}
-use Rattle.rules.specs.Tables.{Written, SomeMarked, Looked}
-use Rattle.rules.proofs.Bytes.{written-none, written-more}
+use Rattle.lemmas.specs.Tells.{Tells}
+use Rattle.lemmas.specs.Stores.{Filled, filled-none, filled-more}
+use Rattle.rules.specs.Tables.{SomeMarked, Looked}
 
 -- the first i sites are looked up
 pub record Looking (table : List ℕ) (gauge : ℕ) (cols old acts : List ℕ) (found : Bool) (i : ℕ) : Type 0 where
   pub below : i ≤ length cols
   pub long : length old ≡ length cols
-  pub written : Written 0 i (λ j. getD table (bitXor (getD cols j 0) gauge) 0) old acts
+  pub written : Filled 0 (λ j. getD table (bitXor (getD cols j 0) gauge) 0) i old acts
   pub tells : Tells found (SomeMarked i acts)
 
 pub looking-none : (table : List ℕ) (gauge : ℕ) (cols old : List ℕ) → length cols ≡ length old → Looking table gauge cols old old false 0
-looking-none table gauge cols old e = record { below = omega arith; long = sym e; written = written-none 0 _ old; tells = λ m. omega (arith, m .below) }
+looking-none table gauge cols old e = record { below = omega arith; long = sym e; written = filled-none 0 _ old; tells = λ m. omega (arith, m .below) }
 
 -- ---- a byte is set at the site i
 module _ (acts : List ℕ) (i v : ℕ) (fits : i < length acts) where
@@ -57,7 +57,7 @@ module _ {table : List ℕ} {gauge : ℕ} {cols old acts : List ℕ} {found : Bo
         record {
           below = omega (arith, more);
           long = w .long;
-          written = written-more 0 _ old i acts v fits is (w .written);
+          written = filled-more (w .written) (omega (arith, more, w .long)) is;
           tells = subst (λ (x : Bool). Tells x (SomeMarked (i + 1) (set acts i v))) (sym e) t;
         }
 
@@ -72,6 +72,6 @@ module _ {table : List ℕ} {gauge : ℕ} {cols old acts : List ℕ} {found : Bo
       let e : i ≡ length cols = omega (arith, w .below) in
       record {
         long = w .written .long ∙ w .long;
-        at = λ j l. w .written .at j (omega arith);
+        at = λ j l. w .written .done j (omega arith);
         tells = subst (λ (n : ℕ). Tells found (SomeMarked n acts)) e (w .tells);
       }

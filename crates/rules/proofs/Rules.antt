@@ -1,5 +1,5 @@
 -- The tests of the rules, one place or one pair at a time.
-use mathlib.Core.Path.{_≡_, refl, sym, _∙_, ap}
+use mathlib.Core.Path.{_≡_, refl, sym}
 use mathlib.Core.Logic.{inl, inr}
 use mathlib.Core.Bool.{true, false}
 use Prim.Native.Nat.{ℕ, zero, suc, _≤_, _<_, _-_, _*_, _+_}
@@ -11,21 +11,16 @@ use mir.Syntax.{w8}
 use mir.Val.{SFits, ofZ, toZ}
 use mir.ValLaws.{toZ-ofZ}
 use borrow.Author.Tests.{ne-eqb}
+use Rattle.lemmas.specs.Ints.{eqZ, same-is, eqZ-no}
+use Rattle.lemmas.specs.Sums.{sum}
 use Rattle.paper.specs.Panel.Input.{Pattern}
-use Rattle.paper.specs.Site.Acting.{eqZ, sum, differs, pairDiffers}
+use Rattle.paper.specs.Site.Acting.{differs, pairDiffers}
 use Rattle.paper.specs.Refusal.Rules.{Spin}
-use Rattle.paper.specs.Law.Patterns.{same-is}
-use Rattle.paper.specs.Demand3.Reversible.{Spinning}
-
-pub not-same : (a b : ℤ) → (a ≡ b → ⊥) → eqZ a b ≡ false
-not-same (pos a) (pos b) ne = ne-eqb a b (λ e. ne (ap pos e))
-not-same (pos a) (negsuc b) ne = refl
-not-same (negsuc a) (pos b) ne = refl
-not-same (negsuc a) (negsuc b) ne = ne-eqb a b (λ e. ne (ap negsuc e))
+use Rattle.laws.specs.Patterns.{Spinning}
 
 pub differs-hit : (m : ℕ) (f : Pattern) → (f m ≡ f 0 → ⊥) → differs (m + 1) f ≡ true
 unfolding differs
-differs-hit m f ne = rw (add-one, not-same (f m) (f 0) ne)
+differs-hit m f ne = rw (add-one, eqZ-no (f m) (f 0) ne)
 
 pub differs-miss : (m : ℕ) (f : Pattern) → f m ≡ f 0 → differs (m + 1) f ≡ differs m f
 unfolding differs
@@ -37,7 +32,7 @@ differs-none f = refl
 
 pub pair-hit : (m : ℕ) (f : Pattern) → (f (2 * m) ≡ f (2 * m + 1) → ⊥) → pairDiffers (m + 1) f ≡ true
 unfolding pairDiffers
-pair-hit m f ne = rw (add-one m, not-same (f (2 * m)) (f (2 * m + 1)) ne)
+pair-hit m f ne = rw (add-one m, eqZ-no (f (2 * m)) (f (2 * m + 1)) ne)
 
 pub pair-miss : (m : ℕ) (f : Pattern) → f (2 * m) ≡ f (2 * m + 1) → pairDiffers (m + 1) f ≡ pairDiffers m f
 unfolding pairDiffers
@@ -56,9 +51,6 @@ unfolding sum
 sum-more m f = rw add-one
 
 -- ---- signed bytes: a local of a signed type is its bits, ofZ w8 z
-pub bits-inj : (a b : ℤ) → SFits w8 a → SFits w8 b → ofZ w8 a ≡ ofZ w8 b → a ≡ b
-bits-inj a b ha hb e = sym (toZ-ofZ w8 a ha) ∙ (ap (toZ w8) e ∙ toZ-ofZ w8 b hb)
-
 pub spin-fits : (z : ℤ) → Spin z → SFits w8 z
 spin-fits z (inl e) = rw e (record { sfits = lit< tt })
 spin-fits z (inr e) = rw e (record { sfits = lit< tt })

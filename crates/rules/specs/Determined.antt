@@ -1,20 +1,22 @@
 -- For one input each public function's promise allows one result, and one content of the buffer that it was lent.
 use Prim.Native.Nat.{ℕ, _/_, _^_, _<_}
-use mathlib.Core.Path.{_≡_, refl, sym, _∙_}
-use mathlib.Core.Bool.{Bool, true, false}
+use mathlib.Core.Path.{_≡_, sym, _∙_}
+use mathlib.Core.Bool.{Bool}
 use mathlib.Core.List.{List}
 use native.Mathlib.Omega.{arith}
 use native.Mathlib.Decide.{decLt}
 use lib.ListN.{length, getD}
 use lib.Seq.{ext-getD}
 use lib.IntN.{ℤ, pos}
+use Rattle.lemmas.specs.Tells.{Tells, tells-determined}
+use Rattle.lemmas.specs.Stores.{Filled, filled-unique}
 use Rattle.paper.specs.declared.Group.{Group}
 use Rattle.paper.specs.declared.Mode.{Mode}
 use Rattle.paper.specs.Site.Acting.{pairDiffers, testBy}
-use Rattle.paper.specs.Component.Marks.{Flags, Tells}
+use Rattle.paper.specs.Component.Marks.{Flags}
 use Rattle.columns.specs.Column.{flipped}
 use Rattle.columns.specs.Determined.{columns-unique}
-use Rattle.rules.specs.Tables.{spinAt, Written, Table, actsEntry, flipEntry, SomeMarked, Looked}
+use Rattle.rules.specs.Tables.{spinAt, Table, actsEntry, flipEntry, SomeMarked, Looked}
 use Rattle.rules.specs.Laws.{SomeSite}
 use Rattle.rules.specs.Sight.{actsAt, Sights}
 
@@ -40,35 +42,21 @@ module _ (mode : Mode) (g : Group) (r s : List ℕ) where
   pub flip-table-determined : Table (g .len) (flipEntry mode (g .len)) r → Table (g .len) (flipEntry mode (g .len)) s → r ≡ s
   flip-table-determined = table-unique (g .len) (flipEntry mode (g .len)) r s
 
--- ---- an array of which the first places are written
-pub written-unique : {A : Type 0} (d : A) (m : ℕ) (f : ℕ → A) (p r s : List A) → Written d m f p r → Written d m f p s → r ≡ s
-written-unique d m f p r s a b = ext-getD d r s (a .long ∙ sym (b .long)) (λ k h. there k (decLt k m))
-  where
-    there : (k : ℕ) → Dec (k < m) → getD r k d ≡ getD s k d
-    there k (yes l) = a .at k l ∙ sym (b .at k l)
-    there k (no l) = a .beyond k (omega arith) ∙ sym (b .beyond k (omega arith))
-
 module _ (p : List ℤ) (g : Group) (mode : Mode) (r s : List ℤ) where
   abbrev pub Flip : List ℤ → Type 0
-  Flip q = Written (pos 0) (g .len) (flipped mode (g .len) (spinAt p)) p q
+  Flip q = Filled (pos 0) (flipped mode (g .len) (spinAt p)) (g .len) p q
 
   pub flip-group-site-determined : Flip r → Flip s → r ≡ s
-  flip-group-site-determined = written-unique (pos 0) (g .len) (flipped mode (g .len) (spinAt p)) p r s
+  flip-group-site-determined = filled-unique (pos 0) (flipped mode (g .len) (spinAt p)) (g .len) p r s
 
 -- ---- the look-up: the lent bytes and the result
 pub record SameLooked (acts : List ℕ) (r : Bool) (acts′ : List ℕ) (r′ : Bool) : Type 0 where
   pub bytes : acts ≡ acts′
   pub result : r ≡ r′
 
-tells-unique : (P : Type 0) (r s : Bool) → Tells r P → Tells s P → r ≡ s
-tells-unique P true true a b = refl
-tells-unique P true false a b = absurd (b a)
-tells-unique P false true a b = absurd (a b)
-tells-unique P false false a b = refl
-
 module _ (table : List ℕ) (gauge : ℕ) (cols acts acts′ : List ℕ) (r r′ : Bool) where
   pub mark-active-determined : Looked table gauge cols acts r → Looked table gauge cols acts′ r′ → SameLooked acts r acts′ r′
-  mark-active-determined a b = record { bytes = same; result = tells-unique (SomeMarked (length cols) acts) r r′ (a .tells) (rw same (b .tells)) }
+  mark-active-determined a b = record { bytes = same; result = tells-determined (SomeMarked (length cols) acts) r r′ (a .tells) (rw same (b .tells)) }
     where
       there : (i : ℕ) → i < length acts → getD acts i 0 ≡ getD acts′ i 0
       there i h = let l : i < length cols = omega (arith, a .long) in a .at i l ∙ sym (b .at i l)
@@ -92,11 +80,11 @@ module _ (mode : Mode) (n : ℕ) (g : Group) (q : ℕ) (xs : List ℤ) where
   look-determined cols flags r cols′ flags′ r′ a b = record {
     columns = columns-unique _ _ _ cols cols′ (a .columns) (b .columns);
     flagged = flags-unique n _ flags flags′ (a .flagged) (b .flagged);
-    result = tells-unique _ r r′ (a .some) (b .some);
+    result = tells-determined _ r r′ (a .some) (b .some);
   }
 
   pub any-acts-determined : (r r′ : Bool) → Tells r (SomeSite n (actsAt mode n g q xs)) → Tells r′ (SomeSite n (actsAt mode n g q xs)) → r ≡ r′
-  any-acts-determined = tells-unique (SomeSite n (actsAt mode n g q xs))
+  any-acts-determined = tells-determined (SomeSite n (actsAt mode n g q xs))
 
   pub acts-at-determined : (i : ℕ) (r r′ : Bool) → r ≡ actsAt mode n g q xs i → r′ ≡ actsAt mode n g q xs i → r ≡ r′
   acts-at-determined i r r′ a b = a ∙ sym b

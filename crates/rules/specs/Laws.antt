@@ -8,19 +8,19 @@ use lib.Dec.{ltb}
 use lib.ListN.{getD}
 use lib.IntN.{ℤ, negℤ}
 use lib.Bits.{bitXor}
+use Rattle.lemmas.specs.Counts.{bit}
+use Rattle.lemmas.specs.Tells.{Tells}
 use Rattle.paper.specs.declared.Mode.{Mode}
 use Rattle.paper.specs.declared.Mode.the-variants.{Houd, Pair, Perm, Gperm, Jorg, Cmr}
 use Rattle.paper.specs.Panel.Input.{Pattern}
 use Rattle.paper.specs.Panel.Takes.{isGperm}
 use Rattle.paper.specs.Site.Acting.{gauge, testBy}
-use Rattle.paper.specs.Component.Sizes.{bit}
-use Rattle.paper.specs.Component.Marks.{Flags, Tells}
+use Rattle.paper.specs.Component.Marks.{Flags}
 use Rattle.paper.specs.Move.Moving.{partner}
 use Rattle.paper.specs.Refusal.Rules.{Spin}
-use Rattle.paper.specs.Law.Patterns.{times-spin}
-use Rattle.paper.specs.Law.Partners.{partner-lt}
-use Rattle.paper.specs.Demand3.Reversible.{Spinning}
-use Rattle.paper.specs.Demand3.ActsKept.{test-ext}
+use Rattle.laws.specs.Patterns.{times-spin, Spinning}
+use Rattle.laws.specs.Partners.{partner-lt}
+use Rattle.laws.specs.Acting.{test-ext}
 use Rattle.columns.specs.Column.{shown, columnOf, flipped, Columns, shown-column, column-ext, column-lt}
 use Rattle.columns.specs.Gauge.{gaugeOf, gauge-column}
 use Rattle.rules.specs.Tables.{Table, actsEntry, SomeMarked, Looked}

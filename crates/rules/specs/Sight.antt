@@ -6,13 +6,14 @@ use mathlib.Core.List.{List}
 use lib.Dec.{eqb}
 use lib.ListN.{length, getD}
 use lib.IntN.{ℤ}
+use Rattle.lemmas.specs.Counts.{bit}
+use Rattle.lemmas.specs.Tells.{Tells}
 use Rattle.paper.specs.declared.Group.{Group}
 use Rattle.paper.specs.declared.Mode.{Mode}
 use Rattle.paper.specs.Panel.Input.{Call, Pattern, patternOf, size}
 use Rattle.paper.specs.Panel.Takes.{isGperm}
 use Rattle.paper.specs.Site.Acting.{gauge, testBy, acts, SomeActs, NoneActs}
-use Rattle.paper.specs.Component.Sizes.{bit}
-use Rattle.paper.specs.Component.Marks.{Flags, Tells}
+use Rattle.paper.specs.Component.Marks.{Flags}
 use Rattle.paper.specs.Refusal.Rules.{Spin}
 use Rattle.columns.specs.Column.{Inside, Spinning, Columns}
 use Rattle.rules.specs.Laws.{SomeSite, none-passes, gauge-spin}

@@ -6,12 +6,12 @@ use mathlib.Core.List.{List}
 use lib.ListN.{length, getD}
 use lib.Bits.{bitXor}
 use lib.IntN.{ℤ, pos}
+use Rattle.lemmas.specs.Counts.{bit}
+use Rattle.lemmas.specs.Tells.{Tells}
 use Rattle.paper.specs.declared.Group.{Group}
 use Rattle.paper.specs.declared.Mode.{Mode}
 use Rattle.paper.specs.Panel.Input.{Pattern}
 use Rattle.paper.specs.Site.Acting.{testBy}
-use Rattle.paper.specs.Component.Sizes.{bit}
-use Rattle.paper.specs.Component.Marks.{Tells}
 use Rattle.columns.specs.Column.{shown, columnOf, flipped, Inside, Spinning}
 use Rattle.columns.specs.Rows.{Signs}
 
@@ -31,12 +31,6 @@ pub record Readable (n : ℕ) (g : Group) (xs ss : List ℤ) (i : ℕ) : Type 0 
   pub spins : Spinning n g xs
   pub signs : Signs (g .len) ss
   pub below : i < n
-
--- q is p with f written at its first m places
-pub record Written {A : Type 0} (d : A) (m : ℕ) (f : ℕ → A) (p q : List A) : Type 0 where
-  pub long : length q ≡ length p
-  pub at : (k : ℕ) → k < m → getD q k d ≡ f k
-  pub beyond : (k : ℕ) → m ≤ k → getD q k d ≡ getD p k d
 
 -- a byte for each of the 256 columns: f x at a column x of m systems, and else 0
 pub record Table (m : ℕ) (f : ℕ → ℕ) (table : List ℕ) : Type 0 where

@@ -5,13 +5,16 @@ ghost use mathlib.Core.Path.{_≡_};
 ghost use Prim.Native.Nat.{ℕ, _*_, _/_, _≤_, _<_};
 ghost use lib.IntN.{pos, negℤ};
 ghost use lib.ListN.{length};
-ghost use Rattle.paper.specs.Site.Acting.{eqZ, sum, differs, pairDiffers, testBy};
+ghost use Rattle.lemmas.specs.Ints.{eqZ};
+ghost use Rattle.lemmas.specs.Sums.{sum};
+ghost use Rattle.paper.specs.Site.Acting.{differs, pairDiffers, testBy};
 ghost use Rattle.paper.specs.Move.Moving.{other};
-ghost use Rattle.paper.specs.Demand3.Reversible.{Spinning};
-ghost use Rattle.paper.specs.Component.Marks.{Tells};
+ghost use Rattle.laws.specs.Patterns.{Spinning};
+ghost use Rattle.lemmas.specs.Tells.{Tells};
+ghost use Rattle.lemmas.specs.Stores.{Filled};
 ghost use Rattle.columns.specs.Column.{shown, columnOf, flipped};
 ghost use Rattle.columns.specs.Rows.{signed};
-ghost use Rattle.rules.specs.Tables.{spinAt, Sized, Written, Table, actsEntry, flipEntry, Looked, Readable};
+ghost use Rattle.rules.specs.Tables.{spinAt, Sized, Table, actsEntry, flipEntry, Looked, Readable};
 ghost use Rattle.rules.specs.Laws.{SomeSite};
 ghost use Rattle.rules.specs.Sight.{actsAt, Sighted, SightedAt, Seeable, Sights};
 
@@ -151,7 +154,7 @@ pub fn acts_table(mode: Mode, group: Group) -> [u8; 256]
 fn negate_first(p: [i8; 8], count: usize) -> [i8; 8]
     requires { ⌜ count ≤ 8 ⌝ }
     requires { ⌜ Spinning count (spinAt p) ⌝ }
-    ensures { λ r. ⌜ Written (pos 0) count (λ k. negℤ (spinAt p k)) p r ⌝ }
+    ensures { λ r. ⌜ Filled (pos 0) (λ k. negℤ (spinAt p k)) count p r ⌝ }
 {
     let mut q = p;
     let mut k: usize = 0;
@@ -166,7 +169,7 @@ fn negate_first(p: [i8; 8], count: usize) -> [i8; 8]
 // Each pair (0 1), (2 3), .. is exchanged; an odd last system is not moved.
 fn exchange_pairs(p: [i8; 8], len: usize) -> [i8; 8]
     requires { ⌜ len ≤ 8 ⌝ }
-    ensures { λ r. ⌜ Written (pos 0) (2 * (len / 2)) (λ k. spinAt p (other k)) p r ⌝ }
+    ensures { λ r. ⌜ Filled (pos 0) (λ k. spinAt p (other k)) (2 * (len / 2)) p r ⌝ }
 {
     let mut q = p;
     let mut j: usize = 0;
@@ -184,7 +187,7 @@ fn exchange_pairs(p: [i8; 8], len: usize) -> [i8; 8]
 pub fn flip_group_site(p: [i8; 8], group: Group, mode: Mode) -> [i8; 8]
     requires { ⌜ group .len ≤ 8 ⌝ }
     requires { ⌜ Spinning (group .len) (spinAt p) ⌝ }
-    ensures { λ r. ⌜ Written (pos 0) (group .len) (flipped mode (group .len) (spinAt p)) p r ⌝ }
+    ensures { λ r. ⌜ Filled (pos 0) (flipped mode (group .len) (spinAt p)) (group .len) p r ⌝ }
 {
     let len = group.len;
     match mode {

@@ -16,10 +16,6 @@ use Rattle.tests.specs.Panel.{panelRules}
 use Rattle.tests.specs.Choices.{Tested, rows-inside, rows-spins}
 use Rattle.steps.specs.Rule.{taskOf}
 
-pub verdict-kept : (rs : List Rule) (r : ℕ) → r ≡ 0 → Verdict rs r → Kept rs
-verdict-kept rs zero e v = v
-verdict-kept rs (suc r) e v = absurd (omega arith)
-
 pub verdict-broken : (rs : List Rule) (r : ℕ) → (r ≡ 0 → ⊥) → Verdict rs r → Broken rs r
 verdict-broken rs zero e v = absurd (e refl)
 verdict-broken rs (suc r) e v = v

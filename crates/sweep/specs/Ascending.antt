@@ -8,24 +8,24 @@ use native.Mathlib.Omega.{arith}
 use native.Mathlib.Numerals.{add-one}
 use native.Mathlib.Decide.{ℕ-discrete}
 use lib.IntN.{ℤ}
+use Rattle.lemmas.specs.Counts.{bit, countWhere}
 use Rattle.paper.specs.declared.Answer.{Answer}
 use Rattle.paper.specs.declared.Answer.the-variants.{Refused, Idle, Moved}
 use Rattle.paper.specs.Panel.Input.{Call, Choices, Buffers, pattern, spin, system}
 use Rattle.paper.specs.Panel.Takes.{takesGreys}
-use Rattle.paper.specs.Component.Sizes.{bit, countWhere}
 use Rattle.paper.specs.Refusal.Rule.{Kept}
 use Rattle.paper.specs.Refusal.Rules.{AllSystems, Spins, rules}
 use Rattle.paper.specs.Refusal.Kept.{Valid, valid-of, valid-kept}
 use Rattle.paper.specs.Answer.Move.{Answers, Accepted, Accepted.idle, Accepted.moved}
 use Rattle.paper.specs.Answer.Task.{Sweep, tasks, masked, taskCall, taskChoices, areas, idleTask}
 use Rattle.paper.specs.Answer.Sweep.{common, sweepRules, Done, SameLengths, Sweeps}
-use Rattle.paper.specs.Law.Determined.{determined, must-accept}
-use Rattle.paper.specs.Law.Sanity.{others-kept}
-use Rattle.paper.specs.Law.Local.{Agree}
-use Rattle.paper.specs.Law.AnswersLocal.{Rows, withSpins, valid-there, local}
-use Rattle.paper.specs.Law.SweepTasks.{task-valid}
-use Rattle.paper.specs.Law.SweepAscending.{tasks-apart, done}
-use Rattle.paper.specs.Law.SweepCounts.{SaysIdle, counted-as}
+use Rattle.laws.specs.Determined.{determined, must-accept}
+use Rattle.laws.specs.Sanity.{others-kept}
+use Rattle.laws.specs.Local.{Agree}
+use Rattle.laws.specs.AnswersLocal.{Rows, withSpins, valid-there, local}
+use Rattle.laws.specs.SweepTasks.{task-valid}
+use Rattle.laws.specs.SweepAscending.{tasks-apart, done}
+use Rattle.laws.specs.SweepCounts.{SaysIdle, counted-as}
 use Rattle.sweep.specs.Spinning.{spins-after}
 
 -- ---- the two counts of the first K tasks

@@ -3,7 +3,7 @@ use Rattle.paper.specs.declared.SweepAnswer.{SweepAnswer}
 use Rattle.paper.specs.Panel.Input.{Buffers}
 use Rattle.paper.specs.Answer.Task.{Sweep}
 use Rattle.paper.specs.Answer.Sweep.{SweepAnswers}
-use Rattle.paper.specs.Law.SweepDetermined.{SameSweep, sweep-determined}
+use Rattle.laws.specs.SweepDetermined.{SameSweep, sweep-determined}
 
 pub run-tasks-determined : (w : Sweep) (b y z : Buffers) (a a′ : SweepAnswer) → SweepAnswers w b a y → SweepAnswers w b a′ z → SameSweep a y a′ z
 run-tasks-determined = sweep-determined

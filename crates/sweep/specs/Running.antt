@@ -16,9 +16,9 @@ use Rattle.paper.specs.Refusal.Kept.{Valid}
 use Rattle.paper.specs.Answer.Move.{Answers}
 use Rattle.paper.specs.Answer.Task.{Sweep, part, taskCall, taskChoices, areas}
 use Rattle.paper.specs.Answer.Sweep.{common}
-use Rattle.paper.specs.Law.Determined.{buffers-equal}
 use Rattle.paper.specs.Panel.Made.{callOf, choicesOf, buffersOf}
 use Rattle.paper.specs.Answer.Made.{planOf}
+use Rattle.laws.specs.Determined.{buffers-equal}
 use Rattle.tasks.specs.Plan.{Bounding, taskAt}
 use Rattle.tasks.specs.Parts.{back, lent-part, lent-length, back-length, back-own, back-other, back-same}
 use Rattle.sweep.specs.Spinning.{length-after}

@@ -4,6 +4,7 @@ use mathlib.Core.Path.{_≡_, ap}
 use mathlib.Core.Logic.{_⊎_, inl, inr, _≢_}
 use mathlib.Core.Bool.{true}
 use lib.ListN.{length}
+use Rattle.lemmas.specs.Places.{Placed, place}
 use Rattle.paper.specs.declared.Answer.{Answer}
 use Rattle.paper.specs.declared.Answer.the-variants.{Refused, Idle, Moved}
 use Rattle.paper.specs.Panel.Input.{graph, Call, Choices, Buffers, spin, size, system}
@@ -14,9 +15,9 @@ use Rattle.paper.specs.Move.Moving.{final}
 use Rattle.paper.specs.Refusal.Rules.{Spin, AllSystems, Spins}
 use Rattle.paper.specs.Refusal.Kept.{Valid, valid-of}
 use Rattle.paper.specs.Answer.Move.{Answers, Goes, Accepted, Accepted.idle, Accepted.moved}
-use Rattle.paper.specs.Law.Unique.{Placed, place, label-lt}
-use Rattle.paper.specs.Demand3.Step.{rows}
-use Rattle.moves.specs.Ready.{ready}
+use Rattle.laws.specs.Unique.{label-lt}
+use Rattle.laws.specs.Entries.{rows}
+use Rattle.moves.specs.Tested.{ready}
 use Rattle.moves.specs.Moved.{Rows}
 use Rattle.moves.specs.Finish.{final-spin}
 

@@ -1,11 +1,11 @@
 -- One turn of the sweep's loop.
-use Prim.Native.Nat.{ℕ, zero, suc, _+_, _≤_, _<_}
+use Prim.Native.Nat.{ℕ, _+_, _≤_, _<_}
 use mathlib.Core.Path.{_≡_}
-use mathlib.Core.Bool.{Bool, true, false}
+use mathlib.Core.Bool.{true, false}
 use native.Mathlib.Omega.{arith}
+use Rattle.lemmas.specs.Counts.{count-most}
 use Rattle.paper.specs.declared.Answer.{Answer}
 use Rattle.paper.specs.Panel.Input.{Buffers}
-use Rattle.paper.specs.Component.Sizes.{bit, countWhere}
 use Rattle.paper.specs.Refusal.Rule.{Kept}
 use Rattle.paper.specs.Refusal.Kept.{Valid}
 use Rattle.paper.specs.Answer.Task.{Sweep, tasks, masked, taskCall, taskChoices, areas}
@@ -16,7 +16,7 @@ use Rattle.sweep.specs.declared.run.Outcomes.{Outcomes}
 use Rattle.sweep.specs.Ascending.{Ran, Steps, isIdle, isMoved, idleBy, movedBy, ran-masked, ran-more}
 
 -- the counts can grow
-pub record Room (t : Outcomes) : Type 0 where
+pub record Growable (t : Outcomes) : Type 0 where
   pub idle : t .idle ≤ 64
   pub moved : t .moved ≤ 64
 
@@ -26,7 +26,7 @@ pub record Added (t : Outcomes) (a : Answer) (t′ : Outcomes) : Type 0 where
 
 pub record Turn (w : Sweep) (k : ℕ) (t : Outcomes) (b : Buffers) : Type 0 where
   pub placing : Placing (planOf w) k (w .order)
-  pub room : Room t
+  pub room : Growable t
   pub valid : masked w k ≡ false → Valid (taskCall w k) (taskChoices w k) (areas w b (b .spins) k)
 
 -- a turn takes a sweep in which the first k tasks have run to one in which k + 1 have
@@ -41,17 +41,7 @@ pub turned-one :
     → Turned w k t b t′ b′
 turned-one w k t b a t′ b′ e s d = record { further = λ b₀ v l h. rw (d .idle, d .moved) (ran-more w b₀ v k (t .idle) (t .moved) b l h e a b′ s) }
 
--- no more are counted than there are
-count-most : (f : ℕ → Bool) (m : ℕ) → countWhere f m ≤ m
-unfolding countWhere
-count-most f zero = omega arith
-count-most f (suc m) = more (f m) (count-most f m)
-  where
-    more : (t : Bool) → countWhere f m ≤ m → countWhere f m + bit t ≤ suc m
-    more true h = omega arith
-    more false h = omega arith
-
-pub room-of : (w : Sweep) (b : Buffers) (k : ℕ) (t : Outcomes) (b′ : Buffers) → tasks w ≤ 64 → Ran w b k (t .idle) (t .moved) b′ → Room t
+pub room-of : (w : Sweep) (b : Buffers) (k : ℕ) (t : Outcomes) (b′ : Buffers) → tasks w ≤ 64 → Ran w b k (t .idle) (t .moved) b′ → Growable t
 room-of w b k t b′ few h = record {
   idle = omega (arith, h .reached, h .idles, count-most (isIdle w (b .spins)) k);
   moved = omega (arith, h .reached, h .moveds, count-most (isMoved w (b .spins)) k);

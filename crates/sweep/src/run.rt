@@ -10,7 +10,7 @@ ghost use Rattle.paper.specs.Refusal.Rule.{Kept};
 ghost use Rattle.paper.specs.Answer.Sweep.{sweepRules, SweepAnswers};
 ghost use Rattle.paper.specs.Panel.Made.{buffersOf};
 ghost use Rattle.paper.specs.Answer.Made.{sweepOf};
-ghost use Rattle.sweep.specs.Turning.{Room, Added, Turn, Turned};
+ghost use Rattle.sweep.specs.Turning.{Growable, Added, Turn, Turned};
 
 // How many tasks were idle so far, and how many moved.
 struct Outcomes {
@@ -19,7 +19,7 @@ struct Outcomes {
 }
 
 fn add(outcomes: Outcomes, answer: Answer) -> Outcomes
-    requires { ⌜ Room outcomes ⌝ }
+    requires { ⌜ Growable outcomes ⌝ }
     ensures { λ r. ⌜ Added outcomes answer r ⌝ }
 {
     match answer {

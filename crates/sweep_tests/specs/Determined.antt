@@ -2,13 +2,12 @@
 use Prim.Native.Nat.{ℕ}
 use mathlib.Core.Path.{_≡_}
 use mathlib.Core.Bool.{Bool}
+use Rattle.lemmas.specs.Tells.{Tells, tells-determined}
 use Rattle.paper.specs.declared.Plan.{Plan}
-use Rattle.paper.specs.Component.Marks.{Tells}
 use Rattle.paper.specs.Panel.Input.{Buffers}
 use Rattle.paper.specs.Refusal.Verdict.{Verdict, verdict-unique}
 use Rattle.paper.specs.Answer.Task.{Sweep}
 use Rattle.paper.specs.Answer.Sweep.{sweepRules}
-use Rattle.lattice.specs.Telling.{tells-determined}
 use Rattle.tasks.specs.Plan.{Planned}
 
 pub test-sweep-determined : (w : Sweep) (b : Buffers) (x y : ℕ) → Verdict (sweepRules w b) x → Verdict (sweepRules w b) y → x ≡ y

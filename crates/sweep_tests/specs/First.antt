@@ -2,13 +2,12 @@
 use Prim.Native.Nat.{ℕ, zero, suc, _*_, _≤_, _<_}
 use mathlib.Core.Path.{_≡_, refl}
 use mathlib.Core.List.{List, [], _∷_, _++_}
-use native.Mathlib.Omega.{arith}
 use lib.ListN.{length, getD}
 use lib.IntN.{ℤ}
 use lib.Ieee.{Float, nan}
 use Rattle.paper.specs.Panel.Input.{Buffers}
 use Rattle.paper.specs.Panel.Takes.{drawsBonds}
-use Rattle.paper.specs.Refusal.Rule.{Rule, rule, Kept}
+use Rattle.paper.specs.Refusal.Rule.{Rule, rule}
 use Rattle.paper.specs.Refusal.Rules.{When, AllSystems, Spins, Inverse, Permutes, SmallCouplings, Warm}
 use Rattle.paper.specs.Refusal.Verdict.{Verdict, broken-first}
 use Rattle.paper.specs.Answer.Task.{Sweep}
@@ -74,7 +73,3 @@ ownLengths w = record {
 pub first-broken : (rs qs : List Rule) (r : ℕ) → (r ≡ 0 → ⊥) → Verdict rs r → Verdict (rs ++ qs) r
 first-broken rs qs zero ne v = absurd (ne refl)
 first-broken rs qs (suc r) ne v = broken-first rs qs (suc r) v
-
-pub kept-of : (rs : List Rule) (r : ℕ) → r ≡ 0 → Verdict rs r → Kept rs
-kept-of rs zero e v = v
-kept-of rs (suc r) e v = absurd (omega arith)

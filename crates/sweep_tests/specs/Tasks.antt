@@ -12,6 +12,7 @@ use lib.Dec.{ltb}
 use lib.ListN.{length, getD}
 use lib.IntN.{ℤ}
 use lib.Ieee.{Float}
+use Rattle.lemmas.specs.Cells.{table-at}
 use Rattle.paper.specs.Panel.Input.{Buffers, member}
 use Rattle.paper.specs.Panel.Takes.{drawsBonds, choicesBy, greysBy, entries, choiceBytes}
 use Rattle.paper.specs.Refusal.Rule.{Rule, Kept, Broken}
@@ -19,11 +20,11 @@ use Rattle.paper.specs.Refusal.Rules.{When, Ranged, AllSystems, Spins, Permutes
 use Rattle.paper.specs.Refusal.Verdict.{Verdict, kept-both, broken-first, broken-later}
 use Rattle.paper.specs.Answer.Task.{Sweep, orderAt, masked, part, taskCall, taskChoices}
 use Rattle.paper.specs.Answer.Sweep.{taskRules}
-use Rattle.paper.specs.Law.SweepTasks.{table-at, part-length}
 use Rattle.paper.specs.declared.Plan.{Plan}
 use Rattle.paper.specs.declared.Task.{Task}
 use Rattle.paper.specs.Panel.Made.{choicesOf, buffersOf}
 use Rattle.paper.specs.Answer.Made.{sweepOf}
+use Rattle.laws.specs.SweepTasks.{part-length}
 use Rattle.tests.specs.Choices.{Tested, EveryCall, rows-inside, rows-spins}
 use Rattle.tasks.specs.Plan.{Planned, tasksOf, groupAt, maskedAt, taskAt, ordered, entry-lt}
 

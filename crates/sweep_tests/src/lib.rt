@@ -4,7 +4,7 @@ use paper::Lengths;
 use paper::Mode;
 use paper::Plan;
 ghost use lib.ListN.{length};
-ghost use Rattle.paper.specs.Component.Marks.{Tells};
+ghost use Rattle.lemmas.specs.Tells.{Tells};
 ghost use Rattle.paper.specs.Refusal.Rules.{When};
 ghost use Rattle.paper.specs.Refusal.Verdict.{Verdict};
 ghost use Rattle.paper.specs.Panel.Made.{buffersOf};

@@ -5,10 +5,10 @@ use mathlib.Core.Bool.{Bool}
 use mathlib.Core.List.{List}
 use lib.ListN.{getD}
 use lib.Ieee.{Float, nan}
+use Rattle.lemmas.specs.Determined.{one-value}
 use Rattle.paper.specs.declared.Group.{Group}
 use Rattle.paper.specs.Panel.Takes.{entries, choiceBytes}
 use Rattle.paper.specs.Answer.Task.{part}
-use Rattle.paper.specs.Law.TypesDetermined.{one-value}
 use Rattle.paper.specs.declared.Plan.{Plan}
 use Rattle.paper.specs.declared.Task.{Task}
 use Rattle.tasks.specs.declared.Span.{Span}

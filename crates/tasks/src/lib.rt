@@ -1,4 +1,5 @@
 // What of a sweep's inputs is one task's: its group, its number at a temperature, its parts of the lent buffers.
+use lemmas::wide;
 use paper::Form;
 use paper::Group;
 use paper::Mode;
@@ -54,12 +55,6 @@ fn part_f32(xs: &[f32], k: usize, m: usize) -> &[f32]
     let a = b.start;
     let e = b.end;
     &xs[a..e]
-}
-
-fn wide(x: u32) -> usize
-    ensures { λ r. ⌜ r ≡ x ⌝ }
-{
-    x as usize
 }
 
 // An entry that the mode does not take may be missing.

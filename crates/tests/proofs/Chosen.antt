@@ -6,15 +6,15 @@ use mathlib.Core.List.{List}
 use native.Mathlib.Nat.{one-mul, zero-mul, zero-add}
 use native.Mathlib.Omega.{arith}
 use lib.ListN.{length, getD}
+use Rattle.lemmas.specs.Tells.{Tells, Test, same, both}
+use Rattle.lemmas.specs.Bools.{never, and-left, and-right}
 use Rattle.paper.specs.declared.Task.{Task}
 use Rattle.paper.specs.declared.Form.{Form}
 use Rattle.paper.specs.declared.Form.the-variants.{Sw, Wolff, Observe}
 use Rattle.paper.specs.Panel.Takes.{isGperm, isWolff, flipsBy, permsBy, greysBy, entries}
-use Rattle.paper.specs.Component.Marks.{Tells}
 use Rattle.paper.specs.Refusal.Rules.{When, NotIdentity, Chosen}
-use Rattle.paper.specs.Law.ByTest.{never, and-left, and-right, flips-taken, perms-taken, flips-bytes, perms-bytes}
-use Rattle.lattice.specs.Telling.{Test, same, both}
 use Rattle.paper.specs.Panel.Made.{choicesOf}
+use Rattle.laws.specs.Choices.{flips-taken, perms-taken, flips-bytes, perms-bytes}
 use Rattle.tests.specs.Choices.{EveryCut, Long, AtMost, PermRows, RowMoves}
 
 pub entries-few : (f : Form) (n : ℕ) → n ≤ 4096 → entries f n ≤ 4096

@@ -5,12 +5,12 @@ use mathlib.Core.Bool.{Bool, true, false, not}
 use mathlib.Core.List.{List}
 use lib.IntN.{ℤ}
 use native.Mathlib.Omega.{arith}
+use Rattle.lemmas.specs.Tells.{Tells}
+use Rattle.lemmas.specs.Bools.{never}
 use Rattle.paper.specs.declared.Task.{Task}
 use Rattle.paper.specs.Panel.Takes.{isWolff}
 use Rattle.paper.specs.Site.Acting.{acts}
-use Rattle.paper.specs.Component.Marks.{Tells}
 use Rattle.paper.specs.Refusal.Rules.{Seeded}
-use Rattle.paper.specs.Law.ByTest.{never}
 use Rattle.rules.specs.Laws.{SomeSite}
 use Rattle.rules.specs.Sight.{actsAt, some-site, some-acts}
 use Rattle.tests.specs.Choices.{EveryCut}

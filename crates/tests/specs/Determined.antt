@@ -5,15 +5,14 @@ use mathlib.Core.Bool.{Bool}
 use mathlib.Core.List.{List, []}
 use lib.IntN.{ℤ}
 use lib.Ieee.{Float}
+use Rattle.lemmas.specs.Tells.{Tells, tells-determined}
 use Rattle.paper.specs.declared.Mode.{Mode}
 use Rattle.paper.specs.declared.Form.{Form}
 use Rattle.paper.specs.declared.Task.{Task}
 use Rattle.paper.specs.declared.Lengths.{Lengths}
-use Rattle.paper.specs.Component.Marks.{Tells}
 use Rattle.paper.specs.Panel.Made.{callOf, choicesOf}
 use Rattle.paper.specs.Refusal.Rules.{choiceRules}
 use Rattle.paper.specs.Refusal.Verdict.{Verdict, verdict-unique}
-use Rattle.lattice.specs.Telling.{tells-determined}
 use Rattle.tests.specs.Lengths.{FitsEach}
 use Rattle.tests.specs.Panel.{panelRules}
 use Rattle.tests.specs.Choices.{EveryCall}

@@ -3,13 +3,12 @@ use Prim.Native.Nat.{ℕ, _+_, _*_, _≤_}
 use mathlib.Core.Path.{_≡_}
 use mathlib.Core.Bool.{Bool}
 use native.Mathlib.Nat.{one-mul}
+use Rattle.lemmas.specs.Tells.{Tells, Test, said}
 use Rattle.paper.specs.declared.Mode.{Mode}
 use Rattle.paper.specs.declared.Form.{Form}
 use Rattle.paper.specs.declared.Lengths.{Lengths}
 use Rattle.paper.specs.Panel.Takes.{drawsBonds, choicesBy, greysBy, entries, choiceBytes}
-use Rattle.paper.specs.Component.Marks.{Tells}
 use Rattle.paper.specs.Refusal.Rules.{When, Fits}
-use Rattle.lattice.specs.Telling.{Test, said}
 
 -- numbers small enough for their products
 pub record Small (n d s m count : ℕ) : Type 0 where

@@ -5,7 +5,7 @@ use paper::Mode;
 use paper::Task;
 ghost use Prim.Native.Nat.{_≤_};
 ghost use lib.ListN.{length, getD};
-ghost use Rattle.paper.specs.Component.Marks.{Tells};
+ghost use Rattle.lemmas.specs.Tells.{Tells};
 ghost use Rattle.paper.specs.Panel.Made.{choicesOf};
 ghost use Rattle.paper.specs.Refusal.Rules.{When, Cuts, Chosen, Seeded, choiceRules};
 ghost use Rattle.paper.specs.Refusal.Verdict.{Verdict};

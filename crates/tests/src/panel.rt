@@ -4,7 +4,7 @@ use paper::Group;
 use paper::Lengths;
 use paper::Mode;
 use paper::Task;
-ghost use Rattle.paper.specs.Component.Marks.{Tells};
+ghost use Rattle.lemmas.specs.Tells.{Tells};
 ghost use Rattle.paper.specs.Refusal.Verdict.{Verdict};
 ghost use Rattle.tests.specs.Lengths.{Small, FitsEach};
 ghost use Rattle.tests.specs.Panel.{Measures, panelRules};

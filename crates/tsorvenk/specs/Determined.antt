@@ -14,8 +14,8 @@ use Rattle.paper.specs.Refusal.Rule.{Kept, broken-unique, broken-not-kept}
 use Rattle.paper.specs.Answer.Number.{sweepValues, meterValues}
 use Rattle.paper.specs.Answer.Meter.{meter-determined}
 use Rattle.paper.specs.Answer.Task.{Sweep}
-use Rattle.paper.specs.Law.Determined.{determined}
-use Rattle.paper.specs.Law.SweepDetermined.{SameSweep, sweep-determined}
+use Rattle.laws.specs.Determined.{determined}
+use Rattle.laws.specs.SweepDetermined.{SameSweep, sweep-determined}
 use Rattle.label.specs.Entry.{Request, Lent}
 use Rattle.label.specs.Determined.{components-determined}
 use Rattle.frame_lines.specs.declared.Written.{Written}

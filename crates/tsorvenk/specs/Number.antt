@@ -5,6 +5,7 @@ use mathlib.Core.Bool.{cond}
 use mathlib.Core.List.{List, [], _∷_}
 use native.Mathlib.Decide.{decLe}
 use lib.ListN.{length, getD}
+use Rattle.lemmas.specs.Cells.{table}
 use Rattle.paper.specs.declared.Group.{Group}
 use Rattle.paper.specs.declared.Mode.{Mode}
 use Rattle.paper.specs.declared.Mode.the-variants.{Houd, Pair, Perm, Gperm, Jorg, Cmr}
@@ -14,7 +15,6 @@ use Rattle.paper.specs.declared.Answer.{Answer}
 use Rattle.paper.specs.declared.Answer.the-variants.{Refused, Idle, Moved}
 use Rattle.paper.specs.Panel.Takes.{isPerm}
 use Rattle.paper.specs.Answer.Number.{number}
-use Rattle.paper.specs.Answer.Task.{table}
 
 -- 0 houd, 1 pair, 2 perm, 3 gperm, 4 Jörg, 5 CMR; 0 SW, 1 Wolff, 2 observe
 pub record Coded (mode form : ℕ) : Type 0 where

@@ -3,6 +3,7 @@ mod framing;
 mod sweeping;
 
 use label::Labelling;
+use lemmas::wide;
 use paper::Answer;
 use paper::Form;
 use paper::Group;
@@ -44,12 +45,6 @@ fn form_of(code: u8) -> Form
         1 => Form::Wolff,
         _ => Form::Observe,
     }
-}
-
-fn wide(x: u32) -> usize
-    ensures { λ r. ⌜ r ≡ x ⌝ }
-{
-    x as usize
 }
 
 fn system_at(group: &[u32], k: usize) -> usize

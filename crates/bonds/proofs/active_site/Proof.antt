@@ -4,11 +4,11 @@ use mathlib.Core.Path.{_≡_, ap, _∙_}
 use native.Mathlib.Nat.{le-antisymm}
 use native.Mathlib.Omega.{arith}
 use lib.ListN.{length, getD}
-use Rattle.paper.specs.Component.Sizes.{bit}
+use borrow.Author.Needs.{needs}
+use Rattle.lemmas.specs.Counts.{bit}
 use Rattle.bonds.specs.Table.{acting, bothActing}
 use Rattle.bonds.specs.Row.{Row}
 use Rattle.bonds.proofs.Rows.{Place, place, base-short, row-none, row-more}
-use borrow.Author.Needs.{needs}
 use Rattle.bonds.proofs.active_site.Statement.{statement}
 use Rattle.bonds.proofs.active_site.Tie as tie
 

@@ -8,10 +8,10 @@ use lib.IntN.{pos, negℤ, _*ℤ_, _-ℤ_, +ℤ-idl}
 use mir.Syntax.{w32}
 use mir.Val.{toZ, ofZ}
 use mir.Facts.{sfits-lit}
+use Rattle.lemmas.specs.Ints.{abs-neg}
+use Rattle.lemmas.specs.Held.{Holds, Value, given, asks, stored, reads, held-sub-to, small-fits}
 use Rattle.columns.specs.Column.{bitOf, shown}
 use Rattle.bonds.proofs.Bits.{align, firsts-same}
-use Rattle.lattice.specs.Ints.{abs-neg}
-use Rattle.lattice.specs.Held.{Holds, Value, given, asks, stored, reads, held-sub-to, small-fits}
 use Rattle.bonds.proofs.aligned.Statement.{statement}
 use Rattle.bonds.proofs.aligned.Tie as tie
 

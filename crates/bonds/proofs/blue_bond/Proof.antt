@@ -3,9 +3,9 @@ use mathlib.Core.Path.{sym, ap, _∙_}
 use mathlib.Core.Bool.{_&&_}
 use borrow.Author.Needs.{needs}
 use lib.Ieee.{Float}
+use Rattle.lemmas.specs.Held.{reads}
 use Rattle.paper.specs.Site.Bonds.{drawn}
 use Rattle.columns.specs.Column.{shown}
-use Rattle.lattice.specs.Held.{reads}
 use Rattle.bonds.proofs.Draws.{coupling-held, size-back, size-small, up-test, same-test, blue-drawn}
 use Rattle.bonds.proofs.blue_bond.Statement.{statement}
 use Rattle.bonds.proofs.blue_bond.Tie as tie

@@ -6,8 +6,8 @@ use native.Mathlib.Omega.{arith}
 use borrow.Author.Needs.{needs}
 use lib.ListN.{length, getD}
 use lib.Ieee.{nan}
+use Rattle.lemmas.specs.Counts.{bit}
 use Rattle.paper.specs.Site.Bonds.{kindOf, blueHolds}
-use Rattle.paper.specs.Component.Sizes.{bit}
 use Rattle.columns.specs.Column.{shown}
 use Rattle.bonds.specs.Table.{Coupled, blueAt}
 use Rattle.bonds.specs.Row.{Row}

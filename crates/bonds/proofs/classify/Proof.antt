@@ -6,10 +6,10 @@ use lib.IntN.{pos, _*ℤ_}
 use lib.Signed.{ltZ}
 use mir.Syntax.{w32}
 use mir.Val.{toZ, ofZ}
+use Rattle.lemmas.specs.Ints.{eqZ}
+use Rattle.lemmas.specs.Held.{reads, held-same, held-differ}
 use Rattle.paper.specs.declared.BondKind.the-variants.{Blue, Red}
-use Rattle.paper.specs.Site.Acting.{eqZ}
 use Rattle.columns.specs.Column.{shown}
-use Rattle.lattice.specs.Held.{reads, held-same, held-differ}
 use Rattle.bonds.proofs.Draws.{zero-held, coupling-held, size-back, size-small, up-test, same-test}
 use Rattle.bonds.proofs.classify.Statement.{statement}
 use Rattle.bonds.proofs.classify.Tie as tie

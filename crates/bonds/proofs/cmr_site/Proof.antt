@@ -9,9 +9,9 @@ use lib.IntN.{pos}
 use lib.Ieee.{nan}
 use mir.Syntax.{w32}
 use mir.Val.{toZ, ofZ}
+use Rattle.lemmas.specs.Counts.{bit}
 use Rattle.paper.specs.declared.BondKind.{BondKind}
 use Rattle.paper.specs.Site.Bonds.{kindOf, blueHolds, greyHolds}
-use Rattle.paper.specs.Component.Sizes.{bit}
 use Rattle.columns.specs.Column.{shown}
 use Rattle.bonds.specs.Table.{Coupled, kindAt, blueAt, greyAt}
 use Rattle.bonds.specs.Row.{BothRows}

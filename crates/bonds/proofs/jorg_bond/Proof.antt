@@ -2,9 +2,9 @@
 use mathlib.Core.Path.{ap, _∙_}
 use borrow.Author.Tests.{eq-eqb, ne-eqb}
 use lib.IntN.{ℤ}
+use Rattle.lemmas.specs.Held.{given, reads}
 use Rattle.paper.specs.Site.Bonds.{jorgHolds}
 use Rattle.columns.specs.Column.{shown}
-use Rattle.lattice.specs.Held.{given, reads}
 use Rattle.bonds.proofs.jorg_bond.Statement.{statement}
 use Rattle.bonds.proofs.jorg_bond.Tie as tie
 

@@ -9,10 +9,10 @@ use lib.Ieee.{Float}
 use mir.Syntax.{w32}
 use mir.Val.{toZ, ofZ}
 use mir.Facts.{sfits-lit}
-use Rattle.paper.specs.Site.Acting.{sum}
+use Rattle.lemmas.specs.Sums.{sum}
+use Rattle.lemmas.specs.Held.{Value, given, asks, stored, reads, held-mul, held-lt, small-fits, mul-small}
 use Rattle.paper.specs.Site.Bonds.{whole, drawn, pairTerm}
 use Rattle.columns.specs.Column.{shown}
-use Rattle.lattice.specs.Held.{Value, given, asks, stored, reads, held-mul, held-lt, small-fits, mul-small}
 use Rattle.bonds.proofs.Pairs.{pairs-small}
 use Rattle.bonds.proofs.jorg_holds.Statement.{statement}
 use Rattle.bonds.proofs.jorg_holds.Tie as tie

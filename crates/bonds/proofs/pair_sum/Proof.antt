@@ -7,10 +7,10 @@ use borrow.Author.Needs.{needs}
 use lib.IntN.{ℤ, _+ℤ_}
 use mir.Syntax.{w32}
 use mir.Val.{SFits, toZ, ofZ}
-use Rattle.paper.specs.Site.Acting.{sum}
+use Rattle.lemmas.specs.Sums.{sum}
+use Rattle.lemmas.specs.Held.{Holds, Value, bounded, asks, stored, reads, held-add-to, small-fits}
 use Rattle.paper.specs.Site.Bonds.{pairTerm}
 use Rattle.columns.specs.Column.{shown}
-use Rattle.lattice.specs.Held.{Holds, Value, bounded, asks, stored, reads, held-add-to, small-fits}
 use Rattle.bonds.proofs.Pairs.{past, past-none, past-more, term-past, sum-more, pairs-small}
 use Rattle.bonds.proofs.pair_sum.Statement.{statement}
 use Rattle.bonds.proofs.pair_sum.Tie as tie

@@ -4,13 +4,14 @@ use mathlib.Core.Path.{_∙_}
 use native.Mathlib.Omega.{arith}
 use lib.ListN.{length, getD}
 use borrow.Author.Needs.{needs}
+use Rattle.lemmas.specs.Stores.{Filled, filled-none, filled-more}
 use Rattle.choose.specs.Chosen.{flippedAt}
-use Rattle.choose.proofs.Passed.{Passed, pass-none, pass-more, pass-all}
+use Rattle.choose.proofs.Passed.{pass-all}
 use Rattle.choose.proofs.flip_columns.Statement.{statement}
 use Rattle.choose.proofs.flip_columns.Tie as tie
 
 abbrev Inv-loop : tie.InvT-loop
-Inv-loop form reached labels flips cols₀ table n i₀ cols i = Passed (flippedAt form reached labels flips table cols₀) cols₀ i cols
+Inv-loop form reached labels flips cols₀ table n i₀ cols i = Filled 0 (flippedAt form reached labels flips table cols₀) i cols₀ cols
 
 abbrev μ-loop : tie.MeasureT-loop
 μ-loop form reached labels flips cols₀ table n i₀ cols i = length cols₀ - i
@@ -26,7 +27,7 @@ byte : (c : tie.After-slice-known2 Inv-loop μ-loop) → getD (c .before .before
 byte c = omega (arith, c .slice-known2 .given (c .before .before .loop .i))
 
 loop-holds : tie.Need-loop-holds Inv-loop μ-loop
-loop-holds c = pass-none _ _
+loop-holds c = filled-none _ _ _
 
 slice-read-old : tie.Need-slice-read-old Inv-loop μ-loop
 slice-read-old c = search needs
@@ -71,7 +72,7 @@ loop-again : tie.Need-loop-again Inv-loop μ-loop
 loop-again c =
     let t = c .before .before .before .before .before .before in
     let l = t .before .loop in
-    pass-more _ _ (l .i) (l .cols) (c .pick .result) (l .inv) (t .loop-test .taken)
+    filled-more (l .inv) (t .loop-test .taken)
     (c .pick .ensures ∙ rw (c .before .flip-at .ensures, c .before .before .before .wide .ensures, l .inv .rest (l .i) (omega arith)))
 
 same-length : tie.Need-same-length Inv-loop μ-loop

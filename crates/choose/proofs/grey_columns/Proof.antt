@@ -5,15 +5,16 @@ use denote.Ref.{now}
 use native.Mathlib.Omega.{arith}
 use lib.ListN.{length, getD}
 use borrow.Author.Needs.{needs}
+use Rattle.lemmas.specs.Stores.{Filled, filled-none, filled-more}
 use Rattle.paper.specs.Panel.Takes.{entry}
 use Rattle.choose.specs.Chosen.{greyedAt}
-use Rattle.choose.proofs.Passed.{Passed, pass-none, pass-more, pass-all}
+use Rattle.choose.proofs.Passed.{pass-all}
 use Rattle.choose.proofs.Entries.{entry-lt}
 use Rattle.choose.proofs.grey_columns.Statement.{statement}
 use Rattle.choose.proofs.grey_columns.Tie as tie
 
 abbrev Inv-loop : tie.InvT-loop
-Inv-loop form reached labels greys cols₀ n i₀ cols i = Passed (greyedAt form reached labels greys cols₀) cols₀ i cols
+Inv-loop form reached labels greys cols₀ n i₀ cols i = Filled 0 (greyedAt form reached labels greys cols₀) i cols₀ cols
 
 abbrev μ-loop : tie.MeasureT-loop
 μ-loop form reached labels greys cols₀ n i₀ cols i = length cols₀ - i
@@ -41,7 +42,7 @@ within c =
     rw (at c, p .lent) (entry-lt (S t .args .form) _ _ (p .moving) (p .sites .below (t .before .loop .i) (t .loop-test .taken)))
 
 loop-holds : tie.Need-loop-holds Inv-loop μ-loop
-loop-holds c = pass-none _ _
+loop-holds c = filled-none _ _ _
 
 slice-read-old : tie.Need-slice-read-old Inv-loop μ-loop
 slice-read-old c = search needs
@@ -89,7 +90,7 @@ loop-again c =
     let g = c .before .before in
     let t = g .before .before .before .before .before .before in
     let l = t .before .loop in
-    pass-more _ _ (l .i) (l .cols) (c .pick .result) (l .inv) (t .loop-test .taken)
+    filled-more (l .inv) (t .loop-test .taken)
     (c .pick .ensures ∙ rw (g .grey-column .ensures, at (g .before .before), same t))
 
 same-length : tie.Need-same-length Inv-loop μ-loop

@@ -5,18 +5,19 @@ use mathlib.Core.Logic.{⊎-elim}
 use denote.Ref.{now}
 use native.Mathlib.Omega.{arith}
 use lib.ListN.{length, getD}
-use lib.Bits.{bitXor}
 use borrow.Author.Needs.{needs}
+use Rattle.lemmas.specs.Stores.{Filled, filled-none, filled-more, filled-skip}
 use Rattle.paper.specs.Panel.Takes.{entry}
 use Rattle.choose.specs.Chosen.{permutedAt}
-use Rattle.choose.proofs.Passed.{Passed, pass-none, pass-more, pass-skip, pass-all}
+use Rattle.choose.proofs.Passed.{pass-all}
 use Rattle.choose.proofs.Entries.{row-fits}
 use Rattle.choose.proofs.Row.{row-at, part-places, moved, kept}
 use Rattle.choose.proofs.permute_columns.Statement.{statement}
 use Rattle.choose.proofs.permute_columns.Tie as tie
 
 abbrev Inv-loop : tie.InvT-loop
-Inv-loop form group gauge reached labels perms cols₀ n len i₀ cols i = Passed (permutedAt form (group .len) gauge reached labels perms cols₀) cols₀ i cols
+Inv-loop form group gauge reached labels perms cols₀ n len i₀ cols i =
+    Filled 0 (permutedAt form (group .len) gauge reached labels perms cols₀) i cols₀ cols
 
 abbrev μ-loop : tie.MeasureT-loop
 μ-loop form group gauge reached labels perms cols₀ n len i₀ cols i = length cols₀ - i
@@ -49,7 +50,7 @@ at : (c : tie.After-entry-of Inv-loop μ-loop) → c .entry-of .result * S (turn
 at c = row-at (S (turn c) .args .form) _ _ (c .before .wide .ensures) (c .entry-of .ensures)
 
 loop-holds : tie.Need-loop-holds Inv-loop μ-loop
-loop-holds c = pass-none _ _
+loop-holds c = filled-none _ _ _
 
 shared-slice-read-if1 : tie.Need-shared-slice-read-if1 Inv-loop μ-loop
 shared-slice-read-if1 c = search needs
@@ -108,7 +109,7 @@ loop-again c =
     ⊎-elim
     (λ w. let e = row-at (a .form) _ m (w .2 .ensures) (w .3 .ensures) in
     rw (w .7)
-    (pass-more _ _ (l .i) (l .cols) (bitXor (w .6 .result) (a .gauge)) (l .inv) (t .loop-test .taken)
+    (filled-more (l .inv) (t .loop-test .taken)
     (moved (a .form) m (a .gauge) (now (a .reached)) (now (a .labels)) (now (a .perms)) (now (a .cols)) (l .i) _ _ (w .6 .result)
     (w .0 .taken)
     e
@@ -116,8 +117,7 @@ loop-again c =
     (omega (arith, e, within t))
     (w .6 .ensures))))
     (λ w. rw (w .1)
-    (pass-skip _ _ (l .i) (l .cols) (l .inv) (t .loop-test .taken)
-    (kept (a .form) m (a .gauge) (now (a .reached)) (now (a .labels)) (now (a .perms)) (now (a .cols)) (l .i) (w .0 .left))))
+    (filled-skip (l .inv) (kept (a .form) m (a .gauge) (now (a .reached)) (now (a .labels)) (now (a .perms)) (now (a .cols)) (l .i) (w .0 .left))))
     (c .if1 .came)
 
 same-length : tie.Need-same-length Inv-loop μ-loop

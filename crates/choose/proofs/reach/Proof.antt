@@ -6,13 +6,15 @@ use denote.Ref.{now}
 use native.Mathlib.Omega.{arith}
 use lib.ListN.{length, getD}
 use borrow.Author.Needs.{needs}
-use Rattle.choose.proofs.Passed.{Passed, pass-none, pass-more, pass-all}
+use Rattle.lemmas.specs.Stores.{Filled, filled-none, filled-more}
+use Rattle.choose.proofs.Passed.{pass-all}
 use Rattle.choose.proofs.Tested.{tested, all-reached}
 use Rattle.choose.proofs.reach.Statement.{statement}
 use Rattle.choose.proofs.reach.Tie as tie
 
 abbrev Inv-loop : tie.InvT-loop
-Inv-loop form seed acts labels tally reached₀ n least own i₀ reached i = Passed (λ k. cond (tested form least own acts labels tally k) 1 0) reached₀ i reached
+Inv-loop form seed acts labels tally reached₀ n least own i₀ reached i =
+    Filled 0 (λ k. cond (tested form least own acts labels tally k) 1 0) i reached₀ reached
 
 abbrev μ-loop : tie.MeasureT-loop
 μ-loop form seed acts labels tally reached₀ n least own i₀ reached i = length acts - i
@@ -36,7 +38,7 @@ home-requires c κs h =
     omega (arith, s .pre .labelled, s .pre .seeded h)
 
 loop-holds : tie.Need-loop-holds Inv-loop μ-loop
-loop-holds c = pass-none _ _
+loop-holds c = filled-none _ _ _
 
 mul-label : tie.Need-mul-label Inv-loop μ-loop
 mul-label c = search needs
@@ -75,7 +77,7 @@ loop-again : tie.Need-loop-again Inv-loop μ-loop
 loop-again c =
     let t = c .before .before .before .before .before .before in
     let l = t .before .loop in
-    pass-more _ _ (l .i) (l .reached) (c .pick .result) (l .inv) (omega (arith, S t .pre .lent))
+    filled-more (l .inv) (omega (arith, S t .pre .lent))
     (c .pick .ensures ∙ rw (c .before .reaches .ensures, c .before .before .before .before .wide .ensures))
 
 same-length : tie.Need-same-length Inv-loop μ-loop

@@ -7,12 +7,12 @@ use lib.ListN.{length, getD}
 use lib.IntN.{ℤ, pos}
 use mir.Syntax.{w8}
 use mir.ValLaws.{toZ-ofZ}
-use Rattle.paper.specs.Component.Sizes.{bit}
+use borrow.Author.Needs.{needs}
+use Rattle.lemmas.specs.Counts.{bit}
+use Rattle.lemmas.specs.Stores.{Filled, filled-none, filled-more}
 use Rattle.columns.specs.Column.{isUp}
 use Rattle.columns.specs.Rows.{added}
 use Rattle.columns.specs.Bits.{bit-times}
-use Rattle.columns.specs.Filled.{Filled, filled-none, filled-more}
-use borrow.Author.Needs.{needs}
 use Rattle.columns.proofs.pack_row.Statement.{statement}
 use Rattle.columns.proofs.pack_row.Tie as tie
 

@@ -7,9 +7,9 @@ use lib.ListN.{length, replicate, getD-replicate}
 use lib.IntN.{pos}
 use mir.Syntax.{w8}
 use mir.ValLaws.{toZ-ofZ}
-use Rattle.paper.specs.Panel.Input.{member, patternOf}
-use Rattle.columns.specs.Filled.{Filled, filled-none, filled-more}
 use borrow.Author.Needs.{needs}
+use Rattle.lemmas.specs.Stores.{Filled, filled-none, filled-more}
+use Rattle.paper.specs.Panel.Input.{member, patternOf}
 use Rattle.columns.proofs.reference_signs.Statement.{statement}
 use Rattle.columns.proofs.reference_signs.Tie as tie
 

@@ -7,9 +7,9 @@ use lib.ListN.{length, getD}
 use lib.IntN.{pos}
 use mir.Syntax.{w8}
 use mir.ValLaws.{toZ-ofZ}
-use Rattle.columns.specs.Column.{shown}
-use Rattle.columns.specs.Filled.{Filled, filled-none, filled-more}
 use borrow.Author.Needs.{needs}
+use Rattle.lemmas.specs.Stores.{Filled, filled-none, filled-more}
+use Rattle.columns.specs.Column.{shown}
 use Rattle.columns.proofs.write_row.Statement.{statement}
 use Rattle.columns.proofs.write_row.Tie as tie
 

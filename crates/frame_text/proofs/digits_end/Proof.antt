@@ -2,9 +2,9 @@
 use Prim.Native.Nat.{_-_}
 use native.Mathlib.Omega.{arith}
 use lib.ListN.{length}
-use Rattle.paper.specs.Component.Marks.{passed, refused}
-use Rattle.frame_text.specs.Line.{DigitsTo, one-more}
 use borrow.Author.Needs.{needs}
+use Rattle.lemmas.specs.Tells.{passed, refused}
+use Rattle.frame_text.specs.Line.{DigitsTo, one-more}
 use Rattle.frame_text.proofs.digits_end.Statement.{statement}
 use Rattle.frame_text.proofs.digits_end.Tie as tie
 

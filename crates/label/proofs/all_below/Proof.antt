@@ -1,8 +1,8 @@
 -- `all_below` meets its contract: after i turns the flag tells of the numbers below i.
 use Prim.Native.Nat.{_<_, _-_}
 use lib.ListN.{length, getD}
-use Rattle.lattice.specs.Telling.{Flagged, flag-start, flag-more, flag-end, same, test-lt}
 use borrow.Author.Needs.{needs}
+use Rattle.lemmas.specs.Tells.{Flagged, flag-start, flag-more, flag-end, same, test-lt}
 use Rattle.label.proofs.all_below.Statement.{statement}
 use Rattle.label.proofs.all_below.Tie as tie
 

@@ -2,12 +2,12 @@
 use mathlib.Core.Path.{refl}
 use mathlib.Core.Logic.{inl, inr}
 use denote.Ref.{now}
-use Rattle.paper.specs.Component.Marks.{passed, refused}
+use borrow.Author.Needs.{needs}
+use Rattle.lemmas.specs.Tells.{passed, refused}
 use Rattle.paper.specs.Refusal.Rule.{Kept}
 use Rattle.paper.specs.Refusal.Rules.{Sizes}
 use Rattle.label.specs.Entry.{Request, Lent, Exact, Below, Bits, rules}
 use Rattle.label.proofs.Whole.{given-by}
-use borrow.Author.Needs.{needs}
 use Rattle.label.proofs.components.Statement.{statement}
 use Rattle.label.proofs.components.Tie as tie
 use Rattle.lattice.proofs.bytes_at_most.Reads as bytes-at-most-reads

@@ -4,10 +4,10 @@ use mathlib.Core.Path.{_≡_, sym}
 use native.Mathlib.Nat.{le-refl}
 use native.Mathlib.Omega.{arith}
 use lib.ListN.{length, length-set}
-use Rattle.paper.specs.Component.Sizes.{countWhere}
+use borrow.Author.Needs.{needs}
+use Rattle.lemmas.specs.Counts.{countWhere}
 use Rattle.label.specs.Sizes.{single}
 use Rattle.label.proofs.Reports.{part-long, histogramming, counted-are, largest-are, largest-written}
-use borrow.Author.Needs.{needs}
 use Rattle.label.proofs.count.Statement.{statement}
 use Rattle.label.proofs.count.Tie as tie
 

@@ -4,10 +4,9 @@ use mathlib.Core.Path.{_≡_, sym, ap, _∙_}
 use native.Mathlib.Nat.{le-antisymm}
 use native.Mathlib.Omega.{arith}
 use lib.ListN.{length}
-use Rattle.paper.specs.Component.Sizes.{countWhere}
-use Rattle.label.specs.Sizes.{single}
-use Rattle.label.specs.Counting.{bit-le, count-none, count-suc, count-most}
 use borrow.Author.Needs.{needs}
+use Rattle.lemmas.specs.Counts.{countWhere, bit-le, count-none, count-suc, count-most}
+use Rattle.label.specs.Sizes.{single}
 use Rattle.label.proofs.count_singles.Statement.{statement}
 use Rattle.label.proofs.count_singles.Tie as tie
 

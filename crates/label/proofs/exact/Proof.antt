@@ -2,9 +2,9 @@
 use Prim.Native.Nat.{_+_, _*_}
 use native.Mathlib.Nat.{mul-le-mul}
 use native.Mathlib.Omega.{arith}
-use Rattle.lattice.specs.Telling.{same, both, test-eq}
-use Rattle.label.specs.Entry.{ExactLengths}
 use borrow.Author.Needs.{needs}
+use Rattle.lemmas.specs.Tells.{same, both, test-eq}
+use Rattle.label.specs.Entry.{ExactLengths}
 use Rattle.label.proofs.exact.Statement.{statement}
 use Rattle.label.proofs.exact.Tie as tie
 

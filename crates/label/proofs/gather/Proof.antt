@@ -3,14 +3,14 @@ use Prim.Native.Nat.{ℕ, _+_, _*_, _-_, _<_}
 use mathlib.Core.Path.{sym, ap}
 use native.Mathlib.Omega.{arith}
 use native.Mathlib.Nat.{mul-le-mul, lt-of-lt-of-le, le-antisymm}
-use Rattle.lattice.specs.Tables.{cell-lt}
 use mathlib.Core.Bool.{Bool}
 use lib.Dec.{eqb}
 use lib.ListN.{length, getD}
-use Rattle.paper.specs.Component.Marks.{marked}
-use Rattle.label.specs.Counting.{bit-le}
-use Rattle.label.proofs.Lists.{Gather, gather-none, gather-room, gather-more}
 use borrow.Author.Needs.{needs}
+use Rattle.lemmas.specs.Cells.{cell-lt}
+use Rattle.lemmas.specs.Counts.{bit-le}
+use Rattle.paper.specs.Component.Marks.{marked}
+use Rattle.label.proofs.Lists.{Gather, gather-none, gather-room, gather-more}
 use Rattle.label.proofs.gather.Statement.{statement}
 use Rattle.label.proofs.gather.Tie as tie
 

@@ -5,10 +5,10 @@ use mathlib.Core.Bool.{Bool, not, _&&_}
 use native.Mathlib.Omega.{arith}
 use lib.Dec.{eqb}
 use lib.ListN.{length, getD}
-use Rattle.label.specs.Contract.{isOne}
-use Rattle.label.specs.Counting.{bit-le}
-use Rattle.label.proofs.Picks.{Pick, pick-none, pick-room, pick-more, pick-end}
 use borrow.Author.Needs.{needs}
+use Rattle.lemmas.specs.Counts.{bit-le}
+use Rattle.label.specs.Contract.{isOne}
+use Rattle.label.proofs.Picks.{Pick, pick-none, pick-room, pick-more, pick-end}
 use Rattle.label.proofs.gather_sizes.Statement.{statement}
 use Rattle.label.proofs.gather_sizes.Tie as tie
 

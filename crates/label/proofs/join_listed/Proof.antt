@@ -3,10 +3,10 @@ use Prim.Native.Nat.{_+_, _*_, _-_, _<_}
 use native.Mathlib.Omega.{arith}
 use native.Mathlib.Nat.{le-antisymm}
 use lib.ListN.{length, getD}
-use Rattle.lattice.specs.Tables.{cell-lt}
+use borrow.Author.Needs.{needs}
+use Rattle.lemmas.specs.Cells.{cell-lt}
 use Rattle.label.specs.Steps.{Listed}
 use Rattle.label.proofs.Bonds.{Joining, listed-start, listed-more}
-use borrow.Author.Needs.{needs}
 use Rattle.label.proofs.join_listed.Statement.{statement}
 use Rattle.label.proofs.join_listed.Tie as tie
 

@@ -1,20 +1,21 @@
 -- `start` meets its contract.
 use Prim.Native.Nat.{_-_}
+use mathlib.Core.Path.{refl}
 use native.Mathlib.Omega.{arith}
 use lib.ListN.{length, length-set}
-use Rattle.label.proofs.Stores.{Filled, fill-none, fill-more}
 use borrow.Author.Needs.{needs}
+use Rattle.lemmas.specs.Stores.{Filled, filled-none, filled-more}
 use Rattle.label.proofs.start.Statement.{statement}
 use Rattle.label.proofs.start.Tie as tie
 
 abbrev Inv-loop : tie.InvT-loop
-Inv-loop labels₀ i₀ labels i = Filled (λ x. x) (length labels₀) i labels
+Inv-loop labels₀ i₀ labels i = Filled 0 (λ x. x) i labels₀ labels
 
 abbrev μ-loop : tie.MeasureT-loop
 μ-loop labels₀ i₀ labels i = length labels - i
 
 loop-holds : tie.Need-loop-holds Inv-loop μ-loop
-loop-holds c = fill-none _ _
+loop-holds c = filled-none _ _ _
 
 cast-labels : tie.Need-cast-labels Inv-loop μ-loop
 cast-labels c = search needs
@@ -32,13 +33,13 @@ loop-less : tie.Need-loop-less Inv-loop μ-loop
 loop-less c = simp length-set (omega arith)
 
 loop-again : tie.Need-loop-again Inv-loop μ-loop
-loop-again c = fill-more (c .before .loop .inv) (c .loop-test .taken)
+loop-again c = let w = c .before .loop .inv in filled-more w (omega (arith, w .long, c .loop-test .taken)) refl
 
 same-length : tie.Need-same-length Inv-loop μ-loop
 same-length c = search needs
 
 returns : tie.Need-returns Inv-loop μ-loop
-returns c = record { long = c .before .loop .inv .long; own = λ x l. c .before .loop .inv .at x (omega arith) }
+returns c = let w = c .before .loop .inv in record { long = w .long; own = λ x l. w .done x (omega (arith, w .long, c .loop-test .left)) }
 
 pub start-spec : {M : Type 1} → statement M
 start-spec =

@@ -1,8 +1,8 @@
 -- `alone` meets its contract: its two tests.
 use borrow.Author.Needs.{needs}
+use Rattle.lemmas.specs.Tells.{same, both, said, test-lt}
 use Rattle.paper.specs.Panel.Input.{member}
 use Rattle.lattice.specs.Groups.{Fresh, Alone}
-use Rattle.lattice.specs.Telling.{same, both, said, test-lt}
 use Rattle.lattice.proofs.alone.Statement.{statement}
 use Rattle.lattice.proofs.alone.Tie as tie
 

@@ -2,7 +2,8 @@
 use Prim.Native.Nat.{_+_, _*_, _<_}
 use native.Mathlib.Omega.{arith}
 use borrow.Author.Needs.{needs}
-use Rattle.lattice.specs.Tables.{cell-lt, back-test, back-none}
+use Rattle.lemmas.specs.Cells.{cell-lt}
+use Rattle.lattice.specs.Tables.{back-test, back-none}
 use Rattle.lattice.proofs.back_ok.Statement.{statement}
 use Rattle.lattice.proofs.back_ok.Tie as tie
 

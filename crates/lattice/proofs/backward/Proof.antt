@@ -2,7 +2,8 @@
 --
 use native.Mathlib.Omega.{arith}
 use borrow.Author.Needs.{needs}
-use Rattle.paper.specs.Component.Marks.{told, denied}
+use Rattle.lemmas.specs.Tells.{told, denied}
+use Rattle.lemmas.specs.Stores.{cleared-all}
 use Rattle.lattice.specs.Backward.{led-inverse}
 use Rattle.lattice.proofs.backward.Statement.{statement}
 use Rattle.lattice.proofs.backward.Tie as tie
@@ -35,7 +36,7 @@ returns-2 c =
     record {
       none = λ w v. denied (e .if1 .left) (e .before .tables-ok .ensures) (led-inverse filled w v);
       long = omega (arith, c .before .before .clear .kept .0, filled .long);
-      zeros = c .before .before .clear .ensures;
+      zeros = λ k l. cleared-all (c .before .before .clear .ensures) k;
     }
 
 pub backward-spec : {M : Type 1} → statement M

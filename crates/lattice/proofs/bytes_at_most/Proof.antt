@@ -2,7 +2,7 @@
 use Prim.Native.Nat.{_≤_, _-_}
 use borrow.Author.Needs.{needs}
 use lib.ListN.{length, getD}
-use Rattle.lattice.specs.Telling.{Flagged, flag-start, flag-more, flag-end, test-le}
+use Rattle.lemmas.specs.Tells.{Flagged, flag-start, flag-more, flag-end, test-le}
 use Rattle.lattice.proofs.bytes_at_most.Statement.{statement}
 use Rattle.lattice.proofs.bytes_at_most.Tie as tie
 

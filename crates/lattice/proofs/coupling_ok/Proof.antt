@@ -1,6 +1,6 @@
 -- `coupling_ok` meets its contract: no more than the bound above 0, nor below.
 use mir.Facts.{toZ-ofZ}
-use Rattle.lattice.specs.Ints.{within}
+use Rattle.lemmas.specs.Ints.{within}
 use Rattle.lattice.proofs.coupling_ok.Statement.{statement}
 use Rattle.lattice.proofs.coupling_ok.Tie as tie
 

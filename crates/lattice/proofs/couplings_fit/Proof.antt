@@ -1,8 +1,8 @@
 -- `couplings_fit` meets its contract: couplings that the mode does not take are not looked at.
 use borrow.Author.Needs.{needs}
 use denote.Ref.{now}
+use Rattle.lemmas.specs.Tells.{when-taken, when-not}
 use Rattle.paper.specs.Refusal.Rules.{SmallCouplings}
-use Rattle.lattice.specs.Telling.{when-taken, when-not}
 use Rattle.lattice.proofs.couplings_fit.Statement.{statement}
 use Rattle.lattice.proofs.couplings_fit.Tie as tie
 

@@ -5,7 +5,7 @@ use lib.IntN.{ℤ, pos, natAbs}
 use lib.ListN.{length, getD}
 use mir.Syntax.{w32}
 use mir.Facts.{toZ-ofZ}
-use Rattle.lattice.specs.Telling.{Test, Flagged, said, flag-start, flag-more, flag-end}
+use Rattle.lemmas.specs.Tells.{Test, Flagged, said, flag-start, flag-more, flag-end}
 use Rattle.lattice.proofs.couplings_ok.Statement.{statement}
 use Rattle.lattice.proofs.couplings_ok.Tie as tie
 

@@ -5,8 +5,8 @@ use mathlib.Core.Path.{_≡_}
 use mathlib.Core.Bool.{true}
 use lib.Ieee.{nan}
 use lib.ListN.{length, getD}
+use Rattle.lemmas.specs.Tells.{Flagged, flag-start, flag-more, flag-end, test-is}
 use Rattle.paper.specs.Refusal.Rules.{isCut}
-use Rattle.lattice.specs.Telling.{Flagged, flag-start, flag-more, flag-end, test-is}
 use Rattle.lattice.proofs.cuts_ok.Statement.{statement}
 use Rattle.lattice.proofs.cuts_ok.Tie as tie
 

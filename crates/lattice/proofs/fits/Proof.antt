@@ -1,5 +1,5 @@
 -- `fits` meets its contract: the buffer is not taken, or it has the length that is wanted.
-use Rattle.lattice.specs.Telling.{implies, test-eq, test-is}
+use Rattle.lemmas.specs.Tells.{implies, test-eq, test-is}
 use Rattle.lattice.proofs.fits.Statement.{statement}
 use Rattle.lattice.proofs.fits.Tie as tie
 

@@ -3,7 +3,7 @@ use Prim.Native.Nat.{_-_}
 use mathlib.Core.Path.{_≡_}
 use borrow.Author.Needs.{needs}
 use lib.ListN.{getD}
-use Rattle.lattice.specs.Telling.{Flagged, flag-start, flag-more, flag-end, fails, test-eq}
+use Rattle.lemmas.specs.Tells.{Flagged, flag-start, flag-more, flag-end, fails, test-eq}
 use Rattle.lattice.proofs.fresh.Statement.{statement}
 use Rattle.lattice.proofs.fresh.Tie as tie
 

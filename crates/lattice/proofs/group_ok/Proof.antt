@@ -1,9 +1,9 @@
 -- `group_ok` meets its contract: after k turns the flag tells of the systems before k.
 use Prim.Native.Nat.{_-_}
 use borrow.Author.Needs.{needs}
+use Rattle.lemmas.specs.Tells.{Flagged, same, said, flag-start, flag-more, flag-end}
 use Rattle.paper.specs.Refusal.Rules.{Grouped}
 use Rattle.lattice.specs.Groups.{Alone, grouped-of, grouped-each}
-use Rattle.lattice.specs.Telling.{Flagged, same, said, flag-start, flag-more, flag-end}
 use Rattle.lattice.proofs.group_ok.Statement.{statement}
 use Rattle.lattice.proofs.group_ok.Tie as tie
 

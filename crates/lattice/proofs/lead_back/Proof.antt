@@ -2,8 +2,8 @@
 use Prim.Native.Nat.{_+_, _*_, _<_}
 use native.Mathlib.Omega.{arith}
 use borrow.Author.Needs.{needs}
+use Rattle.lemmas.specs.Cells.{cell-lt}
 use Rattle.lattice.specs.Backward.{led-past, led-more}
-use Rattle.lattice.specs.Tables.{cell-lt}
 use Rattle.lattice.proofs.lead_back.Statement.{statement}
 use Rattle.lattice.proofs.lead_back.Tie as tie
 

@@ -2,7 +2,7 @@
 use Prim.Native.Nat.{_-_}
 use borrow.Author.Needs.{needs}
 use lib.ListN.{length, getD}
-use Rattle.lattice.specs.Telling.{fails, test-eq}
+use Rattle.lemmas.specs.Tells.{fails, test-eq}
 use Rattle.lattice.proofs.Moved.{Moving, moving-none, moving-more, moving-end}
 use Rattle.lattice.proofs.not_identity.Statement.{statement}
 use Rattle.lattice.proofs.not_identity.Tie as tie

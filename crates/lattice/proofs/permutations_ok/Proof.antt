@@ -2,7 +2,7 @@
 use Prim.Native.Nat.{_<_}
 use native.Mathlib.Omega.{arith}
 use borrow.Author.Needs.{needs}
-use Rattle.paper.specs.Component.Marks.{passed, refused}
+use Rattle.lemmas.specs.Tells.{passed, refused}
 use Rattle.lattice.specs.Marking.{rows-below}
 use Rattle.lattice.proofs.permutations_ok.Statement.{statement}
 use Rattle.lattice.proofs.permutations_ok.Tie as tie

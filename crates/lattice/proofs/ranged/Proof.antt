@@ -2,9 +2,9 @@
 use mathlib.Core.Path.{_≡_}
 use mathlib.Core.Bool.{true}
 use borrow.Author.Needs.{needs}
+use Rattle.lemmas.specs.Tells.{Test, same, both, implies, said, test-le, test-eq, test-is}
 use Rattle.paper.specs.Panel.Takes.{isCmr}
 use Rattle.paper.specs.Refusal.Rules.{Sizes, Ranged}
-use Rattle.lattice.specs.Telling.{Test, same, both, implies, said, test-le, test-eq, test-is}
 use Rattle.lattice.proofs.ranged.Statement.{statement}
 use Rattle.lattice.proofs.ranged.Tie as tie
 

@@ -3,9 +3,9 @@ use Prim.Native.Nat.{_-_}
 use native.Mathlib.Omega.{arith}
 use borrow.Author.Needs.{needs}
 use lib.Pow.{pow-pos}
+use Rattle.lemmas.specs.Tells.{Flagged, flag-start, flag-more, flag-end}
 use Rattle.paper.specs.Refusal.Rules.{Permutes}
 use Rattle.lattice.specs.Marking.{rowAt, one-shifted, full-marks, row-in, marks-tell}
-use Rattle.lattice.specs.Telling.{Flagged, flag-start, flag-more, flag-end}
 use Rattle.lattice.proofs.rows_full.Statement.{statement}
 use Rattle.lattice.proofs.rows_full.Tie as tie
 

@@ -1,8 +1,8 @@
 -- `site_ok` meets its contract: after e turns the flag tells of the directions below e.
 use Prim.Native.Nat.{_-_}
 use borrow.Author.Needs.{needs}
+use Rattle.lemmas.specs.Tells.{Flagged, said, flag-start, flag-more, flag-end}
 use Rattle.paper.specs.Refusal.Rules.{Back}
-use Rattle.lattice.specs.Telling.{Flagged, said, flag-start, flag-more, flag-end}
 use Rattle.lattice.proofs.site_ok.Statement.{statement}
 use Rattle.lattice.proofs.site_ok.Tie as tie
 

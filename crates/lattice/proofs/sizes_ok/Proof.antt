@@ -1,6 +1,6 @@
 -- `sizes_ok` meets its contract: it tests the bounds one by one.
+use Rattle.lemmas.specs.Tells.{same, both, test-le}
 use Rattle.paper.specs.Refusal.Rules.{Sizes}
-use Rattle.lattice.specs.Telling.{same, both, test-le}
 use Rattle.lattice.proofs.sizes_ok.Statement.{statement}
 use Rattle.lattice.proofs.sizes_ok.Tie as tie
 

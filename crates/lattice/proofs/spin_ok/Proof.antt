@@ -4,8 +4,8 @@ use mathlib.Core.Logic.{inl, inr, ⊎-elim}
 use mir.Syntax.{w8}
 use mir.Val.{toZ, ofZ}
 use mir.Facts.{toZ-ofZ}
+use Rattle.lemmas.specs.Tells.{same, either, test-eq}
 use Rattle.paper.specs.Refusal.Rules.{Spin}
-use Rattle.lattice.specs.Telling.{same, either, test-eq}
 use Rattle.lattice.proofs.spin_ok.Statement.{statement}
 use Rattle.lattice.proofs.spin_ok.Tie as tie
 

@@ -11,9 +11,9 @@ use lib.IntN.{ℤ, pos}
 use lib.ListN.{length, getD}
 use mir.Syntax.{w8}
 use mir.Facts.{toZ-ofZ}
+use Rattle.lemmas.specs.Cells.{cell-lt}
+use Rattle.lemmas.specs.Tells.{Test, Flagged, said, same, flag-start, flag-more, flag-end}
 use Rattle.paper.specs.Refusal.Rules.{Spin, AllSystems, Spins}
-use Rattle.paper.specs.Law.Cells.{cell-lt}
-use Rattle.lattice.specs.Telling.{Test, Flagged, said, same, flag-start, flag-more, flag-end}
 use Rattle.lattice.proofs.spins_ok.Statement.{statement}
 use Rattle.lattice.proofs.spins_ok.Tie as tie
 

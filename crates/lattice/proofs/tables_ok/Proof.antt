@@ -1,8 +1,8 @@
 -- `tables_ok` meets its contract: after i turns the flag tells of the sites below i, in both senses.
 use Prim.Native.Nat.{_-_}
 use borrow.Author.Needs.{needs}
+use Rattle.lemmas.specs.Tells.{Each, Flagged, same, said, flag-start, flag-more, flag-end, both}
 use Rattle.paper.specs.Refusal.Rules.{Back, Inverse}
-use Rattle.lattice.specs.Telling.{Each, Flagged, same, said, flag-start, flag-more, flag-end, both}
 use Rattle.lattice.proofs.tables_ok.Statement.{statement}
 use Rattle.lattice.proofs.tables_ok.Tie as tie
 

@@ -1,8 +1,8 @@
 -- `temperature_ok` meets its contract: the literals by their bits are the definition's bounds.
 use mathlib.Core.Bool.{_&&_}
 use lib.Ieee.{binary32, div, le, ofBits, ofInt}
+use Rattle.lemmas.specs.Tells.{test-is}
 use Rattle.paper.specs.Site.Bonds.{whole}
-use Rattle.lattice.specs.Telling.{test-is}
 use Rattle.lattice.proofs.temperature_ok.Statement.{statement}
 use Rattle.lattice.proofs.temperature_ok.Tie as tie
 

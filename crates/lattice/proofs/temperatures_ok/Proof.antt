@@ -3,8 +3,8 @@ use Prim.Native.Nat.{_-_}
 use borrow.Author.Needs.{needs}
 use lib.Ieee.{nan}
 use lib.ListN.{length, getD}
+use Rattle.lemmas.specs.Tells.{Flagged, said, flag-start, flag-more, flag-end}
 use Rattle.paper.specs.Refusal.Rules.{Warm}
-use Rattle.lattice.specs.Telling.{Flagged, said, flag-start, flag-more, flag-end}
 use Rattle.lattice.proofs.temperatures_ok.Statement.{statement}
 use Rattle.lattice.proofs.temperatures_ok.Tie as tie
 

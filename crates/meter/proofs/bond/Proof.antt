@@ -1,8 +1,8 @@
 -- `bond` meets its contract: each factor is read back as it was, and a spin changes no size.
 use mir.Syntax.{w8, w32, w64}
 use mir.Val.{toZ, ofZ}
-use Rattle.lattice.specs.Held.{Value, given, asks, stored, reads, held-wide}
-use Rattle.lattice.specs.Signs.{sign, once, twice}
+use Rattle.lemmas.specs.Held.{Value, given, asks, stored, reads, held-wide}
+use Rattle.lemmas.specs.Signs.{sign, once, twice}
 use Rattle.meter.proofs.bond.Statement.{statement}
 use Rattle.meter.proofs.bond.Tie as tie
 

@@ -7,8 +7,8 @@ use lib.ListN.{getD}
 use lib.IntN.{pos, natAbs, _*ℤ_}
 use mir.Syntax.{w32, w64}
 use mir.Val.{toZ, ofZ}
-use Rattle.lattice.specs.Held.{reads, given, bounded, small-fits}
-use Rattle.lattice.specs.Signs.{Sign, spin, read8, sign-read}
+use Rattle.lemmas.specs.Held.{reads, given, bounded, small-fits}
+use Rattle.lemmas.specs.Signs.{Sign, spin, read8, sign-read}
 use Rattle.meter.proofs.Bonds.{cell, coupling, near, far}
 use Rattle.meter.proofs.bond_at.Statement.{statement}
 use Rattle.meter.proofs.bond_at.Tie as tie

@@ -9,12 +9,12 @@ use lib.ListN.{length}
 use lib.IntN.{ℤ, pos, negℤ, _-ℤ_, +ℤ-idl}
 use mir.Syntax.{w64}
 use mir.Val.{toZ, ofZ}
-use Rattle.paper.specs.Component.Marks.{passed, refused}
+use Rattle.lemmas.specs.Tells.{passed, refused}
+use Rattle.lemmas.specs.Held.{Value, reads, stored, asks, bounded, small-fits}
+use Rattle.lemmas.specs.Ints.{abs-neg}
 use Rattle.paper.specs.Panel.Input.{Lattice}
 use Rattle.paper.specs.Refusal.Rules.{Sizes, AllSystems, Spins, Inverse}
 use Rattle.paper.specs.Answer.Meter.{MeterExact}
-use Rattle.lattice.specs.Held.{Value, reads, stored, asks, bounded, small-fits}
-use Rattle.lattice.specs.Ints.{abs-neg}
 use Rattle.meter.specs.Part.{latticeOf, exact-of, exact-lengths, Accepted, accepted-kept, row-end, row-of, energy-of}
 use Rattle.meter.proofs.energy.Statement.{statement}
 use Rattle.meter.proofs.energy.Tie as tie

@@ -2,7 +2,7 @@
 use native.Mathlib.Nat.{mul-le-mul}
 use native.Mathlib.Omega.{arith}
 use Prim.Native.Nat.{_*_}
-use Rattle.lattice.specs.Telling.{same, both, test-eq}
+use Rattle.lemmas.specs.Tells.{same, both, test-eq}
 use Rattle.meter.specs.Row.{Lengths}
 use Rattle.meter.proofs.exact.Statement.{statement}
 use Rattle.meter.proofs.exact.Tie as tie

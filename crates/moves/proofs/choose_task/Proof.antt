@@ -4,9 +4,9 @@ use mathlib.Core.Path.{_≡_, refl, sym, _∙_}
 use mathlib.Core.Bool.{true, false}
 use native.Mathlib.Omega.{arith}
 use denote.Ref.{now}
+use Rattle.lemmas.specs.Bools.{never}
 use Rattle.paper.specs.Panel.Takes.{isCmr}
-use Rattle.paper.specs.Law.ByTest.{never}
-use Rattle.paper.specs.Law.Unique.{label-lt}
+use Rattle.laws.specs.Unique.{label-lt}
 use Rattle.moves.specs.Choosing.{mid-two, plain-final, grey-final}
 use Rattle.moves.proofs.choose_task.Statement.{statement}
 use Rattle.moves.proofs.choose_task.Tie as tie

@@ -5,7 +5,7 @@ use lib.ListN.{replicate}
 use lib.Seq.{length-take-le}
 use Rattle.label.specs.Every.{reported-every}
 use native.Mathlib.Omega.{arith}
-use Rattle.moves.specs.Ready.{sighted}
+use Rattle.moves.specs.Tested.{sighted}
 use Rattle.moves.specs.Held.{label-leaves}
 use Rattle.moves.proofs.label_task.Statement.{statement}
 use Rattle.moves.proofs.label_task.Tie as tie

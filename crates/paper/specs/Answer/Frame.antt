@@ -7,6 +7,7 @@ use mathlib.Core.List.{List, [], _∷_, _++_, map}
 use lib.Dec.{eqb, ltb}
 use lib.ListN.{length, getD, drop}
 use lib.IntN.{ℤ, pos, negsuc}
+use Rattle.lemmas.specs.Cells.{table}
 use Rattle.paper.specs.declared.Mode.the-variants.{Perm}
 use Rattle.paper.specs.declared.Form.the-variants.{Sw}
 use Rattle.paper.specs.declared.Answer.{Answer}
@@ -18,7 +19,6 @@ use Rattle.paper.specs.Refusal.Rules.{AllSystems, Spins, Inverse, Groupe
 use Rattle.paper.specs.Refusal.Verdict.{Verdict}
 use Rattle.paper.specs.Answer.Number as numbers
 use Rattle.paper.specs.Answer.Move.{Answers, Accepted}
-use Rattle.paper.specs.Answer.Task.{table}
 
 -- ---- lower-case hexadecimal, in the codes of the characters; 10 is the line feed
 abbrev pub digit : ℕ → ℕ

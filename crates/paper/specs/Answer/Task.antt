@@ -1,18 +1,19 @@
 -- A sweep: its tasks, each a move with its own areas.
-use Prim.Native.Nat.{ℕ, zero, suc, _+_, _*_, _/_, _%_}
+use Prim.Native.Nat.{ℕ, _+_, _*_, _/_, _%_}
 use mathlib.Core.Bool.{Bool, not, cond, _&&_}
-use mathlib.Core.List.{List, [], _∷_}
+use mathlib.Core.List.{List}
 use lib.Dec.{eqb, ltb}
 use lib.ListN.{getD, take, drop}
 use lib.IntN.{ℤ}
 use lib.Ieee.{Float, nan}
+use Rattle.lemmas.specs.Counts.{countWhere}
+use Rattle.lemmas.specs.Cells.{table}
 use Rattle.paper.specs.declared.Group.{Group}
 use Rattle.paper.specs.declared.Mode.{Mode}
 use Rattle.paper.specs.declared.Form.{Form}
 use Rattle.paper.specs.Panel.Input.{Lattice, Call, Choices, Buffers}
 use Rattle.paper.specs.Panel.Takes.{entries, choiceBytes}
 use Rattle.paper.specs.Site.Acting.{acts}
-use Rattle.paper.specs.Component.Sizes.{countWhere}
 
 -- t temperatures of r replicas; groups of `members` systems. The last five are the tasks' areas, at the task's number
 pub record Sweep : Type 0 where
@@ -48,11 +49,6 @@ orderAt w k x = getD (w .order) (temperatureOf w k * w .r + (k % groups w) * w .
 -- a mask byte 1 masks its temperature
 abbrev pub masked : Sweep → ℕ → Bool
 masked w k = eqb (getD (w .masks) (temperatureOf w k) 0) 1
-
--- m numbers f 0, f 1, ..
-unfoldable pub table : ℕ → (ℕ → ℕ) → List ℕ
-table zero f = []
-table (suc m) f = f 0 ∷ table m (λ k. f (suc k))
 
 -- the part number k of those with m elements each
 abbrev pub part : {A : Type 0} → ℕ → ℕ → List A → List A

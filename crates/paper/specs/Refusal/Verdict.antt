@@ -3,6 +3,7 @@ use Prim.Native.Nat.{ℕ, zero, suc}
 use mathlib.Core.Path.{_≡_, refl}
 use mathlib.Core.Logic.{inl, inr}
 use mathlib.Core.List.{List, [], _∷_, _++_}
+use native.Mathlib.Omega.{arith}
 use Rattle.paper.specs.Refusal.Rule.{Rule, Kept, Broken, broken-unique, broken-not-kept}
 
 abbrev pub Verdict : List Rule → ℕ → Type 0
@@ -32,3 +33,7 @@ broken-later (r ∷ rs) qs c k w = inr (k .0, broken-later rs qs c (k .1) w)
 pub verdict-later : (rs qs : List Rule) (c : ℕ) → Kept rs → Verdict qs c → Verdict (rs ++ qs) c
 verdict-later rs qs zero k w = kept-both rs qs k w
 verdict-later rs qs (suc c) k w = broken-later rs qs (suc c) k w
+
+pub verdict-kept : (rs : List Rule) (r : ℕ) → r ≡ 0 → Verdict rs r → Kept rs
+verdict-kept rs zero e v = v
+verdict-kept rs (suc r) e v = absurd (omega arith)

@@ -1,23 +1,33 @@
--- Values that no row of document 01 pins.
+-- What no row of document 01 pins: values, the order of the refusals, and what a sweep and a move read.
 use Prim.Native.Nat.{ℕ, _^_}
 use mathlib.Core.Path.{_≡_, refl}
 use mathlib.Core.Bool.{true, false}
-use mathlib.Core.List.{List, [], _∷_}
-use lib.IntN.{pos, negsuc}
+use mathlib.Core.List.{[], _∷_, List}
+use lib.IntN.{pos, negsuc, ℤ}
 use lib.Ieee.{Float, nan, inf, binary32, round, mul, div, lt, le, ofInt}
-use Rattle.paper.specs.declared.Mode.the-variants.{Pair, Perm}
-use Rattle.paper.specs.declared.Form.the-variants.{Sw, Wolff}
+use lib.ListN.{getD}
+use Rattle.lemmas.specs.Sums.{sum}
+use Rattle.lemmas.specs.Bools.{never}
+use Rattle.lemmas.specs.Counts.{countWhere}
 use Rattle.paper.specs.declared.BondKind.the-variants.{Red}
-use Rattle.paper.specs.Panel.Input.{Call, Choices}
-use Rattle.paper.specs.Site.Acting.{sum}
-use Rattle.paper.specs.Site.Bonds.{whole, samplerOf, jorgHolds, greyHolds}
+use Rattle.paper.specs.Site.Bonds.{whole, samplerOf, jorgHolds, greyHolds, holds, holdsGrey}
 use Rattle.paper.specs.Site.Energy.{energy}
-use Rattle.paper.specs.Move.Moving.{other, partner, permute}
-use Rattle.paper.specs.Refusal.Rules.{Warm, isCut}
-use Rattle.paper.specs.Answer.Task.{table}
-use Rattle.paper.specs.Law.ByTest.{never}
-use Rattle.paper.specs.Rows.Cases.{+, -, of, row, line, plain, first}
-use Rattle.paper.specs.Demand3.Statement.{composite, placeOf, inverse, identity}
+use Rattle.paper.specs.Move.Moving.{other, partner, permute, reachedBy, reached, afterGrey}
+use Rattle.paper.specs.Refusal.Rules.{Warm, isCut, rules}
+use Rattle.paper.specs.Rows.Cases.{+, -, of, row, line, first}
+use Rattle.paper.specs.declared.Mode.the-variants.{Pair, Perm, Cmr}
+use Rattle.paper.specs.declared.Form.the-variants.{Sw}
+use Rattle.paper.specs.declared.Answer.the-variants.{Idle, Moved}
+use Rattle.paper.specs.declared.SweepAnswer.the-variants.{Swept}
+use Rattle.paper.specs.declared.MeterAnswer.the-variants.{Energy}
+use Rattle.paper.specs.Panel.Input.{Call, Choices, Buffers}
+use Rattle.paper.specs.Site.Acting.{acts}
+use Rattle.paper.specs.Component.Sizes.{sizeOf}
+use Rattle.paper.specs.Refusal.Rule.{Rule}
+use Rattle.paper.specs.Answer.Number.{number, sweepNumber, meterNumber}
+use Rattle.paper.specs.Answer.Move.{Seen}
+use Rattle.paper.specs.Answer.Task.{Sweep, tasks, temperatureOf, masked, idleTasks, movedTasks}
+use Rattle.paper.specs.Answer.Sweep.{Sweeps, taskRules, sweepRules}
 
 -- the `f32` nearest to a / b
 abbrev ratio : ℕ → ℕ → Float
@@ -83,23 +93,95 @@ pub energies : Energies
 unfolding sum
 energies = record { itself = refl; twice = refl; second = refl }
 
--- demand 3's choices as buffers: row 7's composite, an inverse and the identity, in the Wolff form with three systems; and flips of four sites in SW
-abbrev three : Call
-three = plain Perm Wolff (line 1 3 (0 ∷ []) (0 ∷ []) []) (first 3)
+-- which components SW reaches: flips move those of two sites and more, permutations every one, and neither looks at the seed, which may be no site
+pub record Reaches : Type 0 where
+  pub flips-two : reachedBy Sw Pair 0 (0 ∷ 0 ∷ []) 1 ≡ true
+  pub flips-single : reachedBy Sw Pair 0 (0 ∷ []) 0 ≡ false
+  pub permutes-single : reachedBy Sw Perm 0 (0 ∷ []) 0 ≡ true
+  pub seedless : reachedBy Sw Perm 4096 (0 ∷ []) 0 ≡ true
 
-abbrev four : Call
-four = plain Pair Sw (line 4 2 (0 ∷ 1 ∷ 2 ∷ 3 ∷ []) (0 ∷ 1 ∷ 2 ∷ 3 ∷ []) []) (first 2)
+pub reaches : Reaches
+unfolding sizeOf countWhere
+reaches = record { flips-two = refl; flips-single = refl; permutes-single = refl; seedless = refl }
 
-abbrev choosing : List ℕ → Choices
-choosing choices = record { choices = choices; greys = [] }
+-- CMR on two sites with row 9's bond between them, (+,+) and (+,-): it is red, so it joins grey components and no blue ones
+abbrev cmr : Call
+cmr = record {
+  mode = Cmr;
+  form = Sw;
+  lattice = line 2 2 (1 ∷ 0 ∷ []) (1 ∷ 0 ∷ []) (pos 5 ∷ pos 5 ∷ []);
+  group = first 2;
+  temperature = whole 4;
+  cuts = whole 2 ∷ whole 2 ∷ [];
+  reference = 0;
+  seed = 0;
+}
 
-pub record ChoiceBuffers : Type 0 where
-  pub composed : composite three (choosing (1 ∷ 2 ∷ 0 ∷ [])) (choosing (1 ∷ 0 ∷ 2 ∷ [])) .choices ≡ 2 ∷ 1 ∷ 0 ∷ []
-  pub inverted : inverse three (choosing (1 ∷ 2 ∷ 0 ∷ [])) .choices ≡ 2 ∷ 0 ∷ 1 ∷ []
-  pub identical : identity three .choices ≡ 0 ∷ 1 ∷ 2 ∷ []
-  pub added : composite four (choosing (0 ∷ 0 ∷ 1 ∷ 1 ∷ [])) (choosing (0 ∷ 1 ∷ 0 ∷ 1 ∷ [])) .choices ≡ 0 ∷ 1 ∷ 1 ∷ 0 ∷ []
-  pub unflipped : identity four .choices ≡ 0 ∷ 0 ∷ 0 ∷ 0 ∷ []
+abbrev red : List ℤ
+red = + ∷ + ∷ + ∷ - ∷ []
 
-pub choice-buffers : ChoiceBuffers
-unfolding table placeOf
-choice-buffers = record { composed = refl; inverted = refl; identical = refl; added = refl; unflipped = refl }
+-- the grey number 1 flips the first replica
+abbrev greyOne : Choices
+greyOne = record { choices = []; greys = 1 ∷ [] }
+
+pub record Greys : Type 0 where
+  pub not-blue : holds cmr red 0 0 ≡ false
+  pub grey : holdsGrey cmr red 0 0 ≡ true
+  -- of what the blue flip left at site 0, (-,-), and not of what was there before
+  pub second : row 2 (afterGrey cmr greyOne red (0 ∷ 0 ∷ []) 0 (of (- ∷ - ∷ []))) ≡ + ∷ - ∷ []
+
+pub greys : Greys
+unfolding holds holdsGrey acts reached sizeOf countWhere row mul div lt ofInt
+greys = record { not-blue = refl; grey = refl; second = refl }
+
+-- an answer that is no refusal has the number 0
+pub record Numbers : Type 0 where
+  pub idle : number Idle ≡ 0
+  pub moved : number Moved ≡ 0
+  pub swept : (idle moved : ℕ) → sweepNumber (Swept idle moved) ≡ 0
+  pub metered : (e : ℤ) → meterNumber (Energy e) ≡ 0
+
+pub numbers : Numbers
+numbers = record { idle = refl; moved = refl; swept = λ idle moved. refl; metered = λ e. refl }
+
+-- the refusals in their order; a sweep's are followed by those of its tasks
+abbrev inOrder : List Rule → List ℕ
+inOrder [] = []
+inOrder (r ∷ rs) = r .number ∷ inOrder rs
+
+pub record Orders : Type 0 where
+  pub move : (c : Call) (p : Choices) (b : Buffers) → inOrder (rules c p b) ≡ 1 ∷ 2 ∷ 3 ∷ 4 ∷ 5 ∷ 6 ∷ 7 ∷ 8 ∷ 9 ∷ 10 ∷ []
+  pub sweep :
+      (w : Sweep) (b : Buffers)
+      → inOrder (sweepRules w b) ≡ 1 ∷ 2 ∷ 3 ∷ 4 ∷ 5 ∷ 6 ∷ 7 ∷ 9 ∷ inOrder (taskRules w b (tasks w))
+
+pub orders : Orders
+orders = record { move = λ c p b. refl; sweep = λ w b. refl }
+
+-- a mask byte 1 masks, and 0 does not
+pub record Masks (w : Sweep) (k : ℕ) : Type 0 where
+  pub one : getD (w .masks) (temperatureOf w k) 0 ≡ 1 → masked w k ≡ true
+  pub zero : getD (w .masks) (temperatureOf w k) 0 ≡ 0 → masked w k ≡ false
+
+pub masks : (w : Sweep) (k : ℕ) → Masks w k
+masks w k = record { one = λ e. rw e refl; zero = λ e. rw e refl }
+
+-- a sweep's first count is of idle tasks, its second of the others
+pub counts :
+    (w : Sweep) (b b′ : Buffers) (idle moved : ℕ)
+    → Sweeps w b idle moved b′
+    → idle ∷ moved ∷ [] ≡ idleTasks w (b .spins) ∷ movedTasks w (b .spins) ∷ []
+counts w b b′ idle moved s = s .counts
+
+-- bonds are judged on the spins before the move: what it leaves in the spins does not matter to the labels, counts and sizes
+pub judged-before :
+    (c : Call) (b b′ : Buffers) (ys : List ℤ)
+    → Seen c b b′
+    → Seen c b (record { spins = ys; labels = b′ .labels; greyLabels = b′ .greyLabels; counts = b′ .counts; sizes = b′ .sizes })
+judged-before c b b′ ys s = record {
+  labels = s .labels;
+  grey-labels = s .grey-labels;
+  grey-kept = s .grey-kept;
+  counts = s .counts;
+  sizes = s .sizes;
+}

@@ -3,23 +3,12 @@ use Prim.Native.Nat.{ℕ, zero, suc, _+_, _*_, _/_, _<_}
 use mathlib.Core.Path.{_≡_}
 use mathlib.Core.Bool.{Bool, true, false, not, _||_}
 use mathlib.Core.List.{List}
-use lib.Dec.{eqb}
-use lib.IntN.{ℤ, pos, negsuc, _+ℤ_, _*ℤ_}
+use lib.IntN.{ℤ, pos, _*ℤ_}
+use Rattle.lemmas.specs.Ints.{eqZ}
+use Rattle.lemmas.specs.Sums.{sum}
 use Rattle.paper.specs.declared.Mode.{Mode}
 use Rattle.paper.specs.declared.Mode.the-variants.{Houd, Pair, Perm, Gperm, Jorg, Cmr}
 use Rattle.paper.specs.Panel.Input.{Call, Pattern, pattern, size}
-
--- equality of two integers, as a test
-abbrev pub eqZ : ℤ → ℤ → Bool
-eqZ (pos a) (pos b) = eqb a b
-eqZ (pos a) (negsuc b) = false
-eqZ (negsuc a) (pos b) = false
-eqZ (negsuc a) (negsuc b) = eqb a b
-
--- f 0 + f 1 + .. + f (m - 1)
-unfoldable pub sum : ℕ → (ℕ → ℤ) → ℤ
-sum zero f = pos 0
-sum (suc m) f = sum m f +ℤ f m
 
 -- some of the first m differs from the first
 unfoldable pub differs : ℕ → Pattern → Bool

@@ -6,13 +6,15 @@ use lib.ListN.{getD}
 use lib.IntN.{ℤ, pos, natAbs, _*ℤ_}
 use lib.Signed.{ltZ}
 use lib.Ieee.{Float, nan, binary32, mul, div, lt, ofInt}
+use Rattle.lemmas.specs.Ints.{eqZ}
+use Rattle.lemmas.specs.Sums.{sum}
 use Rattle.paper.specs.declared.Mode.{Mode}
 use Rattle.paper.specs.declared.Mode.the-variants.{Houd, Pair, Perm, Gperm, Jorg, Cmr}
 use Rattle.paper.specs.declared.Sampler.{Sampler}
 use Rattle.paper.specs.declared.BondKind.{BondKind}
 use Rattle.paper.specs.declared.BondKind.the-variants.{None, Blue, Red}
 use Rattle.paper.specs.Panel.Input.{Call, Pattern, pattern, size, bond, ahead}
-use Rattle.paper.specs.Site.Acting.{eqZ, sum, acts}
+use Rattle.paper.specs.Site.Acting.{acts}
 
 -- a whole number as an `f32`
 abbrev pub whole : ℕ → Float

@@ -3,8 +3,8 @@ use Prim.Native.Nat.{ℕ}
 use mathlib.Core.List.{List}
 use lib.ListN.{getD}
 use lib.IntN.{ℤ, pos, negℤ, _*ℤ_}
+use Rattle.lemmas.specs.Sums.{sum}
 use Rattle.paper.specs.Panel.Input.{Lattice, Call, spin, pattern, size, ahead, bondOf, aheadOf}
-use Rattle.paper.specs.Site.Acting.{sum}
 
 -- the energy of the system t: minus the sum, over all bonds, of the coupling times both spins
 abbrev pub energy : Lattice → List ℤ → ℕ → ℤ

@@ -3,7 +3,7 @@ use borrow.Author.Needs.{needs}
 use Prim.Native.Nat.{ℕ, _<_}
 use mathlib.Core.Path.{_≡_, _∙_}
 use denote.Ref.{now}
-use Rattle.paper.specs.Demand3.ActsKept.{test-ext}
+use Rattle.laws.specs.Acting.{test-ext}
 use Rattle.columns.specs.Laws.{signed-spins, signed-gauge}
 use Rattle.rules.specs.Tables.{spinAt}
 use Rattle.rules.specs.Sight.{seenBy, seen-spin}

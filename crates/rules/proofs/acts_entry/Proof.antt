@@ -4,9 +4,9 @@ use mathlib.Core.Bool.{Bool}
 use Prim.Native.Nat.{ℕ, _<_}
 use native.Mathlib.Omega.{arith}
 use borrow.Author.Needs.{needs}
+use Rattle.lemmas.specs.Counts.{bit}
 use Rattle.paper.specs.Site.Acting.{testBy}
-use Rattle.paper.specs.Component.Sizes.{bit}
-use Rattle.paper.specs.Demand3.ActsKept.{test-ext}
+use Rattle.laws.specs.Acting.{test-ext}
 use Rattle.columns.specs.Column.{shown, shown-spin}
 use Rattle.rules.specs.Tables.{spinAt}
 use Rattle.rules.proofs.acts_entry.Statement.{statement}

@@ -6,9 +6,10 @@ use native.Mathlib.Omega.{arith}
 use borrow.Author.Needs.{needs}
 use mir.Syntax.{w8}
 use mir.Val.{ofZ}
+use Rattle.lemmas.specs.Held.{bits-inj}
 use Rattle.paper.specs.Site.Acting.{pairDiffers}
 use Rattle.rules.specs.Tables.{spinAt}
-use Rattle.rules.proofs.Rules.{pair-none, pair-hit, pair-miss, bits-inj}
+use Rattle.rules.proofs.Rules.{pair-none, pair-hit, pair-miss}
 use Rattle.rules.proofs.any_pair_differs.Statement.{statement}
 use Rattle.rules.proofs.any_pair_differs.Tie as tie
 

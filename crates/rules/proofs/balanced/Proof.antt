@@ -5,8 +5,8 @@ use native.Mathlib.Omega.{arith}
 use borrow.Author.Needs.{needs}
 use mir.Syntax.{w8}
 use mir.Val.{ofZ}
-use Rattle.paper.specs.Site.Acting.{sum as total}
-use Rattle.paper.specs.Demand3.Reversible.{Spinning}
+use Rattle.lemmas.specs.Sums.{sum as total}
+use Rattle.laws.specs.Patterns.{Spinning}
 use Rattle.rules.specs.Tables.{spinAt}
 use Rattle.rules.proofs.Rules.{sum-none, sum-bits, sum-fits, zero-bits}
 use Rattle.rules.proofs.balanced.Statement.{statement}

@@ -7,21 +7,22 @@ use lib.IntN.{pos}
 use lib.ListN.{length}
 use mir.Syntax.{w8}
 use mir.ValLaws.{toZ-ofZ}
+use Rattle.lemmas.specs.Stores.{Filled, filled-none}
 use Rattle.paper.specs.Move.Moving.{other}
-use Rattle.paper.specs.Law.Patterns.{other-first, other-second}
-use Rattle.rules.specs.Tables.{spinAt, Written}
-use Rattle.rules.proofs.Bytes.{written-none, written-pair}
+use Rattle.laws.specs.Patterns.{other-first, other-second}
+use Rattle.rules.specs.Tables.{spinAt}
+use Rattle.rules.proofs.Bytes.{filled-pair}
 use Rattle.rules.proofs.exchange_pairs.Statement.{statement}
 use Rattle.rules.proofs.exchange_pairs.Tie as tie
 
 abbrev Inv-loop : tie.InvT-loop
-Inv-loop len p q₀ j₀ q j = (2 * j ≤ len) × ((length p ≡ 8) × Written (pos 0) (2 * j) (λ m. spinAt p (other m)) p q)
+Inv-loop len p q₀ j₀ q j = (2 * j ≤ len) × ((length p ≡ 8) × Filled (pos 0) (λ m. spinAt p (other m)) (2 * j) p q)
 
 abbrev μ-loop : tie.MeasureT-loop
 μ-loop len p q₀ j₀ q j = len - j
 
 loop-holds : tie.Need-loop-holds Inv-loop μ-loop
-loop-holds c = (search needs, (search needs, written-none (pos 0) _ _))
+loop-holds c = (search needs, (search needs, filled-none (pos 0) _ _))
 
 mul-loop : tie.Need-mul-loop Inv-loop μ-loop
 mul-loop c = search needs
@@ -73,7 +74,7 @@ loop-again c =
     let g : 2 * (i .j + 1) ≤ c .before .before .before .before .args .len = omega arith in
     let a = toZ-ofZ w8 _ (record { sfits = c .before .a .given }) ∙ ap (spinAt p) (sym (other-second (i .j))) in
     let b = toZ-ofZ w8 _ (record { sfits = c .b .given }) ∙ ap (spinAt p) (sym (other-first (i .j))) in
-    (g, (i .inv .1 .0, written-pair (pos 0) (λ m. spinAt p (other m)) p (i .j) (i .q) _ _ h b a (i .inv .1 .1)))
+    (g, (i .inv .1 .0, filled-pair (pos 0) (λ m. spinAt p (other m)) p (i .j) (i .q) _ _ h b a (i .inv .1 .1)))
 
 returns : tie.Need-returns Inv-loop μ-loop
 returns c =

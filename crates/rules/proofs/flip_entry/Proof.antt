@@ -30,7 +30,7 @@ returns c =
     let q = spinAt (c .before .flip-group-site .result) in
     c .pack-one .ensures
     ∙ column-ext m q (flipped (a .mode) m (shown (a .column)))
-    (λ k h. c .before .flip-group-site .ensures .at k h ∙ flipped-ext (a .mode) m p (shown (a .column)) (shows u) k h)
+    (λ k h. c .before .flip-group-site .ensures .done k h ∙ flipped-ext (a .mode) m p (shown (a .column)) (shows u) k h)
 
 pub flip-entry-spec : {M : Type 1} → statement M
 flip-entry-spec =

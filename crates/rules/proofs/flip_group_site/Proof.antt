@@ -1,7 +1,7 @@
 -- `rules::flip_group_site` meets its contract: in each mode's arm the flip that is called is the mode's.
 use native.Mathlib.Omega.{arith}
 use borrow.Author.Needs.{needs}
-use Rattle.paper.specs.Law.Partners.{pairs-fit}
+use Rattle.laws.specs.Partners.{pairs-fit}
 use Rattle.rules.proofs.Flips.{flip-none, flip-signs, flip-pairs}
 use Rattle.rules.proofs.flip_group_site.Statement.{statement}
 use Rattle.rules.proofs.flip_group_site.Tie as tie

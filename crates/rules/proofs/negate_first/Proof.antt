@@ -5,21 +5,21 @@ use native.Mathlib.Omega.{arith}
 use borrow.Author.Needs.{needs}
 use lib.IntN.{pos, negℤ}
 use lib.ListN.{length}
+use Rattle.lemmas.specs.Stores.{Filled, filled-none, filled-more}
 use Rattle.paper.specs.Refusal.Rules.{Spin}
-use Rattle.rules.specs.Tables.{spinAt, Written}
+use Rattle.rules.specs.Tables.{spinAt}
 use Rattle.rules.proofs.Rules.{negate-fits, negate-bits}
-use Rattle.rules.proofs.Bytes.{written-none, written-more}
 use Rattle.rules.proofs.negate_first.Statement.{statement}
 use Rattle.rules.proofs.negate_first.Tie as tie
 
 abbrev Inv-loop : tie.InvT-loop
-Inv-loop count p q₀ k₀ q k = (k ≤ count) × ((length p ≡ 8) × Written (pos 0) k (λ m. negℤ (spinAt p m)) p q)
+Inv-loop count p q₀ k₀ q k = (k ≤ count) × ((length p ≡ 8) × Filled (pos 0) (λ m. negℤ (spinAt p m)) k p q)
 
 abbrev μ-loop : tie.MeasureT-loop
 μ-loop count p q₀ k₀ q k = count - k
 
 loop-holds : tie.Need-loop-holds Inv-loop μ-loop
-loop-holds c = (search needs, (search needs, written-none (pos 0) _ _))
+loop-holds c = (search needs, (search needs, filled-none (pos 0) _ _))
 
 array-copy-out-v : tie.Need-array-copy-out-v Inv-loop μ-loop
 array-copy-out-v c = search needs
@@ -44,7 +44,7 @@ loop-again c =
     let i = c .before .before .loop in
     let p = c .before .before .before .args .t1 in
     let h : i .k < length (i .q) = omega (arith, i .inv .1 .1 .long) in
-    (omega arith, (i .inv .1 .0, written-more (pos 0) (λ m. negℤ (spinAt p m)) p (i .k) (i .q) _ h (negate-bits _ (spin c)) (i .inv .1 .1)))
+    (omega arith, (i .inv .1 .0, filled-more (i .inv .1 .1) (omega (arith, h, i .inv .1 .1 .long)) (negate-bits _ (spin c))))
 
 returns : tie.Need-returns Inv-loop μ-loop
 returns c =

@@ -8,9 +8,9 @@ use lib.Dec.{lit<}
 use lib.IntN.{pos}
 use mir.Syntax.{w8}
 use mir.Val.{ofZ}
+use Rattle.lemmas.specs.Held.{bits-inj}
 use Rattle.columns.specs.Column.{columnOf}
 use Rattle.rules.specs.Tables.{spinAt}
-use Rattle.rules.proofs.Rules.{bits-inj}
 use Rattle.rules.proofs.Bytes.{column-none, column-down, column-add, one-room}
 use Rattle.rules.proofs.pack_one.Statement.{statement}
 use Rattle.rules.proofs.pack_one.Tie as tie

@@ -9,17 +9,16 @@ use lib.IntN.{pos}
 use lib.ListN.{length, getD}
 use mir.Syntax.{w8}
 use mir.Val.{toZ, ofZ}
+use Rattle.lemmas.specs.Held.{bits-inj}
+use Rattle.lemmas.specs.Stores.{Filled, filled-none, filled-more}
 use Rattle.paper.specs.Panel.Input.{member, patternOf}
 use Rattle.columns.specs.Rows.{signed}
-use Rattle.rules.specs.Tables.{Written}
-use Rattle.rules.proofs.Rules.{bits-inj}
-use Rattle.rules.proofs.Bytes.{written-none, written-more}
 use Rattle.rules.proofs.Products.{product-same, product-differ}
 use Rattle.rules.proofs.read_site.Statement.{statement}
 use Rattle.rules.proofs.read_site.Tie as tie
 
 abbrev Inv-loop : tie.InvT-loop
-Inv-loop spins n i group signs p₀ len k₀ p k = (k ≤ len) × ((length p₀ ≡ 8) × Written (pos 0) k (signed n group signs spins i) p₀ p)
+Inv-loop spins n i group signs p₀ len k₀ p k = (k ≤ len) × ((length p₀ ≡ 8) × Filled (pos 0) (signed n group signs spins i) k p₀ p)
 
 abbrev μ-loop : tie.MeasureT-loop
 μ-loop spins n i group signs p₀ len k₀ p k = len - k
@@ -33,7 +32,7 @@ cell l =
     omega (arith, s .pre .inside (l .before .loop .k) (l .loop-test .taken), s .pre .below)
 
 loop-holds : tie.Need-loop-holds Inv-loop μ-loop
-loop-holds c = (search needs, (search needs, written-none (pos 0) _ _))
+loop-holds c = (search needs, (search needs, filled-none (pos 0) _ _))
 
 mul-s : tie.Need-mul-s Inv-loop μ-loop
 mul-s c = search needs
@@ -79,10 +78,10 @@ loop-again c =
     (λ w. ap (toZ w8) (w .1) ∙ product-same x y sx sy (same (w .0 .taken)))
     (λ w. ap (toZ w8) (w .1) ∙ product-differ x y sx sy (λ q. w .0 .left (ap (ofZ w8) q)))
     (c .if1 .came) in
-    (omega arith, (i .inv .1 .0, written-more (pos 0) _ _ (i .k) (i .p) (toZ w8 (c .if1 .v)) h e (i .inv .1 .1)))
+    (omega arith, (i .inv .1 .0, filled-more (i .inv .1 .1) (omega (arith, h, i .inv .1 .1 .long)) e))
 
 returns : tie.Need-returns Inv-loop μ-loop
-returns c k h = c .before .loop .inv .1 .1 .at k (omega arith)
+returns c k h = c .before .loop .inv .1 .1 .done k (omega arith)
 
 pub read-site-spec : {M : Type 1} → statement M
 read-site-spec =

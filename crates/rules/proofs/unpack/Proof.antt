@@ -8,20 +8,20 @@ use lib.IntN.{pos}
 use lib.ListN.{length}
 use mir.Syntax.{w8}
 use mir.Val.{toZ}
+use Rattle.lemmas.specs.Stores.{Filled, filled-none, filled-more}
 use Rattle.columns.specs.Column.{shown}
-use Rattle.rules.specs.Tables.{Written}
-use Rattle.rules.proofs.Bytes.{written-none, written-more, shown-up, shown-down}
+use Rattle.rules.proofs.Bytes.{shown-up, shown-down}
 use Rattle.rules.proofs.unpack.Statement.{statement}
 use Rattle.rules.proofs.unpack.Tie as tie
 
 abbrev Inv-loop : tie.InvT-loop
-Inv-loop column p₀ k₀ p k = (k ≤ 8) × ((length p₀ ≡ 8) × Written (pos 0) k (shown column) p₀ p)
+Inv-loop column p₀ k₀ p k = (k ≤ 8) × ((length p₀ ≡ 8) × Filled (pos 0) (shown column) k p₀ p)
 
 abbrev μ-loop : tie.MeasureT-loop
 μ-loop column p₀ k₀ p k = 8 - k
 
 loop-holds : tie.Need-loop-holds Inv-loop μ-loop
-loop-holds c = (search needs, (search needs, written-none (pos 0) _ _))
+loop-holds c = (search needs, (search needs, filled-none (pos 0) _ _))
 
 cast-if1 : tie.Need-cast-if1 Inv-loop μ-loop
 cast-if1 c = search needs
@@ -46,10 +46,10 @@ loop-again c =
     let h : i .k < length (i .p) = omega (arith, i .inv .1 .1 .long) in
     let e : toZ w8 (c .if1 .v) ≡ shown x (i .k) =
     ⊎-elim (λ w. ap (toZ w8) (w .1) ∙ shown-up x (i .k) (w .0 .taken)) (λ w. ap (toZ w8) (w .1) ∙ shown-down x (i .k) (w .0 .left)) (c .if1 .came) in
-    (omega arith, (i .inv .1 .0, written-more (pos 0) (shown x) _ (i .k) (i .p) (toZ w8 (c .if1 .v)) h e (i .inv .1 .1)))
+    (omega arith, (i .inv .1 .0, filled-more (i .inv .1 .1) (omega (arith, h, i .inv .1 .1 .long)) e))
 
 returns : tie.Need-returns Inv-loop μ-loop
-returns c k h = c .before .loop .inv .1 .1 .at k (omega arith)
+returns c k h = c .before .loop .inv .1 .1 .done k (omega arith)
 
 pub unpack-spec : {M : Type 1} → statement M
 unpack-spec =

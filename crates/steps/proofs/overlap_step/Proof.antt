@@ -4,9 +4,9 @@ use denote.Ref.{now}
 use Rattle.paper.specs.Panel.Input.{Call, Choices, Buffers}
 use Rattle.paper.specs.Refusal.Rule.{Kept}
 use Rattle.paper.specs.Refusal.Rules.{choiceRules}
-use Rattle.paper.specs.Refusal.Verdict.{Verdict}
+use Rattle.paper.specs.Refusal.Verdict.{Verdict, verdict-kept}
 use Rattle.paper.specs.Panel.Made.{callOf, choicesOf, buffersOf}
-use Rattle.steps.specs.Step.{verdict-kept, verdict-broken, soundRules, sound-of, tested-of, valid-by, refused-panel, refused-choices}
+use Rattle.steps.specs.Step.{verdict-broken, soundRules, sound-of, tested-of, valid-by, refused-panel, refused-choices}
 use Rattle.steps.proofs.overlap_step.Statement.{statement}
 use Rattle.steps.proofs.overlap_step.Tie as tie
 

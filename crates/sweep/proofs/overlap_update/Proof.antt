@@ -6,7 +6,7 @@ use Rattle.paper.specs.Answer.Task.{Sweep}
 use Rattle.paper.specs.Answer.Sweep.{sweepRules}
 use Rattle.paper.specs.Panel.Made.{buffersOf}
 use Rattle.paper.specs.Answer.Made.{sweepOf}
-use Rattle.sweep_tests.specs.First.{kept-of}
+use Rattle.paper.specs.Refusal.Verdict.{verdict-kept}
 use Rattle.sweep.specs.Updating.{refused-sweep}
 use Rattle.sweep.proofs.overlap_update.Statement.{statement}
 use Rattle.sweep.proofs.overlap_update.Tie as tie
@@ -51,7 +51,7 @@ run-tasks-requires c κs =
     let e = c .before .before .before .before .before in
     let t = e .before in
     let s = S t in
-    kept-of (sweepRules (W s) (B s)) (t .test-sweep .result) (e .if1 .left) (t .test-sweep .ensures)
+    verdict-kept (sweepRules (W s) (B s)) (t .test-sweep .result) (e .if1 .left) (t .test-sweep .ensures)
 
 same-length-6 : tie.Need-same-length-6
 same-length-6 c = search needs

@@ -1,8 +1,8 @@
 -- `lengths_ok` meets its contract: the tests' lengths for all tasks, and the sweep's own.
 use borrow.Author.Needs.{needs}
 use mathlib.Core.Path.{_≡_, refl}
+use Rattle.lemmas.specs.Tells.{same, both, test-eq}
 use Rattle.paper.specs.Panel.Takes.{drawsBonds, isGperm, isWolff}
-use Rattle.lattice.specs.Telling.{same, both, test-eq}
 use Rattle.tests.specs.Lengths.{took, counted}
 use Rattle.tasks.specs.Plan.{tasksOf, few-tasks}
 use Rattle.sweep_tests.specs.Lengths.{Fitting}

@@ -6,10 +6,9 @@ use mathlib.Core.Bool.{_||_}
 use lib.Dec.{ltb}
 use native.Mathlib.Nat.{mul-le-mul}
 use native.Mathlib.Omega.{arith}
-use Rattle.paper.specs.Component.Marks.{told, denied, passed, refused}
+use Rattle.lemmas.specs.Tells.{told, denied, passed, refused, Test, same, both, either, test-lt, test-eq, test-le}
 use Rattle.paper.specs.Refusal.Rules.{Ranged}
 use Rattle.tasks.specs.Plan.{Planned, t-fits, r-fits}
-use Rattle.lattice.specs.Telling.{Test, same, both, either, test-lt, test-eq, test-le}
 use Rattle.sweep_tests.proofs.plan_ok.Statement.{statement}
 use Rattle.sweep_tests.proofs.plan_ok.Tie as tie
 

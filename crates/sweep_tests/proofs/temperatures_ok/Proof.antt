@@ -2,8 +2,8 @@
 use borrow.Author.Needs.{needs}
 use denote.Ref.{now}
 use lib.ListN.{length}
+use Rattle.lemmas.specs.Tells.{when-taken, when-not}
 use Rattle.sweep_tests.specs.First.{AllWarm}
-use Rattle.lattice.specs.Telling.{when-taken, when-not}
 use Rattle.sweep_tests.proofs.temperatures_ok.Statement.{statement}
 use Rattle.sweep_tests.proofs.temperatures_ok.Tie as tie
 

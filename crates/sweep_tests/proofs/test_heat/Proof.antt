@@ -3,7 +3,7 @@ use borrow.Author.Needs.{needs}
 use mathlib.Core.Path.{refl}
 use mathlib.Core.Logic.{inl, inr}
 use denote.Ref.{now}
-use Rattle.paper.specs.Component.Marks.{told, denied, passed, refused}
+use Rattle.lemmas.specs.Tells.{told, denied, passed, refused}
 use Rattle.paper.specs.Panel.Takes.{drawsBonds}
 use Rattle.paper.specs.Refusal.Rules.{When, SmallCouplings}
 use Rattle.sweep_tests.specs.First.{AllWarm}

@@ -2,15 +2,15 @@
 use borrow.Author.Needs.{needs}
 use mathlib.Core.List.{_++_}
 use denote.Ref.{now}
-use Rattle.paper.specs.Component.Marks.{passed, refused}
+use Rattle.lemmas.specs.Tells.{passed, refused}
 use Rattle.paper.specs.Panel.Input.{Buffers}
 use Rattle.paper.specs.Panel.Made.{buffersOf}
 use Rattle.paper.specs.Refusal.Rule.{Kept}
-use Rattle.paper.specs.Refusal.Verdict.{verdict-later}
+use Rattle.paper.specs.Refusal.Verdict.{verdict-later, verdict-kept}
 use Rattle.paper.specs.Answer.Task.{Sweep}
 use Rattle.paper.specs.Answer.Made.{sweepOf}
 use Rattle.tasks.specs.Plan.{Planned}
-use Rattle.sweep_tests.specs.First.{first-broken, kept-of}
+use Rattle.sweep_tests.specs.First.{first-broken}
 use Rattle.sweep_tests.specs.Whole.{panelOf, heatOf, tasksRules, Fits, broken-plan, broken-lengths, past-lengths, tested-of}
 use Rattle.sweep_tests.proofs.test_sweep.Statement.{statement}
 use Rattle.sweep_tests.proofs.test_sweep.Tie as tie
@@ -45,10 +45,10 @@ fits : (e : tie.Else2) → let s = S (E1 e .before) in Fits (W s) (B s)
 fits e = passed (e .before .lengths-ok .result) (e .if2 .left) (e .before .lengths-ok .ensures)
 
 panel : (e : tie.Else3) → let s = S (E1 (E2 e) .before) in Kept (panelOf (W s) (B s))
-panel e = let s = S (E1 (E2 e) .before) in kept-of (panelOf (W s) (B s)) (e .before .test-panel .result) (e .if3 .left) (e .before .test-panel .ensures)
+panel e = let s = S (E1 (E2 e) .before) in verdict-kept (panelOf (W s) (B s)) (e .before .test-panel .result) (e .if3 .left) (e .before .test-panel .ensures)
 
 heat : (e : tie.Else4) → let s = S (E1 (E2 (E3 e)) .before) in Kept (heatOf (W s) (B s))
-heat e = let s = S (E1 (E2 (E3 e)) .before) in kept-of (heatOf (W s) (B s)) (e .before .test-heat .result) (e .if4 .left) (e .before .test-heat .ensures)
+heat e = let s = S (E1 (E2 (E3 e)) .before) in verdict-kept (heatOf (W s) (B s)) (e .before .test-heat .result) (e .if4 .left) (e .before .test-heat .ensures)
 
 plan-ok-requires : tie.Need-plan-ok-requires
 plan-ok-requires c κs = search needs

@@ -6,15 +6,16 @@ use mathlib.Core.List.{List}
 use native.Mathlib.Omega.{arith}
 use native.Mathlib.Nat.{le-antisymm}
 use lib.ListN.{getD}
+use Rattle.lemmas.specs.Cells.{table, length-table}
+use Rattle.lemmas.specs.Stores.{Filled, filled-none, filled-more}
 use Rattle.paper.specs.declared.Group.{Group}
-use Rattle.paper.specs.Answer.Task.{table}
 use Rattle.tasks.specs.Plan.{some-members, some-groups, entry-lt}
-use Rattle.tasks.proofs.Filling.{Filled, fill-start, fill-more, fill-done}
+use Rattle.tasks.proofs.Filling.{blank, fill-done}
 use Rattle.tasks.proofs.task_group.Statement.{statement}
 use Rattle.tasks.proofs.task_group.Tie as tie
 
 abbrev Inv-loop : tie.InvT-loop
-Inv-loop order k members groups base systems₀ x₀ systems x = (x ≤ members) × Filled (λ y. getD order (base + y) 0) x systems
+Inv-loop order k members groups base systems₀ x₀ systems x = (x ≤ members) × Filled 0 (λ y. getD order (base + y) 0) x blank systems
 
 abbrev μ-loop : tie.MeasureT-loop
 μ-loop order k members groups base systems₀ x₀ systems x = members - x
@@ -56,7 +57,7 @@ add-base c = omega (arith, first (c .before .before .before))
 
 loop-holds : tie.Need-loop-holds Inv-loop μ-loop
 unfolding table
-loop-holds c = (search needs, fill-start _)
+loop-holds c = (search needs, filled-none _ _ _)
 
 add-wide : tie.Need-add-wide Inv-loop μ-loop
 add-wide c = omega (arith, entry (S c) (c .before .loop .x) (c .loop-test .taken), S c .pre .task .planned .ranged .lattice .s-high)
@@ -88,7 +89,7 @@ loop-less c = search needs
 loop-again : tie.Need-loop-again Inv-loop μ-loop
 loop-again c =
     let l = c .before .before in
-    (omega (arith, l .loop-test .taken), fill-more (c .wide .result) (l .before .loop .inv .1) (below l) (c .wide .ensures))
+    (omega (arith, l .loop-test .taken), filled-more (l .before .loop .inv .1) (omega (arith, below l, length-table 8 (λ k. 0))) (c .wide .ensures))
 
 returns : tie.Need-returns Inv-loop μ-loop
 returns c =

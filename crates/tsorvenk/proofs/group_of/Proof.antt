@@ -1,6 +1,6 @@
 -- `group_of` meets its contract.
 use borrow.Author.Needs.{needs}
-use Rattle.paper.specs.Answer.Task.{table}
+use Rattle.lemmas.specs.Cells.{table}
 use Rattle.tsorvenk.proofs.group_of.Statement.{statement}
 use Rattle.tsorvenk.proofs.group_of.Tie as tie
 

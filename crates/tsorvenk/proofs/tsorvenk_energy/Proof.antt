@@ -4,9 +4,9 @@ use mathlib.Core.Path.{subst}
 use mir.Syntax.{w64}
 use mir.ValLaws.{toZ-ofZ}
 use denote.Ref.{now}
+use Rattle.lemmas.specs.Tells.{told, denied}
 use Rattle.paper.specs.Panel.Input.{Lattice}
 use Rattle.paper.specs.Answer.Meter.{MeterAnswers}
-use Rattle.paper.specs.Component.Marks.{told, denied}
 use Rattle.meter.specs.Part.{latticeOf}
 use Rattle.tsorvenk.proofs.Told.{no-sizes, no-room, unmetered, metered}
 use Rattle.tsorvenk.proofs.tsorvenk_energy.Statement.{statement}

@@ -6,8 +6,8 @@ use native.Mathlib.Omega.{arith}
 use lib.ListN.{length, getD, drop, replicate}
 use denote.Ref.{now}
 use borrow.Author.Needs.{needs}
+use Rattle.lemmas.specs.Cells.{table}
 use Rattle.paper.specs.Answer.Frame.{bytes}
-use Rattle.paper.specs.Answer.Task.{table}
 use Rattle.frame_lines.specs.Lines.{line-fits, line-two, line-byte}
 use Rattle.frame_lines.specs.Fill.{Filling, filling-none, filling-more, filled, padded}
 use Rattle.frame_lines.proofs.fill.read_group.Statement.{statement}

@@ -1,10 +1,10 @@
 -- `frame::scan::scan` meets its contract: the first line.
 use mathlib.Core.Path.{subst}
 use denote.Ref.{now}
-use Rattle.paper.specs.Component.Marks.{told, denied}
+use borrow.Author.Needs.{needs}
+use Rattle.lemmas.specs.Tells.{told, denied}
 use Rattle.frame_lines.specs.Scan.{AfterAs, Passed}
 use Rattle.frame_lines.proofs.Steps.{no-head, no-sizes, headed}
-use borrow.Author.Needs.{needs}
 use Rattle.frame_lines.proofs.scan.scan.Statement.{statement}
 use Rattle.frame_lines.proofs.scan.scan.Tie as tie
 

@@ -3,11 +3,11 @@ use Prim.Native.Nat.{_*_}
 use mathlib.Core.Path.{subst}
 use native.Mathlib.Omega.{arith}
 use denote.Ref.{now}
+use borrow.Author.Needs.{needs}
+use Rattle.lemmas.specs.Tells.{passed, refused}
 use Rattle.paper.specs.Answer.Frame.{GroupSize}
-use Rattle.paper.specs.Component.Marks.{passed, refused}
 use Rattle.frame_lines.specs.Scan.{LineAt, AfterAs, Passed}
 use Rattle.frame_lines.proofs.Steps.{no-group, no-group-size, perms-small, no-perms, no-end, placed}
-use borrow.Author.Needs.{needs}
 use Rattle.frame_lines.proofs.scan.scan_group.Statement.{statement}
 use Rattle.frame_lines.proofs.scan.scan_group.Tie as tie
 

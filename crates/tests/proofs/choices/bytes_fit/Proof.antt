@@ -1,8 +1,8 @@
 -- `bytes_fit` meets its contract: bytes that are not taken are not tested.
 use borrow.Author.Needs.{needs}
 use denote.Ref.{now}
+use Rattle.lemmas.specs.Tells.{when-taken, when-not}
 use Rattle.tests.specs.Choices.{AtMost}
-use Rattle.lattice.specs.Telling.{when-taken, when-not}
 use Rattle.tests.proofs.choices.bytes_fit.Statement.{statement}
 use Rattle.tests.proofs.choices.bytes_fit.Tie as tie
 

@@ -5,9 +5,9 @@ use mathlib.Core.Path.{sym, _∙_}
 use mathlib.Core.Bool.{_&&_}
 use denote.Ref.{now}
 use lib.ListN.{getD}
+use Rattle.lemmas.specs.Tells.{said, same, implies, test-is, test-lt}
 use Rattle.paper.specs.Panel.Takes.{isGperm, isWolff, flipsBy, permsBy, greysBy, entries}
 use Rattle.paper.specs.Refusal.Rules.{When}
-use Rattle.lattice.specs.Telling.{said, same, implies, test-is, test-lt}
 use Rattle.tests.specs.Choices.{AtMost, PermRows, RowMoves}
 use Rattle.tests.proofs.Chosen.{entries-few, perms-long, one-grey, chosen-told}
 use Rattle.tests.proofs.choices.chosen_ok.Statement.{statement}

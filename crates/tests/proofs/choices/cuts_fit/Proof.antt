@@ -1,8 +1,8 @@
 -- `cuts_fit` meets its contract: cuts that are not taken are not tested.
 use borrow.Author.Needs.{needs}
 use denote.Ref.{now}
+use Rattle.lemmas.specs.Tells.{when-taken, when-not}
 use Rattle.paper.specs.Refusal.Rules.{Cuts}
-use Rattle.lattice.specs.Telling.{when-taken, when-not}
 use Rattle.tests.proofs.choices.cuts_fit.Statement.{statement}
 use Rattle.tests.proofs.choices.cuts_fit.Tie as tie
 

@@ -3,7 +3,7 @@ use Prim.Native.Nat.{_≤_}
 use denote.Ref.{now}
 use lib.Dec.{leb}
 use lib.ListN.{getD}
-use Rattle.lattice.specs.Telling.{test-le, when-taken, when-not}
+use Rattle.lemmas.specs.Tells.{test-le, when-taken, when-not}
 use Rattle.tests.proofs.choices.grey_fit.Statement.{statement}
 use Rattle.tests.proofs.choices.grey_fit.Tie as tie
 

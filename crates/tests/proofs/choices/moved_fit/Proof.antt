@@ -1,8 +1,8 @@
 -- `moved_fit` meets its contract: a row that is not taken is not tested.
 use borrow.Author.Needs.{needs}
 use denote.Ref.{now}
+use Rattle.lemmas.specs.Tells.{when-taken, when-not}
 use Rattle.tests.specs.Choices.{RowMoves}
-use Rattle.lattice.specs.Telling.{when-taken, when-not}
 use Rattle.tests.proofs.choices.moved_fit.Statement.{statement}
 use Rattle.tests.proofs.choices.moved_fit.Tie as tie
 

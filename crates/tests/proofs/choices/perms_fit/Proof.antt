@@ -1,7 +1,7 @@
 -- `perms_fit` meets its contract: rows that are not taken are not tested.
 use denote.Ref.{now}
+use Rattle.lemmas.specs.Tells.{when-taken, when-not}
 use Rattle.tests.specs.Choices.{PermRows}
-use Rattle.lattice.specs.Telling.{when-taken, when-not}
 use Rattle.tests.proofs.choices.perms_fit.Statement.{statement}
 use Rattle.tests.proofs.choices.perms_fit.Tie as tie
 

@@ -6,7 +6,7 @@ use lib.Ieee.{nan}
 use mathlib.Core.Logic.{inl, inr}
 use native.Mathlib.Omega.{arith}
 use denote.Ref.{now}
-use Rattle.paper.specs.Component.Marks.{passed, refused}
+use Rattle.lemmas.specs.Tells.{passed, refused}
 use Rattle.paper.specs.Panel.Made.{choicesOf}
 use Rattle.paper.specs.Panel.Takes.{drawsBonds}
 use Rattle.paper.specs.Refusal.Rules.{When, Cuts, Chosen}

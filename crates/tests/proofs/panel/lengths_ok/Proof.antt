@@ -5,8 +5,8 @@ use mathlib.Core.Path.{_≡_, refl, ap, _∙_}
 use mathlib.Core.Bool.{Bool, true, false, cond}
 use native.Mathlib.Nat.{mul-le-mul}
 use native.Mathlib.Omega.{arith}
+use Rattle.lemmas.specs.Tells.{same, both, test-eq}
 use Rattle.paper.specs.Panel.Takes.{isPerm, entries, drawsBonds, choicesBy, greysBy, choiceWidth}
-use Rattle.lattice.specs.Telling.{same, both, test-eq}
 use Rattle.tests.specs.Lengths.{FitsEach, took}
 use Rattle.tests.proofs.Chosen.{entries-few}
 use Rattle.tests.proofs.panel.lengths_ok.Statement.{statement}

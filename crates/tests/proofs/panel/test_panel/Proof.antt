@@ -5,10 +5,9 @@ use mathlib.Core.Bool.{not, _||_}
 use native.Mathlib.Omega.{arith}
 use mathlib.Core.Logic.{inl, inr}
 use denote.Ref.{now}
-use Rattle.paper.specs.Component.Marks.{passed, refused}
+use Rattle.lemmas.specs.Tells.{passed, refused, Test, said, implies, test-is}
 use Rattle.paper.specs.Panel.Takes.{drawsBonds}
 use Rattle.paper.specs.Refusal.Rules.{When, Ranged, Fits, AllSystems, Spins, Inverse, Grouped, SmallCouplings, Warm}
-use Rattle.lattice.specs.Telling.{Test, said, implies, test-is}
 use Rattle.tests.specs.Lengths.{one-fits, fits-one}
 use Rattle.tests.proofs.panel.test_panel.Statement.{statement}
 use Rattle.tests.proofs.panel.test_panel.Tie as tie

@@ -2,7 +2,7 @@
 use borrow.Author.Needs.{needs}
 use mathlib.Core.Path.{refl}
 use mathlib.Core.Logic.{inl, inr}
-use Rattle.paper.specs.Component.Marks.{told, denied}
+use Rattle.lemmas.specs.Tells.{told, denied}
 use Rattle.tsorvenk.proofs.sweeping.roomless.Statement.{statement}
 use Rattle.tsorvenk.proofs.sweeping.roomless.Tie as tie
 

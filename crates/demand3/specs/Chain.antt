@@ -1,0 +1,158 @@
+-- After an accepted move of a reversible mode the next is accepted too, if its own choices and buffers are right, and it has an outcome.
+use Prim.Native.Nat.{ℕ, zero, suc, _<_}
+use mathlib.Core.Path.{_≡_, refl, sym, _∙_, ap}
+use mathlib.Core.Logic.{_⊎_, inl, inr}
+use mathlib.Core.Bool.{Bool, true, false}
+use mathlib.Core.List.{List}
+use native.Mathlib.Omega.{arith}
+use native.Mathlib.Decide.{ℕ-discrete}
+use lib.IntN.{ℤ}
+use Rattle.lemmas.specs.Bools.{never}
+use Rattle.lemmas.specs.Places.{Placed, place}
+use Rattle.paper.specs.Panel.Input.{graph, Call, Choices, Buffers, spin, size, system}
+use Rattle.paper.specs.Site.Acting.{acts, SomeActs, NoneActs}
+use Rattle.paper.specs.Site.Bonds.{holds}
+use Rattle.paper.specs.Component.Labels.{Labels}
+use Rattle.paper.specs.Component.Sizes.{everyOne, Counted, Largest}
+use Rattle.paper.specs.Move.Moving.{final}
+use Rattle.paper.specs.Refusal.Rules.{Spin, AllSystems, Spins, Exact, Chosen, Seeded}
+use Rattle.paper.specs.Refusal.Kept.{Sound, Fit, Valid, valid-kept}
+use Rattle.paper.specs.Answer.Move.{Seen}
+use Rattle.laws.specs.Unique.{Outside}
+use Rattle.laws.specs.MovesExist.{write, moves-exist}
+use Rattle.demand3.specs.Statement.{Reversible, Move, Outcome}
+use Rattle.demand3.specs.Step.{Step, step, seen-of, valid-move}
+use Rattle.demand3.specs.Turns.{spins-kept, acts-kept, labels-kept}
+use Rattle.demand3.specs.ChoicesFit.{Sized, no-greys}
+use Rattle.demand3.specs.Such.{outcome}
+
+module _ {c : Call} {p : Choices} {xs : List ℤ} {l : List ℕ} {ys : List ℤ} (s : Step c p xs l ys) where
+  -- every spin is +1 or -1 after the move
+  spins-after : Spins (c .lattice .n) (AllSystems (c .lattice .s)) xs → Spins (c .lattice .n) (AllSystems (c .lattice .s)) ys
+  spins-after h t i below hi = at (place (size c) (system c) t)
+    where
+      at : Placed (size c) (system c) t ⊎ Outside c t → Spin (spin (c .lattice .n) ys t i)
+      at (inl r) = rw (r .2) (spins-kept s i hi (r .0) (r .1))
+      at (inr r) = rw (s .others i t hi r) (h t i below hi)
+
+  some-before : SomeActs c ys → SomeActs c xs
+  some-before q = record { site = q .site; below = q .below; does = sym (acts-kept s (q .site) (q .below)) ∙ q .does }
+
+  seeded-after : Seeded c xs → Seeded c ys
+  seeded-after h = record { below = h .below; acting = λ t q. acts-kept s (c .seed) (h .below t) ∙ h .acting t (some-before q) }
+
+-- ---- an accepted move has an outcome, if its labels are known
+some-or-none : (f : ℕ → Bool) (m : ℕ) → ((i : ℕ) × (i < m) × (f i ≡ true)) ⊎ ((i : ℕ) → i < m → f i ≡ false)
+some-or-none f zero = inr (λ i h. absurd (omega arith))
+some-or-none f (suc m) = go (f m) refl (some-or-none f m)
+  where
+    go :
+        (t : Bool)
+        → f m ≡ t
+        → ((i : ℕ) × (i < m) × (f i ≡ true)) ⊎ ((i : ℕ) → i < m → f i ≡ false)
+        → ((i : ℕ) × (i < suc m) × (f i ≡ true)) ⊎ ((i : ℕ) → i < suc m → f i ≡ false)
+    go t e (inl r) = inl (r .0, omega (arith, r .1), r .2)
+    go true e (inr r) = inl (m, omega arith, e)
+    go false e (inr r) = inr (λ i h. last i h (ℕ-discrete i m))
+      where
+        last : (i : ℕ) → i < suc m → Dec (i ≡ m) → f i ≡ false
+        last i h (yes q) = ap f q ∙ e
+        last i h (no q) = r i (omega arith)
+
+module _
+    {c : Call} {r : Choices} {d : Buffers} (v : Reversible (c .mode) (size c)) (k : Valid c r d) (l counts sizes : List ℕ)
+    (labels : Labels (graph c) (holds c (d .spins)) l) (tally : Counted everyOne l counts) (four : Largest everyOne l sizes)
+  where
+    left : List ℤ → Buffers
+    left ys = record { spins = ys; labels = l; greyLabels = d .greyLabels; counts = counts; sizes = sizes }
+
+    seen : (ys : List ℤ) → Seen c d (left ys)
+    unfolding left
+    seen ys = record { labels = labels; grey-labels = λ t. never (sym (no-greys c v) ∙ t); grey-kept = λ _. refl; counts = tally; sizes = four }
+
+    outcome-of : Outcome c r d
+    unfolding left seen
+    outcome-of = go (some-or-none (acts c (d .spins)) (c .lattice .n))
+      where
+        go : ((i : ℕ) × (i < c .lattice .n) × (acts c (d .spins) i ≡ true)) ⊎ NoneActs c (d .spins) → Outcome c r d
+        go (inl q) = outcome (left (write c (d .spins) (final c r (d .spins) l (d .greyLabels)))) (Move.moved (record {
+          valid = valid-kept c r d k;
+          some = record { site = q .0; below = q .1; does = q .2 };
+          moved = moves-exist c r (d .spins) l (d .greyLabels) (k .sound .grouped) (k .sound .exact .spins);
+          seen = seen _;
+        }))
+        go (inr q) = outcome (left (d .spins)) (Move.idle (record { valid = valid-kept c r d k; none = q; still = refl; seen = seen (d .spins) }))
+
+-- ---- other choices: on the buffers that a move was lent, and on any that have the spins that it left
+module _ {c : Call} {p : Choices} {b b′ : Buffers} (v : Reversible (c .mode) (size c)) (m : Move c p b b′) where
+  sound : Sound c p b
+  sound = valid-move m .sound
+
+  fit : Fit c p (b .spins)
+  fit = valid-move m .fit
+
+  pub instead : {q : Choices} → Exact c q b → Chosen c q → Outcome c q b
+  instead {q} e h = outcome-of v valid (b′ .labels) (b′ .counts) (b′ .sizes) (seen-of m .labels) (seen-of m .counts) (seen-of m .sizes)
+    where
+      valid : Valid c q b
+      valid = record {
+        sound = record {
+          ranged = sound .ranged;
+          exact = e;
+          spins = sound .spins;
+          inverse = sound .inverse;
+          grouped = sound .grouped;
+          couplings = sound .couplings;
+          warm = sound .warm;
+        };
+        fit = record { cuts = fit .cuts; chosen = h; seeded = fit .seeded };
+      }
+
+  pub next : {q : Choices} {d : Buffers} → d .spins ≡ b′ .spins → Exact c q d → Chosen c q → Outcome c q d
+  next {q} {d} same e h =
+      outcome-of v valid (b′ .labels) (b′ .counts) (b′ .sizes) (rw same (labels-kept (step v m))) (seen-of m .counts) (seen-of m .sizes)
+    where
+      valid : Valid c q d
+      valid = record {
+        sound = record {
+          ranged = sound .ranged;
+          exact = e;
+          spins = rw same (spins-after (step v m) (sound .spins));
+          inverse = sound .inverse;
+          grouped = sound .grouped;
+          couplings = sound .couplings;
+          warm = sound .warm;
+        };
+        fit = record { cuts = fit .cuts; chosen = h; seeded = rw same (seeded-after (step v m) (fit .seeded)) };
+      }
+
+  -- the lengths: of the buffers that were lent, and of what they hold now
+  pub exact-instead : {q : Choices} → Sized c q → Exact c q b
+  exact-instead z = let e = sound .exact in record {
+    spins = e .spins;
+    fwd = e .fwd;
+    bwd = e .bwd;
+    couplings = e .couplings;
+    cuts = e .cuts;
+    choices = z .choices;
+    greys = λ t. never (sym (no-greys c v) ∙ t);
+    labels = e .labels;
+    grey-labels = e .grey-labels;
+    counts = e .counts;
+    sizes = e .sizes;
+  }
+
+  pub exact-next : {q : Choices} → Sized c q → Exact c q b′
+  exact-next z = let e = sound .exact in record {
+    spins = step v m .long ∙ e .spins;
+    fwd = e .fwd;
+    bwd = e .bwd;
+    couplings = e .couplings;
+    cuts = e .cuts;
+    choices = z .choices;
+    greys = λ t. never (sym (no-greys c v) ∙ t);
+    labels = seen-of m .labels .long;
+    grey-labels = λ t. never (sym (no-greys c v) ∙ t);
+    counts = rw (seen-of m .labels .long) at (seen-of m .counts .long);
+    sizes = seen-of m .sizes .long;
+  }

@@ -1,0 +1,15 @@
+-- Demand 3: its statement, then one step of a move, two steps and composite choices, the theorem, and worked cases.
+pub mod Statement
+pub mod Reversible
+pub mod ActsKept
+pub mod Step
+pub mod Turns
+pub mod BondSums
+pub mod ChoicesAdd
+pub mod Compose
+pub mod ChoiceRows
+pub mod ChoicesFit
+pub mod Such
+pub mod Chain
+pub mod Theorem
+pub mod Worked

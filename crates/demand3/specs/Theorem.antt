@@ -1,0 +1,145 @@
+-- Demand 3 holds for every call of its modes, and stops at row 12.
+use Prim.Native.Nat.{ℕ, _<_}
+use mathlib.Core.Path.{_≡_, refl, sym, _∙_}
+use mathlib.Core.Bool.{Bool, true, false, _&&_}
+use mathlib.Core.List.{List}
+use native.Mathlib.Omega.{arith}
+use lib.IntN.{pos, negsuc}
+use Rattle.lemmas.specs.Bools.{never, and-right}
+use Rattle.lemmas.specs.Ints.{same-is}
+use Rattle.paper.specs.declared.Form.the-variants.{Sw}
+use Rattle.paper.specs.Panel.Input.{graph, Call, Choices, Buffers, size}
+use Rattle.paper.specs.Panel.Takes.{isPerm, isWolff, moves, takesPerms}
+use Rattle.paper.specs.Site.Bonds.{holds}
+use Rattle.paper.specs.Site.Energy.{bondSum}
+use Rattle.paper.specs.Component.Labels.{Joined, Labels}
+use Rattle.paper.specs.Refusal.Rules.{When, Chosen, NotIdentity, permRow}
+use Rattle.paper.specs.Rows.Cases.{houd4, before12, after12}
+use Rattle.laws.specs.Unique.{same-label, counts-unique, sizes-unique}
+use Rattle.rows.specs.Proved.{table}
+use Rattle.demand3.specs.Statement.{Reversible, Move, Such, Keeps, Two, SameOutputs, composite, inverse, identity, Leaves, Demand3, Boundary}
+use Rattle.demand3.specs.Step.{Step, step, seen-of, valid-move}
+use Rattle.demand3.specs.Turns.{acts-kept, labels-kept}
+use Rattle.demand3.specs.BondSums.{sum-kept}
+use Rattle.demand3.specs.Compose.{none-moved, composed-all, cancels-all, same-labels, back-at, two-back, then-at, two-then}
+use Rattle.demand3.specs.ChoicesAdd.{wolff-cancels}
+use Rattle.demand3.specs.ChoicesFit.{composite-chosen, composite-is, composite-sized, inverse-chosen, inverse-cancels, inverse-sized}
+use Rattle.demand3.specs.ChoicesFit.{identity-chosen, identity-stays, identity-sized}
+use Rattle.demand3.specs.Such.{move-of, own}
+use Rattle.demand3.specs.Chain.{instead, next, exact-instead, exact-next}
+
+module _ (c : Call) (v : Reversible (c .mode) (size c)) where
+  joined :
+      (l : List ℕ) (h₁ h₂ : ℕ → ℕ → Bool)
+      → Labels (graph c) h₁ l
+      → Labels (graph c) h₂ l
+      → (i j : ℕ)
+      → i < c .lattice .n
+      → j < c .lattice .n
+      → Joined (graph c) h₁ i j
+      → Joined (graph c) h₂ i j
+  joined l h₁ h₂ l₁ l₂ i j hi hj q = same-label (graph c) h₂ l l₂ i j hi hj .0 (same-label (graph c) h₁ l l₁ i j hi hj .1 q)
+
+  keeps : {p : Choices} {b b′ : Buffers} → Such c p b b′ → Keeps c b b′
+  keeps {p} {b} {b′} m = record {
+    acting = acts-kept s;
+    components = λ i j hi hj. (
+      joined (b′ .labels) (holds c (b′ .spins)) (holds c (b .spins)) (labels-kept s) (s .labels) i j hi hj,
+      joined (b′ .labels) (holds c (b .spins)) (holds c (b′ .spins)) (s .labels) (labels-kept s) i j hi hj,
+    );
+    labels-before = s .labels;
+    labels-after = labels-kept s;
+    sums = sum-kept s;
+    others = s .others;
+  }
+    where
+      s : Step c p (b .spins) (b′ .labels) (b′ .spins)
+      s = step v (move-of m)
+
+  module _ {p q : Choices} {b b′ d d′ : Buffers} (w : Two c p q b b′ d d′) where
+    first : Step c p (b .spins) (b′ .labels) (b′ .spins)
+    first = step v (move-of (w .first))
+
+    second : Step c q (b′ .spins) (d′ .labels) (d′ .spins)
+    second = rw (w .handed) at (step v (move-of (w .second)))
+
+    module _ {r : Choices} {e e′ : Buffers} (m : Such c r e e′) (same : e .spins ≡ b .spins) where
+      third : Step c r (b .spins) (e′ .labels) (e′ .spins)
+      third = rw same at (step v (move-of m))
+
+    outputs : SameOutputs b′ d′
+    outputs = record {
+      labels = labels;
+      counts = counts-unique (d′ .labels) (d′ .counts) (b′ .counts) (seen-of (move-of (w .second)) .counts) (rw labels (seen-of (move-of (w .first)) .counts));
+      sizes = sizes-unique (d′ .labels) (d′ .sizes) (b′ .sizes) (seen-of (move-of (w .second)) .sizes) (rw labels (seen-of (move-of (w .first)) .sizes));
+    }
+      where
+        labels : d′ .labels ≡ b′ .labels
+        labels = same-labels first second
+
+    chosen-first : Chosen c p
+    chosen-first = valid-move (move-of (w .first)) .fit .chosen
+
+    chosen-second : Chosen c q
+    chosen-second = valid-move (move-of (w .second)) .fit .chosen
+
+    -- one move choosing the composite, where that is a choice and composes
+    one :
+        When (takesPerms c && isWolff (c .form)) (NotIdentity (size c) (λ k. permRow c p 0 (permRow c q 0 k)))
+        → moves (c .form) ≡ true
+        → (isPerm (c .mode) ≡ false → c .form ≡ Sw)
+        → Leaves c (composite c p q) b (d′ .spins)
+    one moving f sw =
+        let m = move-of (w .first) in
+        let o = instead v m (exact-instead v m (composite-sized c p q)) (composite-chosen c v chosen-first chosen-second moving) in
+        let is = composed-all first (composite-is c v chosen-first chosen-second f sw) in
+        record { outcome = o; bytes = sym (two-then first second (step v (own o)) is) }
+
+pub demand3 : (c : Call) → Reversible (c .mode) (size c) → Demand3 c
+demand3 c v = record {
+  keeps = keeps c v;
+  next = λ m. next v (move-of m);
+  outputs = outputs c v;
+  composes-at = λ w m same i k hi hk h. then-at (first c v w) (second c v w) (third c v w m same) i k hi hk (λ _. h);
+  composes = λ w m same. two-then (first c v w) (second c v w) (third c v w m same);
+  one-sw = λ sw w. one c v w (λ t. never (rw sw at (and-right (takesPerms c) (isWolff (c .form)) t))) (rw sw refl) (λ _. sw);
+  one-wolff = λ wolff perm w moving. one c v w (λ _. moving) (rw wolff refl) (λ e. never (sym e ∙ perm));
+  restores-at = λ w i k hi hk h. back-at (first c v w) (second c v w) i k hi hk (λ _. h);
+  restores = λ w. two-back (first c v w) (second c v w);
+  restores-wolff = λ wolff flips w. two-back (first c v w) (second c v w) (cancels-all (first c v w) (wolff-cancels c v flips _ _ wolff));
+  inverse-there = λ f m. undone f (move-of m);
+  inverse-restores = λ f w. two-back (first c v w) (second c v w) (cancels-all (first c v w) (inverse-cancels c v (chosen-first c v w) f));
+  identity-there = λ sw m. rest sw (move-of m);
+  identity-still = λ sw m. none-moved (step v (move-of m)) (identity-stays c v sw);
+}
+  where
+    undone : {p : Choices} {b b′ : Buffers} → moves (c .form) ≡ true → Move c p b b′ → Leaves c (inverse c p) b′ (b .spins)
+    undone {p} {b} {b′} f m =
+        let h = valid-move m .fit .chosen in
+        let o = next v m refl (exact-next v m (inverse-sized c p (record { choices = valid-move m .sound .exact .choices }))) (inverse-chosen c v h) in
+        record {
+          outcome = o;
+          bytes = two-back (step v m) (step v (own o)) (cancels-all (step v m) (inverse-cancels c v h f));
+        }
+
+    rest : {p : Choices} {b b′ : Buffers} → c .form ≡ Sw → Move c p b b′ → Leaves c (identity c) b (b .spins)
+    rest {p} {b} {b′} sw m =
+        let o = instead v m (exact-instead v m (identity-sized c)) (identity-chosen c v (valid-move m .fit .chosen) sw) in
+        record { outcome = o; bytes = none-moved (step v (own o)) (identity-stays c v sw) }
+
+pub boundary : Boundary
+boundary = record {
+  accepted = Move.moved (table .row12 .gives);
+  before = sum-before;
+  after = sum-after;
+  not-kept = λ k. apart (sym sum-after ∙ (k .sums 0 0 (omega arith) (omega arith) ∙ sum-before));
+}
+  where
+    sum-before : bondSum houd4 (before12 .spins) 0 0 ≡ pos 2
+    sum-before = table .values .row12-before
+
+    sum-after : bondSum houd4 (after12 .spins) 0 0 ≡ negsuc 1
+    sum-after = table .values .row12-after
+
+    apart : negsuc 1 ≡ pos 2 → ⊥
+    apart e = never (same-is (negsuc 1) (pos 2) e)

@@ -1,0 +1,134 @@
+-- Demand 3 on the smallest moves that differ in what is not taken, and whose choices differ at an entry that no component has.
+use Prim.Native.Nat.{ℕ, zero, suc, _<_}
+use mathlib.Core.Path.{_≡_, refl}
+use mathlib.Core.List.{List, [], _∷_}
+use native.Mathlib.Omega.{arith}
+use lib.IntN.{ℤ, pos}
+use lib.Ieee.{nan}
+use Rattle.lemmas.specs.Counts.{countWhere}
+use Rattle.lemmas.specs.Bools.{never, every}
+use Rattle.lemmas.specs.Cells.{table}
+use Rattle.paper.specs.declared.Mode.the-variants.{Pair, Perm}
+use Rattle.paper.specs.declared.Form.the-variants.{Sw, Wolff}
+use Rattle.paper.specs.declared.Answer.the-variants.{Moved}
+use Rattle.paper.specs.Panel.Input.{Lattice, Call, Choices, Buffers, system}
+use Rattle.paper.specs.Site.Acting.{pairDiffers, acts}
+use Rattle.paper.specs.Site.Bonds.{whole, holds}
+use Rattle.paper.specs.Component.Sizes.{sizeOf, labelOf}
+use Rattle.paper.specs.Move.Moving.{other, reached, final}
+use Rattle.paper.specs.Answer.Move.{Answers}
+use Rattle.paper.specs.Answer.Same.{SameTaken}
+use Rattle.paper.specs.Rows.Cases.{+, -, line, plain, first, buffers}
+use Rattle.laws.specs.Decided.{any}
+use Rattle.laws.specs.ByAnswer.{goes-by}
+use Rattle.demand3.specs.Statement.{Move, Such, Two, ComposedAt, Composed, composite, placeOf, inverse, identity}
+use Rattle.demand3.specs.Such.{itself}
+
+-- two sites with two bonds between them
+abbrev twins : List ℤ → Lattice
+twins couplings = line 2 2 (1 ∷ 0 ∷ []) (1 ∷ 0 ∷ []) couplings
+
+-- pair, SW. The second call has a coupling, a temperature, a cut, a site and a seed of its own, and entries of its own behind the group's two
+abbrev warm : Call
+warm = plain Pair Sw (twins []) (first 2)
+
+abbrev hot : Call
+hot = record {
+  mode = Pair;
+  form = Sw;
+  lattice = twins (pos 3 ∷ []);
+  group = record { len = 2; systems = 0 ∷ 1 ∷ 5 ∷ 0 ∷ 0 ∷ 0 ∷ 0 ∷ 0 ∷ [] };
+  temperature = whole 2;
+  cuts = nan ∷ [];
+  reference = 9;
+  seed = 9;
+}
+
+abbrev flips : List ℕ → Choices
+flips xs = record { choices = xs; greys = [] }
+
+-- all sites act and are one component, so entry 1 is unused
+abbrev at : List ℤ → Buffers
+at spins = buffers spins (0 ∷ 0 ∷ []) (0 ∷ 0 ∷ 1 ∷ []) (2 ∷ 0 ∷ 0 ∷ 0 ∷ [])
+
+abbrev start : List ℤ
+start = + ∷ + ∷ - ∷ - ∷ []
+
+abbrev turned : List ℤ
+turned = - ∷ - ∷ + ∷ + ∷ []
+
+turns : Answers warm (flips (1 ∷ 0 ∷ [])) (at start) Moved (at turned)
+unfolding every any holds acts pairDiffers sizeOf countWhere other reached final
+turns = goes-by warm (flips (1 ∷ 0 ∷ [])) (at start) (at turned) (0 ∷ 0 ∷ []) [] refl (λ _. refl) refl
+
+turns-both : Answers warm (flips (1 ∷ 1 ∷ [])) (at start) Moved (at turned)
+unfolding every any holds acts pairDiffers sizeOf countWhere other reached final
+turns-both = goes-by warm (flips (1 ∷ 1 ∷ [])) (at start) (at turned) (0 ∷ 0 ∷ []) [] refl (λ _. refl) refl
+
+stays : Answers hot (flips (0 ∷ 0 ∷ [])) (at turned) Moved (at turned)
+unfolding every any holds acts pairDiffers sizeOf countWhere other reached final
+stays = goes-by hot (flips (0 ∷ 0 ∷ [])) (at turned) (at turned) (0 ∷ 0 ∷ []) [] refl (λ _. refl) refl
+
+systems : (k : ℕ) → k < 2 → system hot k ≡ system warm k
+systems zero h = refl
+systems (suc zero) h = refl
+systems (suc (suc k)) h = absurd (omega arith)
+
+taken : (p : Choices) → SameTaken warm p hot p
+taken p = record {
+  call = record {
+    mode = refl;
+    form = refl;
+    panel = record { n = refl; d = refl; s = refl; fwd = refl; bwd = refl; couplings = λ t. never t };
+    members = refl;
+    systems = systems;
+    temperature = λ t. never t;
+    cuts = λ t. never t;
+    reference = λ t. never t;
+    seed = λ t. never t;
+  };
+  choices = record { choices = λ _. refl; greys = λ _. refl };
+}
+
+-- the two moves are two such moves, and compose to the third although their sum at entry 1 is not its flip there
+pub record Smallest : Type 0 where
+  pub two : Two warm (flips (1 ∷ 0 ∷ [])) (flips (0 ∷ 0 ∷ [])) (at start) (at turned) (at turned) (at turned)
+  pub one : Such warm (flips (1 ∷ 1 ∷ [])) (at start) (at turned)
+  pub composed : Composed warm start (0 ∷ 0 ∷ []) (flips (1 ∷ 0 ∷ [])) (flips (0 ∷ 0 ∷ [])) (flips (1 ∷ 1 ∷ []))
+
+pub smallest : Smallest
+smallest = record {
+  two = record {
+    first = record { call = warm; choices = flips (1 ∷ 0 ∷ []); same = itself warm _; move = Move.moved turns };
+    second = record { call = hot; choices = flips (0 ∷ 0 ∷ []); same = taken _; move = Move.moved stays };
+    handed = refl;
+  };
+  one = record { call = warm; choices = flips (1 ∷ 1 ∷ []); same = itself warm _; move = Move.moved turns-both };
+  composed = record { is = λ i h _. used i h };
+}
+  where
+    used : (i : ℕ) → i < 2 → ComposedAt warm (flips (1 ∷ 0 ∷ [])) (flips (0 ∷ 0 ∷ [])) (flips (1 ∷ 1 ∷ [])) (labelOf (0 ∷ 0 ∷ []) i)
+    used zero h k l = refl
+    used (suc zero) h k l = refl
+    used (suc (suc i)) h k l = absurd (omega arith)
+
+-- demand 3's choices as buffers: row 7's composite, an inverse and the identity, in the Wolff form with three systems; and flips of four sites in SW
+abbrev three : Call
+three = plain Perm Wolff (line 1 3 (0 ∷ []) (0 ∷ []) []) (first 3)
+
+abbrev four : Call
+four = plain Pair Sw (line 4 2 (0 ∷ 1 ∷ 2 ∷ 3 ∷ []) (0 ∷ 1 ∷ 2 ∷ 3 ∷ []) []) (first 2)
+
+abbrev choosing : List ℕ → Choices
+choosing choices = record { choices = choices; greys = [] }
+
+pub record ChoiceBuffers : Type 0 where
+  pub composed : composite three (choosing (1 ∷ 2 ∷ 0 ∷ [])) (choosing (1 ∷ 0 ∷ 2 ∷ [])) .choices ≡ 2 ∷ 1 ∷ 0 ∷ []
+  pub inverted : inverse three (choosing (1 ∷ 2 ∷ 0 ∷ [])) .choices ≡ 2 ∷ 0 ∷ 1 ∷ []
+  pub identical : identity three .choices ≡ 0 ∷ 1 ∷ 2 ∷ []
+  pub added : composite four (choosing (0 ∷ 0 ∷ 1 ∷ 1 ∷ [])) (choosing (0 ∷ 1 ∷ 0 ∷ 1 ∷ [])) .choices ≡ 0 ∷ 1 ∷ 1 ∷ 0 ∷ []
+  pub unflipped : identity four .choices ≡ 0 ∷ 0 ∷ 0 ∷ 0 ∷ []
+
+pub choice-buffers : ChoiceBuffers
+unfolding table placeOf
+choice-buffers = record { composed = refl; inverted = refl; identical = refl; added = refl; unflipped = refl }

@@ -1,0 +1,162 @@
+-- A move's answer on one list of spins is its answer on another with the same rows of its group.
+use Prim.Native.Nat.{ℕ, _<_}
+use mathlib.Core.Path.{_≡_, sym, _∙_, ap}
+use mathlib.Core.Bool.{true}
+use mathlib.Core.List.{List}
+use native.Mathlib.Omega.{arith}
+use lib.ListN.{length}
+use lib.IntN.{ℤ}
+use Rattle.lemmas.specs.Bools.{and-right}
+use Rattle.paper.specs.declared.Answer.{Answer}
+use Rattle.paper.specs.declared.Answer.the-variants.{Idle, Moved}
+use Rattle.paper.specs.Panel.Input.{graph, Call, Choices, Buffers, pattern, size}
+use Rattle.paper.specs.Panel.Takes.{moves, isPerm, takesGreys}
+use Rattle.paper.specs.Site.Acting.{acts, SomeActs}
+use Rattle.paper.specs.Site.Bonds.{holds, holdsGrey}
+use Rattle.paper.specs.Component.Labels.{Labels}
+use Rattle.paper.specs.Component.Sizes.{labelOf}
+use Rattle.paper.specs.Move.Moving.{reached, final, Moves}
+use Rattle.paper.specs.Refusal.Rules.{AllSystems, Spins, Exact, Seeded, Permutes}
+use Rattle.paper.specs.Refusal.Kept.{Valid, valid-of, valid-kept}
+use Rattle.paper.specs.Answer.Move.{Seen, Goes, Answers, Accepted, Accepted.idle, Accepted.moved}
+use Rattle.laws.specs.Unique.{GroupIs, OthersOf, label-lt, spins-equal, labels-ext}
+use Rattle.laws.specs.Entries.{permOf, form-moves, perms-of}
+use Rattle.laws.specs.Local.{Agree, Alike, acts-local, holds-local, grey-local, final-local}
+
+abbrev pub withSpins : Buffers → List ℤ → Buffers
+withSpins b xs = record { spins = xs; labels = b .labels; greyLabels = b .greyLabels; counts = b .counts; sizes = b .sizes }
+
+-- ys has the group's rows of `to` and the other rows of xs
+pub record Rows (c : Call) (xs to ys : List ℤ) : Type 0 where
+  pub long : length ys ≡ length xs
+  pub group : (i : ℕ) → i < c .lattice .n → Agree (size c) (pattern c ys i) (pattern c to i)
+  pub others : OthersOf c xs ys
+
+-- xs are spins with the group's rows of the buffers b
+pub record Instead (c : Call) (b : Buffers) (xs : List ℤ) : Type 0 where
+  pub long : length xs ≡ length (b .spins)
+  pub spinning : Spins (c .lattice .n) (AllSystems (c .lattice .s)) xs
+  pub same : (i : ℕ) → i < c .lattice .n → Agree (size c) (pattern c xs i) (pattern c (b .spins) i)
+
+module _ {c : Call} {p : Choices} {b : Buffers} {xs : List ℤ} (s : Instead c b xs) (v : Valid c p b) where
+  alike : Alike c xs (b .spins)
+  alike = record {
+    patterns = s .same;
+    reference = v .fit .chosen .reference;
+    inside = λ i e hi he. v .sound .inverse .there i e hi he .inside;
+    some = omega (arith, v .sound .ranged .size-low);
+    two = v .sound .ranged .cmr-two;
+  }
+
+  acts-same : (i : ℕ) → i < c .lattice .n → acts c xs i ≡ acts c (b .spins) i
+  acts-same = acts-local c xs (b .spins) alike
+
+  some-there : SomeActs c xs → SomeActs c (b .spins)
+  some-there q = record { site = q .site; below = q .below; does = sym (acts-same (q .site) (q .below)) ∙ q .does }
+
+  some-back : SomeActs c (b .spins) → SomeActs c xs
+  some-back q = record { site = q .site; below = q .below; does = acts-same (q .site) (q .below) ∙ q .does }
+
+  exact-there : Exact c p (withSpins b xs)
+  exact-there = let e = v .sound .exact in record {
+    spins = s .long ∙ e .spins;
+    fwd = e .fwd;
+    bwd = e .bwd;
+    couplings = e .couplings;
+    cuts = e .cuts;
+    choices = e .choices;
+    greys = e .greys;
+    labels = e .labels;
+    grey-labels = e .grey-labels;
+    counts = e .counts;
+    sizes = e .sizes;
+  }
+
+  seeded-there : Seeded c xs
+  seeded-there = let h = v .fit .seeded in record {
+    below = h .below;
+    acting = λ t q. acts-same (c .seed) (h .below t) ∙ h .acting t (some-there q);
+  }
+
+  pub valid-there : Valid c p (withSpins b xs)
+  valid-there = record {
+    sound = record {
+      ranged = v .sound .ranged;
+      exact = exact-there;
+      spins = s .spinning;
+      inverse = v .sound .inverse;
+      grouped = v .sound .grouped;
+      couplings = v .sound .couplings;
+      warm = v .sound .warm;
+    };
+    fit = record { cuts = v .fit .cuts; chosen = v .fit .chosen; seeded = seeded-there };
+  }
+
+  seen-there : {b′ : Buffers} → Seen c b b′ → (ys : List ℤ) → Seen c (withSpins b xs) (withSpins b′ ys)
+  seen-there {b′} w ys = record {
+    labels = labels-ext (graph c) (holds c (b .spins)) (holds c xs) (b′ .labels) blue (w .labels);
+    grey-labels = λ t. labels-ext (graph c) (holdsGrey c (b .spins)) (holdsGrey c xs) (b′ .greyLabels) (grey t) (w .grey-labels t);
+    grey-kept = w .grey-kept;
+    counts = w .counts;
+    sizes = w .sizes;
+  }
+    where
+      blue : (i e : ℕ) → i < c .lattice .n → e < c .lattice .d → holds c (b .spins) i e ≡ holds c xs i e
+      blue i e hi he = sym (holds-local c xs (b .spins) alike i e hi he)
+
+      grey : takesGreys c ≡ true → (i e : ℕ) → i < c .lattice .n → e < c .lattice .d → holdsGrey c (b .spins) i e ≡ holdsGrey c xs i e
+      grey t i e hi he = sym (grey-local c xs (b .spins) alike (and-right (moves (c .form)) _ t) i e hi he)
+
+  perms-at :
+      (l : List ℕ)
+      → Labels (graph c) (holds c (b .spins)) l
+      → (i : ℕ)
+      → i < c .lattice .n
+      → reached c xs l i ≡ true
+      → isPerm (c .mode) ≡ true
+      → Permutes (size c) (permOf c p (labelOf l i))
+  unfolding reached
+  perms-at l h i hi e q =
+      perms-of v (rw (form-moves (c .form) c l i (and-right (acts c xs i) _ e), q)) (labelOf l i)
+      (label-lt (graph c) (holds c (b .spins)) l h i hi)
+
+  moved-there : {b′ : Buffers} → Goes c p b b′ → (ys : List ℤ) → Rows c xs (b′ .spins) ys → Moves c p xs (b′ .labels) (b′ .greyLabels) ys
+  moved-there {b′} w ys r = record {
+    long = r .long;
+    group = λ i k hi hk. r .group i hi k hk ∙ (w .moved .group i k hi hk ∙ sym (same-final i k hi hk));
+    others = r .others;
+  }
+    where
+      same-final :
+          (i k : ℕ)
+          → i < c .lattice .n
+          → k < size c
+          → final c p xs (b′ .labels) (b′ .greyLabels) i k ≡ final c p (b .spins) (b′ .labels) (b′ .greyLabels) i k
+      same-final i k hi hk =
+          final-local c xs (b .spins) alike p (b′ .labels) (b′ .greyLabels) i k hi hk (perms-at (b′ .labels) (w .seen .labels) i hi)
+
+-- whatever the other systems' rows are
+module _
+    (c : Call) (p : Choices) (b b′ : Buffers) (xs : List ℤ) (long : length xs ≡ length (b .spins))
+    (spinning : Spins (c .lattice .n) (AllSystems (c .lattice .s)) xs)
+    (same : (i : ℕ) → i < c .lattice .n → Agree (size c) (pattern c xs i) (pattern c (b .spins) i))
+  where
+    s : Instead c b xs
+    s = record { long = long; spinning = spinning; same = same }
+
+    pub local : (a : Answer) → Accepted a → Answers c p b a b′ → (ys : List ℤ) → Rows c xs (b′ .spins) ys → Answers c p (withSpins b xs) a (withSpins b′ ys)
+    local Idle idle w ys r = let v = valid-of c p b (w .valid) in record {
+      valid = valid-kept c p (withSpins b xs) (valid-there s v);
+      none = λ i h. acts-same s v i h ∙ w .none i h;
+      still = spins-equal c ys xs (v .sound .ranged .lattice .n-low) (r .long) back (r .others);
+      seen = seen-there s v (w .seen) ys;
+    }
+      where
+        back : GroupIs c ys (pattern c xs)
+        back i k hi hk = r .group i hi k hk ∙ (ap (λ (z : List ℤ). pattern c z i k) (w .still) ∙ sym (same i hi k hk))
+    local Moved moved w ys r = let v = valid-of c p b (w .valid) in record {
+      valid = valid-kept c p (withSpins b xs) (valid-there s v);
+      some = some-back s v (w .some);
+      moved = moved-there s v w ys r;
+      seen = seen-there s v (w .seen) ys;
+    }

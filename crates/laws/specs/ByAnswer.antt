@@ -1,0 +1,198 @@
+-- Answers by computing a test, for worked examples.
+use Prim.Native.Nat.{ℕ, zero, suc, _+_, _*_, _≤_, _<_}
+use mathlib.Core.Path.{_≡_, refl, sym, _∙_, ap, subst}
+use mathlib.Core.Logic.{_⊎_, inl, inr}
+use mathlib.Core.Bool.{Bool, true, false}
+use mathlib.Core.List.{List}
+use native.Mathlib.Omega.{arith}
+use native.Mathlib.Decide.{decLt}
+use native.Mathlib.Nat.{mul-le-mul-right}
+use lib.ListN.{length, getD, List·getD-eq-default}
+use lib.IntN.{ℤ, pos}
+use Rattle.paper.specs.declared.Answer.the-variants.{Idle, Moved}
+use Rattle.paper.specs.Panel.Input.{Graph, leadsTo, graph, Call, Choices, Buffers, spin, pattern, size, system}
+use Rattle.paper.specs.Panel.Takes.{takesGreys}
+use Rattle.paper.specs.Site.Acting.{acts, NoneActs}
+use Rattle.paper.specs.Site.Bonds.{holds, holdsGrey}
+use Rattle.paper.specs.Component.Links.{Linked.stay, Linked.along, Linked.against}
+use Rattle.paper.specs.Component.Labels.{Bond, Joined, Labels}
+use Rattle.paper.specs.Component.Sizes.{labelOf, everyOne, ofSize, atLeast, Counted, Rank, Largest}
+use Rattle.paper.specs.Move.Moving.{final}
+use Rattle.paper.specs.Refusal.Rule.{Kept}
+use Rattle.paper.specs.Refusal.Rules.{When, rules}
+use Rattle.paper.specs.Refusal.Kept.{valid-of}
+use Rattle.paper.specs.Refusal.Verdict.{Verdict}
+use Rattle.paper.specs.Answer.Move.{Seen, Answers}
+use Rattle.laws.specs.Unique.{OthersOf}
+use Rattle.laws.specs.Decided.{Decided, denies, le, lt, eq, same, is, iff, both, either, implies, when, all, some}
+use Rattle.laws.specs.Verdicts.{someActs, refusalOf, verdict}
+
+-- ---- labels, by a parent for each site: itself, or a smaller site with the same label and a bond between the two
+abbrev pub HopsTo : Graph → (ℕ → ℕ → Bool) → ℕ → ℕ → Type 0
+HopsTo t holding i j = (e : ℕ) × (e < t .d) × ((holding i e ≡ true) × (leadsTo t i e ≡ j))
+
+abbrev pub Rooted : Graph → (ℕ → ℕ → Bool) → List ℕ → ℕ → ℕ → Type 0
+Rooted t holding l i j = (labelOf l i ≡ i) ⊎ ((j < i) × ((labelOf l j ≡ labelOf l i) × (HopsTo t holding i j ⊎ HopsTo t holding j i)))
+
+pub record Forest (t : Graph) (holding : ℕ → ℕ → Bool) (parents l : List ℕ) : Type 0 where
+  pub long : length l ≡ t .n
+  pub low : (i : ℕ) → i < t .n → labelOf l i ≤ i
+  pub alike : (i : ℕ) → i < t .n → (e : ℕ) → e < t .d → holding i e ≡ true → labelOf l i ≡ labelOf l (leadsTo t i e)
+  pub rooted : (i : ℕ) → i < t .n → Rooted t holding l i (getD parents i 0)
+
+abbrev pub hops : (t : Graph) (holding : ℕ → ℕ → Bool) (i j : ℕ) → Decided (HopsTo t holding i j)
+hops t holding i j = some (t .d) (λ e. both (is (holding i e)) (eq (leadsTo t i e) j))
+
+abbrev pub forest : (t : Graph) (holding : ℕ → ℕ → Bool) (parents l : List ℕ) → Decided (Forest t holding parents l)
+forest t holding parents l =
+    iff (λ (a, (b, (c, d))). record { long = a; low = b; alike = c; rooted = d }) (λ r. (r .long, (r .low, (r .alike, r .rooted))))
+    (both (eq (length l) (t .n))
+    (both (all (t .n) (λ i. le (labelOf l i) i))
+    (both (all (t .n) (λ i. all (t .d) (λ e. implies (is (holding i e)) (eq (labelOf l i) (labelOf l (leadsTo t i e))))))
+    (all (t .n) (λ i. let j = getD parents i 0 in
+    either (eq (labelOf l i) i)
+    (both (lt j i) (both (eq (labelOf l j) (labelOf l i)) (either (hops t holding i j) (hops t holding j i)))))))))
+
+module _ {t : Graph} {holding : ℕ → ℕ → Bool} {parents l : List ℕ} (f : Forest t holding parents l) where
+  bond : {i j : ℕ} → i < t .n → HopsTo t holding i j → Bond t holding i j
+  bond h e = record { site = h; dir = e .0; dir-lt = e .1; on = e .2 .0; leads = e .2 .1 }
+
+  up : (i j : ℕ) → i < t .n → (j < i → Joined t holding j (labelOf l j)) → Rooted t holding l i j → Joined t holding i (labelOf l i)
+  up i j h ih (inl e) = rw e stay
+  up i j h ih (inr (less, (alike, inl e))) = along (bond h e) (rw alike at (ih less))
+  up i j h ih (inr (less, (alike, inr e))) = against (bond (omega arith) e) (rw alike at (ih less))
+
+  joined : (m i : ℕ) → i < m → i < t .n → Joined t holding i (labelOf l i)
+  joined zero i h hi = absurd (omega arith)
+  joined (suc m) i h hi = up i (getD parents i 0) hi (λ less. joined m (getD parents i 0) (omega arith) (omega arith)) (f .rooted i hi)
+
+  step : {i j : ℕ} → Bond t holding i j → labelOf l i ≡ labelOf l j
+  step {i} e = f .alike i (e .site) (e .dir) (e .dir-lt) (e .on) ∙ ap (labelOf l) (e .leads)
+
+  one : {i j : ℕ} → Joined t holding i j → labelOf l i ≡ labelOf l j
+  one stay = refl
+  one (along e r) = step e ∙ one r
+  one (against e r) = sym (step e) ∙ one r
+
+  pub labels-by : Labels t holding l
+  labels-by = record {
+    long = f .long;
+    joined = λ i h. joined (suc i) i (omega arith) h;
+    least = λ i j hi hj w. rw (one w) (f .low j hj);
+  }
+
+-- ---- counts and sizes
+abbrev pub counted : (mark : ℕ → Bool) (l counts : List ℕ) → Decided (Counted mark l counts)
+counted mark l counts =
+    iff (λ (a, (b, c)). record { long = a; zeroth = b; each = λ s h. c s (omega arith) }) (λ r. (r .long, (r .zeroth, λ s h. r .each s (omega arith))))
+    (both (eq (length counts) (length l + 1)) (both (eq (getD counts 0 0) 0) (all (length l + 1) (λ s. eq (getD counts s 0) (ofSize mark l s)))))
+
+abbrev pub rank : (mark : ℕ → Bool) (l : List ℕ) (t a : ℕ) → Decided (Rank mark l t a)
+rank mark l t a =
+    iff (λ (b, c). record { larger = b; reached = c }) (λ r. (r .larger, r .reached))
+    (both (le (atLeast mark l (a + 1)) t) (either (eq a 0) (lt t (atLeast mark l a))))
+
+abbrev pub largest : (mark : ℕ → Bool) (l sizes : List ℕ) → Decided (Largest mark l sizes)
+largest mark l sizes =
+    iff (λ (a, b). record { long = a; each = b }) (λ r. (r .long, r .each))
+    (both (eq (length sizes) 4) (all 4 (λ t. rank mark l t (getD sizes t 0))))
+
+-- ---- the answer: what is computed of it, with the parents of each site in its component and in its grey component
+abbrev pub Untouched : Call → List ℤ → List ℤ → ℕ → Type 0
+Untouched c xs ys t = (i : ℕ) → i < c .lattice .n → spin (c .lattice .n) ys t i ≡ spin (c .lattice .n) xs t i
+
+abbrev pub InGroup : Call → ℕ → Type 0
+InGroup c t = (k : ℕ) × (k < size c) × (t ≡ system c k)
+
+pub record Worked (c : Call) (p : Choices) (b b′ : Buffers) (blue grey : List ℕ) : Type 0 where
+  pub accepted : refusalOf c p b ≡ 0
+  pub long : length (b′ .spins) ≡ length (b .spins)
+  pub group :
+      (i : ℕ)
+      → i < c .lattice .n
+      → (k : ℕ)
+      → k < size c
+      → pattern c (b′ .spins) i k ≡ final c p (b .spins) (b′ .labels) (b′ .greyLabels) i k
+  pub others : (t : ℕ) → t < c .lattice .s → InGroup c t ⊎ Untouched c (b .spins) (b′ .spins) t
+  pub labels : Forest (graph c) (holds c (b .spins)) blue (b′ .labels)
+  pub grey-labels : When (takesGreys c) (Forest (graph c) (holdsGrey c (b .spins)) grey (b′ .greyLabels))
+  pub counts : Counted everyOne (b′ .labels) (b′ .counts)
+  pub sizes : Largest everyOne (b′ .labels) (b′ .sizes)
+
+abbrev pub worked : (c : Call) (p : Choices) (b b′ : Buffers) (blue grey : List ℕ) → Decided (Worked c p b b′ blue grey)
+worked c p b b′ blue grey =
+    iff
+    (λ (x1, (x2, (x3, (x4, (x5, (x6, (x7, x8))))))). record {
+      accepted = x1;
+      long = x2;
+      group = x3;
+      others = x4;
+      labels = x5;
+      grey-labels = x6;
+      counts = x7;
+      sizes = x8;
+    })
+    (λ r. (r .accepted, (r .long, (r .group, (r .others, (r .labels, (r .grey-labels, (r .counts, r .sizes))))))))
+    (both (eq (refusalOf c p b) 0)
+    (both (eq (length (b′ .spins)) (length (b .spins)))
+    (both (all (c .lattice .n) (λ i. all (size c) (λ k. same (pattern c (b′ .spins) i k) (final c p (b .spins) (b′ .labels) (b′ .greyLabels) i k))))
+    (both (all (c .lattice .s) (λ t.
+    either (some (size c) (λ k. eq t (system c k)))
+    (all (c .lattice .n) (λ i. same (spin (c .lattice .n) (b′ .spins) t i) (spin (c .lattice .n) (b .spins) t i)))))
+    (both (forest (graph c) (holds c (b .spins)) blue (b′ .labels))
+    (both (when (takesGreys c) (forest (graph c) (holdsGrey c (b .spins)) grey (b′ .greyLabels)))
+    (both (counted everyOne (b′ .labels) (b′ .counts))
+    (largest everyOne (b′ .labels) (b′ .sizes)))))))))
+
+module _
+    (c : Call) (p : Choices) (b b′ : Buffers) (blue grey : List ℕ)
+    (test : worked c p b b′ blue grey .test ≡ true) (grey-kept : takesGreys c ≡ false → b′ .greyLabels ≡ b .greyLabels)
+  where
+    w : Worked c p b b′ blue grey
+    w = worked c p b b′ blue grey .holds test
+
+    kept : Kept (rules c p b)
+    kept = subst (Verdict (rules c p b)) (w .accepted) (verdict c p b)
+
+    seen : Seen c b b′
+    seen = record {
+      labels = labels-by (w .labels);
+      grey-labels = λ t. labels-by (w .grey-labels t);
+      grey-kept = grey-kept;
+      counts = w .counts;
+      sizes = w .sizes;
+    }
+
+    others : OthersOf c (b .spins) (b′ .spins)
+    others i t hi out = go (decLt t (c .lattice .s))
+      where
+        at : InGroup c t ⊎ Untouched c (b .spins) (b′ .spins) t → spin (c .lattice .n) (b′ .spins) t i ≡ spin (c .lattice .n) (b .spins) t i
+        at (inl r) = absurd (out (r .0) (r .1) (r .2))
+        at (inr r) = r i hi
+
+        beyond : c .lattice .s ≤ t → length (b .spins) ≤ t * c .lattice .n + i
+        beyond h = omega (arith, valid-of c p b kept .sound .exact .spins, mul-le-mul-right (c .lattice .n) h)
+
+        go : Dec (t < c .lattice .s) → spin (c .lattice .n) (b′ .spins) t i ≡ spin (c .lattice .n) (b .spins) t i
+        go (yes h) = at (w .others t h)
+        go (no h) =
+            let far = beyond (omega arith) in
+            List·getD-eq-default (b′ .spins) (pos 0) (omega (arith, far, w .long)) ∙ sym (List·getD-eq-default (b .spins) (pos 0) far)
+
+    pub goes-by : someActs c (b .spins) .test ≡ true → Answers c p b Moved b′
+    goes-by e = record {
+      valid = kept;
+      some = someActs c (b .spins) .holds e;
+      moved = record { long = w .long; group = λ i k hi hk. w .group i hi k hk; others = others };
+      seen = seen;
+    }
+
+    pub rests-by : someActs c (b .spins) .test ≡ false → b′ .spins ≡ b .spins → Answers c p b Idle b′
+    rests-by e still = record { valid = kept; none = none; still = still; seen = seen }
+      where
+        none : NoneActs c (b .spins)
+        none i h = off (acts c (b .spins) i) refl
+          where
+            off : (t : Bool) → acts c (b .spins) i ≡ t → acts c (b .spins) i ≡ false
+            off false q = q
+            off true q = absurd (denies (someActs c (b .spins)) e (record { site = i; below = h; does = q }))

@@ -1,0 +1,85 @@
+-- How tight the promise is: one input has one answer and one content of every lent buffer.
+use Prim.Native.Nat.{ℕ, _<_}
+use mathlib.Core.Path.{_≡_, refl, sym, _∙_, ap}
+use mathlib.Core.Bool.{Bool, true, false}
+use mathlib.Core.List.{List}
+use native.Mathlib.Omega.{arith}
+use lib.IntN.{ℤ}
+use Rattle.paper.specs.declared.Answer.{Answer}
+use Rattle.paper.specs.declared.Answer.the-variants.{Refused, Idle, Moved}
+use Rattle.paper.specs.Panel.Input.{graph, Call, Choices, Buffers}
+use Rattle.paper.specs.Panel.Takes.{takesGreys}
+use Rattle.paper.specs.Site.Acting.{SomeActs, NoneActs}
+use Rattle.paper.specs.Site.Bonds.{holds, holdsGrey}
+use Rattle.paper.specs.Move.Moving.{Moves}
+use Rattle.paper.specs.Refusal.Rule.{Kept, Broken, broken-unique, broken-not-kept}
+use Rattle.paper.specs.Refusal.Rules.{rules}
+use Rattle.paper.specs.Refusal.Kept.{valid-of}
+use Rattle.paper.specs.Answer.Move.{Seen, Goes, Answers}
+use Rattle.laws.specs.Unique.{labels-unique, counts-unique, sizes-unique, moves-unique}
+
+pub record Same (a₁ : Answer) (b₁ : Buffers) (a₂ : Answer) (b₂ : Buffers) : Type 0 where
+  pub answer : a₁ ≡ a₂
+  pub buffers : b₁ ≡ b₂
+
+pub buffers-equal :
+    (y z : Buffers)
+    → y .spins ≡ z .spins
+    → y .labels ≡ z .labels
+    → y .greyLabels ≡ z .greyLabels
+    → y .counts ≡ z .counts
+    → y .sizes ≡ z .sizes
+    → y ≡ z
+buffers-equal y z a b c d e = λ i. record { spins = a i; labels = b i; greyLabels = c i; counts = d i; sizes = e i }
+
+pub not-both : (c : Call) (xs : List ℤ) → SomeActs c xs → NoneActs c xs → ⊥
+not-both c xs s h = let e = h (s .site) (s .below) in let z : _≡_ {A = ℕ} 0 1 = cc (e, s .does) in omega arith
+
+module _ (c : Call) (p : Choices) (b : Buffers) (y z : Buffers) where
+  grey-same : (t : Bool) → takesGreys c ≡ t → Seen c b y → Seen c b z → y .greyLabels ≡ z .greyLabels
+  grey-same true e p q = labels-unique (graph c) (holdsGrey c (b .spins)) (y .greyLabels) (z .greyLabels) (p .grey-labels e) (q .grey-labels e)
+  grey-same false e p q = p .grey-kept e ∙ sym (q .grey-kept e)
+
+  labels-same : Seen c b y → Seen c b z → y .labels ≡ z .labels
+  labels-same s t = labels-unique (graph c) (holds c (b .spins)) (y .labels) (z .labels) (s .labels) (t .labels)
+
+  seen-same : y .spins ≡ z .spins → Seen c b y → Seen c b z → y ≡ z
+  seen-same e s t =
+      buffers-equal y z e l (grey-same (takesGreys c) refl s t)
+      (counts-unique (y .labels) (y .counts) (z .counts) (s .counts) (rw l (t .counts)))
+      (sizes-unique (y .labels) (y .sizes) (z .sizes) (s .sizes) (rw l (t .sizes)))
+    where
+      l : y .labels ≡ z .labels
+      l = labels-same s t
+
+  goes-same : Goes c p b y → Goes c p b z → y ≡ z
+  goes-same g h = seen-same (moves-unique c p (b .spins) (y .labels) (y .greyLabels) (y .spins) (z .spins) some (g .moved) again) (g .seen) (h .seen)
+    where
+      some : 0 < c .lattice .n
+      some = valid-of c p b (g .valid) .sound .ranged .lattice .n-low
+
+      again : Moves c p (b .spins) (y .labels) (y .greyLabels) (z .spins)
+      again = rw (labels-same (g .seen) (h .seen), grey-same (takesGreys c) refl (g .seen) (h .seen)) (h .moved)
+
+  pub determined : (a a′ : Answer) → Answers c p b a y → Answers c p b a′ z → Same a y a′ z
+  determined (Refused r) (Refused s) f g = record {
+    answer = ap Refused (broken-unique (rules c p b) r s (f .why) (g .why));
+    buffers = f .kept ∙ sym (g .kept);
+  }
+  determined (Refused r) Idle f g = absurd (broken-not-kept (rules c p b) r (f .why) (g .valid))
+  determined (Refused r) Moved f g = absurd (broken-not-kept (rules c p b) r (f .why) (g .valid))
+  determined Idle (Refused s) f g = absurd (broken-not-kept (rules c p b) s (g .why) (f .valid))
+  determined Idle Idle f g = record { answer = refl; buffers = seen-same (f .still ∙ sym (g .still)) (f .seen) (g .seen) }
+  determined Idle Moved f g = absurd (not-both c (b .spins) (g .some) (f .none))
+  determined Moved (Refused s) f g = absurd (broken-not-kept (rules c p b) s (g .why) (f .valid))
+  determined Moved Idle f g = absurd (not-both c (b .spins) (f .some) (g .none))
+  determined Moved Moved f g = record { answer = refl; buffers = goes-same f g }
+
+-- `given exactly when`: where rule r is the first that is broken the answer is the refusal r, and where all are kept it is none
+pub must-refuse : (c : Call) (p : Choices) (b b′ : Buffers) (a : Answer) (r : ℕ) → Answers c p b a b′ → Broken (rules c p b) r → a ≡ Refused r
+must-refuse c p b b′ (Refused s) r f w = ap Refused (broken-unique (rules c p b) s r (f .why) w)
+must-refuse c p b b′ Idle r f w = absurd (broken-not-kept (rules c p b) r w (f .valid))
+must-refuse c p b b′ Moved r f w = absurd (broken-not-kept (rules c p b) r w (f .valid))
+
+pub must-accept : (c : Call) (p : Choices) (b b′ : Buffers) (r : ℕ) → Answers c p b (Refused r) b′ → Kept (rules c p b) → ⊥
+must-accept c p b b′ r f k = broken-not-kept (rules c p b) r (f .why) k

@@ -1,0 +1,50 @@
+-- What is chosen on a component: its own entry of the choices, which an accepted call has right.
+use Prim.Native.Nat.{ℕ, _<_}
+use mathlib.Core.Bool.{Bool, true}
+use mathlib.Core.Path.{_≡_, refl}
+use mathlib.Core.List.{List}
+use native.Mathlib.Omega.{arith}
+use Rattle.lemmas.specs.Bools.{never, and-left}
+use Rattle.paper.specs.Panel.Input.{Call, Choices, size, Buffers, pattern, system}
+use Rattle.paper.specs.Move.Moving.{flipBy, permAt, reachedBy}
+use Rattle.paper.specs.declared.Form.{Form}
+use Rattle.paper.specs.declared.Form.the-variants.{Sw, Wolff, Observe}
+use Rattle.paper.specs.Panel.Takes.{moves, takesPerms, entry, entries}
+use Rattle.paper.specs.Refusal.Rule.{Kept}
+use Rattle.paper.specs.Refusal.Rules.{Permutes, rules}
+use Rattle.paper.specs.Refusal.Kept.{Valid, valid-of}
+use Rattle.laws.specs.Patterns.{Spinning}
+
+-- the permutation chosen on the component r
+abbrev pub permOf : Call → Choices → ℕ → ℕ → ℕ
+permOf c p r = permAt (c .form) (size c) (p .choices) r
+
+-- the flip chosen there
+abbrev pub flipOf : Call → Choices → ℕ → Bool
+flipOf c p r = flipBy (c .form) (p .choices) r
+
+pub form-moves : (f : Form) (c : Call) (l : List ℕ) (i : ℕ) → reachedBy f (c .mode) (c .seed) l i ≡ true → moves f ≡ true
+form-moves Sw c l i e = refl
+form-moves Wolff c l i e = refl
+form-moves Observe c l i e = e
+
+pub entry-lt : (f : Form) (n r : ℕ) → moves f ≡ true → r < n → entry f r < entries f n
+entry-lt Sw n r e h = h
+entry-lt Wolff n r e h = omega arith
+entry-lt Observe n r e h = never e
+
+module _ {c : Call} {p : Choices} {b : Buffers} (valid : Valid c p b) where
+  pub spin-of : (i : ℕ) → i < c .lattice .n → Spinning (size c) (pattern c (b .spins) i)
+  spin-of i h k l = valid .sound .spins (system c k) i (valid .sound .grouped .below k l) h
+
+  pub perms-of : takesPerms c ≡ true → (r : ℕ) → r < c .lattice .n → Permutes (size c) (permOf c p r)
+  perms-of e r h = valid .fit .chosen .perms e (entry (c .form) r) (entry-lt (c .form) (c .lattice .n) r (and-left (moves (c .form)) _ e) h)
+
+pub rows :
+    (c : Call) (p : Choices) (b : Buffers)
+    → Kept (rules c p b)
+    → takesPerms c ≡ true
+    → (r : ℕ)
+    → r < c .lattice .n
+    → Permutes (size c) (permOf c p r)
+rows c p b k = perms-of (valid-of c p b k)

@@ -1,0 +1,84 @@
+-- In a sweep that is accepted each unmasked task keeps all the rules of a move, so it is one.
+use Prim.Native.Nat.{ℕ, _+_, _*_, _%_, _<_}
+use mathlib.Core.Path.{_≡_, refl, sym, _∙_}
+use mathlib.Core.Bool.{false, cond}
+use mathlib.Core.List.{List}
+use native.Mathlib.Omega.{arith}
+use native.Mathlib.Nat.{div-add-mod', mod-lt, div-lt-iff-lt-mul, mul-le-mul-right, suc-mul}
+use borrow.Author.Tests.{lt-ltb}
+use lib.Dec.{ltb}
+use lib.ListN.{length, length-take, length-drop}
+use Rattle.lemmas.specs.Cells.{table-at, some-group}
+use Rattle.paper.specs.Panel.Input.{Buffers, system}
+use Rattle.paper.specs.Panel.Takes.{entries, choiceBytes}
+use Rattle.paper.specs.Refusal.Rule.{Kept}
+use Rattle.paper.specs.Refusal.Rules.{Exact, Grouped, rules}
+use Rattle.paper.specs.Refusal.Kept.{valid-kept}
+use Rattle.paper.specs.Answer.Task.{Sweep, groups, tasks, temperatureOf, orderAt, masked, part, groupOf, taskCall, taskChoices, areas}
+use Rattle.paper.specs.Answer.Sweep.{sweepRules}
+use Rattle.laws.specs.SweepKept.{SweepValid, sweep-valid-of}
+
+pub part-length : {A : Type 0} (K m k : ℕ) (xs : List A) → k < K → length xs ≡ K * m → length (part k m xs) ≡ m
+part-length K m k xs h e = simp (length-take, length-drop) (omega (arith, mul-le-mul-right m h, suc-mul k m))
+
+module _ (w : Sweep) (b : Buffers) (v : Kept (sweepRules w b)) (k : ℕ) (below : k < tasks w) where
+  valid : SweepValid w b
+  valid = sweep-valid-of w b v
+
+  some : 0 < groups w
+  some = some-group (w .t) (groups w) k below
+
+  pub temperature-lt : temperatureOf w k < w .t
+  temperature-lt = div-lt-iff-lt-mul some .1 below
+
+  -- the order entry of the task's place x
+  pub entry-lt : (x : ℕ) → x < w .members → temperatureOf w k * w .r + (k % groups w) * w .members + x < w .lattice .s
+  entry-lt x h = omega (
+    arith,
+    mul-le-mul-right (w .r) temperature-lt,
+    suc-mul (temperatureOf w k) (w .r),
+    mul-le-mul-right (w .members) (mod-lt k some),
+    suc-mul (k % groups w) (w .members),
+    div-add-mod' (w .r) (w .members),
+    valid .ranged .all,
+  )
+
+  pub system-is : (x : ℕ) → x < w .members → system (taskCall w k) x ≡ orderAt w k x
+  system-is x h =
+      table-at 8 (λ x. cond (ltb x (w .members)) (orderAt w k x) 0) x (omega (arith, valid .ranged .ranged .size-high))
+      ∙ rw (lt-ltb x (w .members) h) refl
+
+  grouped : Grouped (w .lattice .s) (groupOf w k)
+  grouped = record {
+    below = λ x h. rw (system-is x h) (valid .order .within _ (entry-lt x h));
+    distinct = λ x y hx hy e. omega (arith, valid .order .distinct _ _ (entry-lt x hx) (entry-lt y hy) (sym (system-is x hx) ∙ (e ∙ system-is y hy)));
+  }
+
+  exact : Exact (taskCall w k) (taskChoices w k) (areas w b (b .spins) k)
+  exact = let e = valid .exact in record {
+    spins = e .spins;
+    fwd = e .fwd;
+    bwd = e .bwd;
+    couplings = e .couplings;
+    cuts = λ t. part-length (tasks w) (w .lattice .n * w .lattice .d) k (w .cuts) below (e .cuts t);
+    choices = λ t. part-length (tasks w) (choiceBytes (w .mode) (w .form) (w .lattice .n) (w .members)) k (w .choices) below (e .choices t);
+    greys = λ t. part-length (tasks w) (entries (w .form) (w .lattice .n)) k (w .greys) below (e .greys t);
+    labels = part-length (tasks w) (w .lattice .n) k (b .labels) below (e .labels);
+    grey-labels = λ t. part-length (tasks w) (w .lattice .n) k (b .greyLabels) below (e .grey-labels t);
+    counts = part-length (tasks w) (w .lattice .n + 1) k (b .counts) below (e .counts);
+    sizes = part-length (tasks w) 4 k (b .sizes) below (e .sizes);
+  }
+
+  pub task-valid : masked w k ≡ false → Kept (rules (taskCall w k) (taskChoices w k) (areas w b (b .spins) k))
+  task-valid e = valid-kept (taskCall w k) (taskChoices w k) (areas w b (b .spins) k) (record {
+    sound = record {
+      ranged = valid .ranged .ranged;
+      exact = exact;
+      spins = valid .spins;
+      inverse = valid .inverse;
+      grouped = grouped;
+      couplings = valid .couplings;
+      warm = λ t. valid .warm t (temperatureOf w k) temperature-lt;
+    };
+    fit = valid .each k below e;
+  })

@@ -1,0 +1,131 @@
+-- Labels, counts, sizes and moved spins are each determined.
+use Prim.Native.Nat.{ℕ, _+_, _/_, _%_, _≤_, _<_}
+use mathlib.Core.Path.{_≡_, sym, _∙_}
+use mathlib.Core.Logic.{_⊎_, inl, inr, _↔_}
+use mathlib.Core.Bool.{Bool, true, false, _&&_}
+use mathlib.Core.List.{List}
+use native.Mathlib.Nat.{le-antisymm, lt-of-le-of-lt, lt-of-not-le, div-add-mod', mod-lt}
+use native.Mathlib.Decide.{decLe}
+use native.Mathlib.Numerals.{add-one-le}
+use native.Mathlib.Omega.{arith}
+use borrow.Author.Tests.{leb-true, le-leb}
+use lib.Dec.{leb}
+use lib.ListN.{length, getD}
+use lib.Seq.{ext-getD}
+use lib.IntN.{ℤ, pos}
+use Rattle.lemmas.specs.Counts.{count-le}
+use Rattle.lemmas.specs.Places.{Placed, Unplaced, place}
+use Rattle.paper.specs.Component.Links.{Linked.stay, trans, back, Linked.along, Within, bind}
+use Rattle.paper.specs.Panel.Input.{Graph, Call, Choices, Pattern, spin, pattern, size, system}
+use Rattle.paper.specs.Component.Labels.{Joined, Labels, Bond}
+use Rattle.paper.specs.Component.Sizes.{counted, sizeOf, atLeast, Counted, Rank, Largest}
+use Rattle.paper.specs.Move.Moving.{Moves}
+
+-- ---- labels
+module _ (t : Graph) (holding : ℕ → ℕ → Bool) where
+  at-most : (l m : List ℕ) → Labels t holding l → Labels t holding m → (i : ℕ) → i < t .n → getD l i 0 ≤ getD m i 0
+  at-most l m hl hm i il = hl .least i (getD m i 0) il (lt-of-le-of-lt (hm .least i i il il stay) il) (hm .joined i il)
+
+  pub labels-unique : (l m : List ℕ) → Labels t holding l → Labels t holding m → l ≡ m
+  labels-unique l m hl hm =
+      ext-getD 0 l m (hl .long ∙ sym (hm .long))
+      (λ i il. let k : i < t .n = rw (hl .long) at il in le-antisymm (at-most l m hl hm i k) (at-most m l hm hl i k))
+
+  -- two sites have one label just if they are joined
+  pub same-label : (l : List ℕ) → Labels t holding l → (i j : ℕ) → i < t .n → j < t .n → (getD l i 0 ≡ getD l j 0) ↔ Joined t holding i j
+  same-label l h i j il jl = (
+    (λ e. trans (h .joined i il) (back (rw (← e) at (h .joined j jl)))),
+    (λ w. le-antisymm (least i j il jl w) (least j i jl il (back w))),
+  )
+    where
+      least : (a b : ℕ) → a < t .n → b < t .n → Joined t holding a b → getD l a 0 ≤ getD l b 0
+      least a b al bl w = h .least a (getD l b 0) al (lt-of-le-of-lt (h .least b b bl bl stay) bl) (trans w (h .joined b bl))
+
+  pub label-lt : (l : List ℕ) → Labels t holding l → (i : ℕ) → i < t .n → getD l i 0 < t .n
+  label-lt l h i il = lt-of-le-of-lt (h .least i i il il stay) il
+
+-- ---- counts and sizes
+pub counts-unique : {mark : ℕ → Bool} (l c₁ c₂ : List ℕ) → Counted mark l c₁ → Counted mark l c₂ → c₁ ≡ c₂
+counts-unique l c₁ c₂ h₁ h₂ =
+    ext-getD 0 c₁ c₂ (h₁ .long ∙ sym (h₂ .long))
+    (λ i il. let k : i ≤ length l = omega (arith, h₁ .long) in h₁ .each i k ∙ sym (h₂ .each i k))
+
+falls : (mark : ℕ → Bool) (l : List ℕ) (v w : ℕ) → v ≤ w → atLeast mark l w ≤ atLeast mark l v
+falls mark l v w h =
+    count-le (λ r. counted mark l r && leb w (sizeOf l r)) (λ r. counted mark l r && leb v (sizeOf l r)) (length l)
+    (λ r. weaken (counted mark l r) (sizeOf l r))
+  where
+    weaken : (b : Bool) (s : ℕ) → (b && leb w s) ≡ true → (b && leb v s) ≡ true
+    weaken true s e = le-leb v s (omega (arith, leb-true w s e))
+    weaken false s e = e
+
+rank-le : (mark : ℕ → Bool) (l : List ℕ) (t a b : ℕ) → Rank mark l t a → Rank mark l t b → a ≤ b
+rank-le mark l t a b ra rb = go (ra .reached)
+  where
+    go : (a ≡ 0) ⊎ (t < atLeast mark l a) → a ≤ b
+    go (inl e) = omega arith
+    go (inr k) = at (decLe a b)
+      where
+        at : Dec (a ≤ b) → a ≤ b
+        at (yes h) = h
+        at (no h) = omega (arith, lt-of-not-le h, falls mark l (b + 1) a (add-one-le (lt-of-not-le h)), rb .larger)
+
+pub sizes-unique : {mark : ℕ → Bool} (l s₁ s₂ : List ℕ) → Largest mark l s₁ → Largest mark l s₂ → s₁ ≡ s₂
+sizes-unique {mark} l s₁ s₂ h₁ h₂ = ext-getD 0 s₁ s₂ (h₁ .long ∙ sym (h₂ .long)) (λ t tl. same t (omega (arith, h₁ .long)))
+  where
+    same : (t : ℕ) → t < 4 → getD s₁ t 0 ≡ getD s₂ t 0
+    same t k = le-antisymm (rank-le mark l t _ _ (h₁ .each t k) (h₂ .each t k)) (rank-le mark l t _ _ (h₂ .each t k) (h₁ .each t k))
+
+-- ---- spins: a number is f of some place below m, or of none
+-- the system t is not in the group
+abbrev pub Outside : Call → ℕ → Type 0
+Outside c t = Unplaced (size c) (system c) t
+
+-- ys has the group's patterns `new`; ys has the other systems' spins of xs
+abbrev pub GroupIs : Call → List ℤ → (ℕ → Pattern) → Type 0
+GroupIs c ys new = (i k : ℕ) → i < c .lattice .n → k < size c → pattern c ys i k ≡ new i k
+
+abbrev pub OthersOf : Call → List ℤ → List ℤ → Type 0
+OthersOf c xs ys = (i t : ℕ) → i < c .lattice .n → Outside c t → spin (c .lattice .n) ys t i ≡ spin (c .lattice .n) xs t i
+
+-- two lists of spins are equal if their systems' spins are, of the group and of the others
+pub spins-equal : (c : Call) (ys zs : List ℤ) → 0 < c .lattice .n → length ys ≡ length zs → GroupIs c ys (pattern c zs) → OthersOf c zs ys → ys ≡ zs
+spins-equal c ys zs pos-n len group others = ext-getD (pos 0) ys zs len (λ x _. rw (← div-add-mod' x n) (cell (x / n) (x % n) (mod-lt x pos-n)))
+  where
+    n : ℕ
+    n = c .lattice .n
+
+    at : (t i : ℕ) → i < c .lattice .n → Placed (size c) (system c) t ⊎ Outside c t → spin (c .lattice .n) ys t i ≡ spin (c .lattice .n) zs t i
+    at t i h (inl r) = rw (r .2) (group i (r .0) h (r .1))
+    at t i h (inr r) = others i t h r
+
+    cell : (t i : ℕ) → i < c .lattice .n → spin (c .lattice .n) ys t i ≡ spin (c .lattice .n) zs t i
+    cell t i h = at t i h (place (size c) (system c) t)
+
+pub moves-unique :
+    (c : Call) (p : Choices) (xs : List ℤ) (l g : List ℕ) (ys zs : List ℤ)
+    → 0 < c .lattice .n
+    → Moves c p xs l g ys
+    → Moves c p xs l g zs
+    → ys ≡ zs
+moves-unique c p xs l g ys zs pos-n a b =
+    spins-equal c ys zs pos-n (a .long ∙ sym (b .long))
+    (λ i k h q. a .group i k h q ∙ sym (b .group i k h q))
+    (λ i t h q. a .others i t h q ∙ sym (b .others i t h q))
+
+-- the labels depend on which bonds hold alone
+abbrev HoldAlike : Graph → (ℕ → ℕ → Bool) → (ℕ → ℕ → Bool) → Type 0
+HoldAlike t g h = (i e : ℕ) → i < t .n → e < t .d → g i e ≡ h i e
+
+carry : (t : Graph) (g h : ℕ → ℕ → Bool) → HoldAlike t g h → Within (Bond t g) (Bond t h)
+carry t g h q a b e = along (record { site = e .site; dir = e .dir; dir-lt = e .dir-lt; on = on; leads = e .leads }) stay
+  where
+    on : h a (e .dir) ≡ true
+    on = sym (q a (e .dir) (e .site) (e .dir-lt)) ∙ e .on
+
+pub labels-ext : (t : Graph) (h₁ h₂ : ℕ → ℕ → Bool) (l : List ℕ) → HoldAlike t h₁ h₂ → Labels t h₁ l → Labels t h₂ l
+labels-ext t h₁ h₂ l same w = record {
+  long = w .long;
+  joined = λ i hi. bind (carry t h₁ h₂ same) (w .joined i hi);
+  least = λ i j hi hj q. w .least i j hi hj (bind (carry t h₂ h₁ (λ i e hi he. sym (same i e hi he))) q);
+}

@@ -1,0 +1,138 @@
+-- Worked refusals: one input with a fault for each number 1 to 10.
+use Prim.Native.Nat.{ℕ, suc, _<_}
+use mathlib.Core.Path.{refl}
+use mathlib.Core.Bool.{Bool, true, not, cond}
+use mathlib.Core.List.{List, [], _∷_}
+use lib.Dec.{eqb, ltb}
+use lib.IntN.{ℤ, pos, negsuc}
+use lib.Ieee.{nan, div, le, ofInt}
+use Rattle.lemmas.specs.Bools.{every}
+use Rattle.paper.specs.declared.Mode.the-variants.{Perm, Cmr}
+use Rattle.paper.specs.declared.Form.the-variants.{Wolff}
+use Rattle.paper.specs.Panel.Input.{Lattice, Call, Choices, Buffers}
+use Rattle.paper.specs.Site.Acting.{differs, acts}
+use Rattle.paper.specs.Site.Bonds.{whole}
+use Rattle.paper.specs.Refusal.Rule.{Kept, Broken}
+use Rattle.paper.specs.Refusal.Rules.{rules}
+use Rattle.paper.specs.Answer.Meter.{meterRules}
+use Rattle.paper.specs.Rows.Cases.{+, -, line, first}
+use Rattle.laws.specs.Decided.{eq, all, any}
+use Rattle.laws.specs.Verdicts.{refusalOf, accepted-by, refused-by, meter-verdict}
+
+-- a CMR Wolff move of two sites, which takes an input for each test. Where `ok j` is false it has the fault j: three systems (1), a short buffer of
+-- counts (2), a spin 0 (3), two sites with one forward neighbour (4), a system twice (5), a coupling of 1,000,001 (6), the temperature 0 (7), a
+-- cut that is no number (8), the grey number 0 (9), the seed 2 (10)
+abbrev call : (ℕ → Bool) → Call
+call ok = record {
+  mode = Cmr;
+  form = Wolff;
+  lattice = record {
+    n = 2;
+    d = 1;
+    s = 2;
+    fwd = cond (ok 4) (1 ∷ 0 ∷ []) (1 ∷ 1 ∷ []);
+    bwd = 1 ∷ 0 ∷ [];
+    couplings = cond (ok 6) (pos 3 ∷ pos 1000000 ∷ []) (pos 3 ∷ pos 1000001 ∷ []);
+  };
+  group = record { len = cond (ok 1) 2 3; systems = 0 ∷ cond (ok 5) 1 0 ∷ 9 ∷ 9 ∷ 9 ∷ 9 ∷ 9 ∷ 9 ∷ [] };
+  temperature = cond (ok 7) (whole 1) (whole 0);
+  cuts = cond (ok 8) (whole 0 ∷ whole 7 ∷ []) (whole 0 ∷ nan ∷ []);
+  reference = 9;
+  seed = cond (ok 10) 1 2;
+}
+
+abbrev choices : (ℕ → Bool) → Choices
+choices ok = record { choices = []; greys = cond (ok 9) (3 ∷ []) (0 ∷ []) }
+
+abbrev buffers : (ℕ → Bool) → Buffers
+buffers ok = record {
+  spins = cond (ok 3) (+ ∷ - ∷ + ∷ + ∷ []) (+ ∷ - ∷ + ∷ pos 0 ∷ []);
+  labels = 0 ∷ 0 ∷ [];
+  greyLabels = 0 ∷ 0 ∷ [];
+  counts = cond (ok 2) (0 ∷ 0 ∷ 0 ∷ []) (0 ∷ 0 ∷ []);
+  sizes = 0 ∷ 0 ∷ 0 ∷ 0 ∷ [];
+}
+
+abbrev Refused : (ℕ → Bool) → ℕ → Type 0
+Refused ok k = Broken (rules (call ok) (choices ok) (buffers ok)) k
+
+-- the fault k + 1 alone; that fault and all after it
+abbrev lone : ℕ → ℕ → Bool
+lone k j = not (eqb j (suc k))
+
+abbrev onwards : ℕ → ℕ → Bool
+onwards k j = ltb j (suc k)
+
+-- no fault: accepted
+pub accepted : Kept (rules (call (λ j. true)) (choices (λ j. true)) (buffers (λ j. true)))
+unfolding every any acts div le ofInt
+accepted = accepted-by (call (λ j. true)) (choices (λ j. true)) (buffers (λ j. true)) refl
+
+-- each fault has its number
+pub each-number : (k : ℕ) → k < 10 → Refused (lone k) (suc k)
+unfolding every any acts div le ofInt
+each-number k h =
+    refused-by (call (lone k)) (choices (lone k)) (buffers (lone k)) k
+    (all 10 (λ k. eq (refusalOf (call (lone k)) (choices (lone k)) (buffers (lone k))) (suc k)) .holds refl k h)
+
+-- and goes before all that follow it
+pub in-order : (k : ℕ) → k < 10 → Refused (onwards k) (suc k)
+unfolding every any acts div le ofInt
+in-order k h =
+    refused-by (call (onwards k)) (choices (onwards k)) (buffers (onwards k)) k
+    (all 10 (λ k. eq (refusalOf (call (onwards k)) (choices (onwards k)) (buffers (onwards k))) (suc k)) .holds refl k h)
+
+-- ---- seeds, in perm Wolff with the permutation p on two sites with two bonds between them
+abbrev seeding : ℕ → Call
+seeding seed = record {
+  mode = Perm;
+  form = Wolff;
+  lattice = line 2 2 (1 ∷ 0 ∷ []) (1 ∷ 0 ∷ []) [];
+  group = first 2;
+  temperature = nan;
+  cuts = [];
+  reference = 9;
+  seed = seed;
+}
+
+abbrev permuting : List ℕ → Choices
+permuting p = record { choices = p; greys = [] }
+
+abbrev lent : List ℤ → Buffers
+lent spins = record { spins = spins; labels = 0 ∷ 0 ∷ []; greyLabels = []; counts = 0 ∷ 0 ∷ 0 ∷ []; sizes = 0 ∷ 0 ∷ 0 ∷ 0 ∷ [] }
+
+pub record Seeds : Type 0 where
+  -- site 0 acts and site 1 does not
+  pub acting : Kept (rules (seeding 0) (permuting (1 ∷ 0 ∷ [])) (lent (+ ∷ + ∷ - ∷ + ∷ [])))
+  pub resting : Broken (rules (seeding 1) (permuting (1 ∷ 0 ∷ [])) (lent (+ ∷ + ∷ - ∷ + ∷ []))) 10
+  -- where no site acts any seed that is a site will do; but the identity is refused all the same
+  pub idle : Kept (rules (seeding 1) (permuting (1 ∷ 0 ∷ [])) (lent (+ ∷ + ∷ + ∷ + ∷ [])))
+  pub no-site : Broken (rules (seeding 2) (permuting (1 ∷ 0 ∷ [])) (lent (+ ∷ + ∷ + ∷ + ∷ []))) 10
+  pub identity : Broken (rules (seeding 2) (permuting (0 ∷ 1 ∷ [])) (lent (+ ∷ + ∷ + ∷ + ∷ []))) 9
+
+pub seeds : Seeds
+unfolding every any acts differs
+seeds = record {
+  acting = accepted-by (seeding 0) (permuting (1 ∷ 0 ∷ [])) (lent (+ ∷ + ∷ - ∷ + ∷ [])) refl;
+  resting = refused-by (seeding 1) (permuting (1 ∷ 0 ∷ [])) (lent (+ ∷ + ∷ - ∷ + ∷ [])) 9 refl;
+  idle = accepted-by (seeding 1) (permuting (1 ∷ 0 ∷ [])) (lent (+ ∷ + ∷ + ∷ + ∷ [])) refl;
+  no-site = refused-by (seeding 2) (permuting (1 ∷ 0 ∷ [])) (lent (+ ∷ + ∷ + ∷ + ∷ [])) 9 refl;
+  identity = refused-by (seeding 2) (permuting (0 ∷ 1 ∷ [])) (lent (+ ∷ + ∷ + ∷ + ∷ [])) 8 refl;
+}
+
+-- ---- the meter: a system that is not there goes before a coupling that is too large
+abbrev metered : List ℤ → Lattice
+metered couplings = line 1 2 (0 ∷ []) (0 ∷ []) couplings
+
+pub record Metered : Type 0 where
+  pub accepted : Kept (meterRules (metered (pos 1000000 ∷ [])) (+ ∷ - ∷ []) 1)
+  pub no-system : Broken (meterRules (metered (pos 1000001 ∷ [])) (+ ∷ - ∷ []) 2) 5
+  pub coupling : Broken (meterRules (metered (negsuc 1000000 ∷ [])) (+ ∷ - ∷ []) 1) 6
+
+pub metered-so : Metered
+unfolding every
+metered-so = record {
+  accepted = meter-verdict (metered (pos 1000000 ∷ [])) (+ ∷ - ∷ []) 1;
+  no-system = meter-verdict (metered (pos 1000001 ∷ [])) (+ ∷ - ∷ []) 2;
+  coupling = meter-verdict (metered (negsuc 1000000 ∷ [])) (+ ∷ - ∷ []) 1;
+}

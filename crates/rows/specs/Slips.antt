@@ -1,0 +1,126 @@
+-- Moves by computing (not rows of document 01) that shut out its slips. Two systems, A and B, in each.
+use Prim.Native.Nat.{ℕ}
+use mathlib.Core.Path.{refl}
+use mathlib.Core.List.{List, [], _∷_}
+use lib.IntN.{ℤ, pos}
+use lib.Ieee.{mul, div, lt, le, ofInt, round}
+use Rattle.lemmas.specs.Sums.{sum}
+use Rattle.lemmas.specs.Counts.{countWhere}
+use Rattle.lemmas.specs.Bools.{every}
+use Rattle.paper.specs.declared.Mode.the-variants.{Pair, Perm, Gperm, Jorg}
+use Rattle.paper.specs.declared.Form.{Form}
+use Rattle.paper.specs.declared.Form.the-variants.{Sw, Wolff}
+use Rattle.paper.specs.declared.Answer.the-variants.{Idle, Moved}
+use Rattle.paper.specs.Panel.Input.{Lattice, Call, Choices, Buffers}
+use Rattle.paper.specs.Site.Acting.{differs, pairDiffers, acts}
+use Rattle.paper.specs.Site.Bonds.{whole, holds}
+use Rattle.paper.specs.Component.Sizes.{sizeOf}
+use Rattle.paper.specs.Move.Moving.{other, reached, final}
+use Rattle.paper.specs.Answer.Move.{Answers}
+use Rattle.paper.specs.Rows.Cases.{+, -, decimal, line, plain, first, buffers}
+use Rattle.laws.specs.Decided.{any}
+use Rattle.laws.specs.ByAnswer.{goes-by, rests-by}
+
+abbrev ring : Lattice
+ring = line 3 2 (1 ∷ 2 ∷ 0 ∷ []) (2 ∷ 0 ∷ 1 ∷ []) []
+
+-- two sites with two bonds between them
+abbrev twins : List ℤ → Lattice
+twins couplings = line 2 2 (1 ∷ 0 ∷ []) (1 ∷ 0 ∷ []) couplings
+
+abbrev permuting : List ℕ → Choices
+permuting perms = record { choices = perms; greys = [] }
+
+abbrev before3 : List ℤ → Buffers
+before3 spins = buffers spins (9 ∷ 9 ∷ 9 ∷ []) (9 ∷ 9 ∷ 9 ∷ 9 ∷ []) (9 ∷ 9 ∷ 9 ∷ 9 ∷ [])
+
+abbrev before2 : List ℤ → Buffers
+before2 spins = buffers spins (9 ∷ 9 ∷ []) (9 ∷ 9 ∷ 9 ∷ []) (9 ∷ 9 ∷ 9 ∷ 9 ∷ [])
+
+-- "Following forward neighbours only, so a patch splits": site 2's bond leads back to site 0, and these two alone act
+pub patch-whole :
+    Answers (plain Perm Sw ring (first 2)) (permuting (1 ∷ 0 ∷ 1 ∷ 0 ∷ 1 ∷ 0 ∷ [])) (before3 (+ ∷ + ∷ + ∷ - ∷ + ∷ - ∷ [])) Moved
+    (buffers (- ∷ + ∷ - ∷ + ∷ + ∷ + ∷ []) (0 ∷ 1 ∷ 0 ∷ []) (0 ∷ 1 ∷ 1 ∷ 0 ∷ []) (2 ∷ 1 ∷ 0 ∷ 0 ∷ []))
+unfolding every any holds acts differs sizeOf countWhere reached final
+patch-whole =
+    goes-by (plain Perm Sw ring (first 2)) (permuting (1 ∷ 0 ∷ 1 ∷ 0 ∷ 1 ∷ 0 ∷ [])) (before3 (+ ∷ + ∷ + ∷ - ∷ + ∷ - ∷ []))
+    (buffers (- ∷ + ∷ - ∷ + ∷ + ∷ + ∷ []) (0 ∷ 1 ∷ 0 ∷ []) (0 ∷ 1 ∷ 1 ∷ 0 ∷ []) (2 ∷ 1 ∷ 0 ∷ 0 ∷ []))
+    (0 ∷ 0 ∷ 0 ∷ []) [] refl (λ _. refl) refl
+
+-- a component's choice is the one at its label: sites 1 and 2 read entry 1
+pub choice-at-label :
+    Answers (plain Perm Sw ring (first 2)) (permuting (0 ∷ 1 ∷ 1 ∷ 0 ∷ 0 ∷ 1 ∷ [])) (before3 (+ ∷ + ∷ + ∷ + ∷ - ∷ - ∷ [])) Moved
+    (buffers (+ ∷ - ∷ - ∷ + ∷ + ∷ + ∷ []) (0 ∷ 1 ∷ 1 ∷ []) (0 ∷ 1 ∷ 1 ∷ 0 ∷ []) (2 ∷ 1 ∷ 0 ∷ 0 ∷ []))
+unfolding every any holds acts differs sizeOf countWhere reached final
+choice-at-label =
+    goes-by (plain Perm Sw ring (first 2)) (permuting (0 ∷ 1 ∷ 1 ∷ 0 ∷ 0 ∷ 1 ∷ [])) (before3 (+ ∷ + ∷ + ∷ + ∷ - ∷ - ∷ []))
+    (buffers (+ ∷ - ∷ - ∷ + ∷ + ∷ + ∷ []) (0 ∷ 1 ∷ 1 ∷ []) (0 ∷ 1 ∷ 1 ∷ 0 ∷ []) (2 ∷ 1 ∷ 0 ∷ 0 ∷ []))
+    (0 ∷ 1 ∷ 1 ∷ []) [] refl (λ _. refl) refl
+
+-- "Drawing one permutation for the whole panel": two sites, each joined to itself, exchange and stay
+abbrev apart : Call
+apart = plain Perm Sw (line 2 2 (0 ∷ 1 ∷ []) (0 ∷ 1 ∷ []) []) (first 2)
+
+abbrev apartAfter : Buffers
+apartAfter = buffers (- ∷ + ∷ + ∷ - ∷ []) (0 ∷ 1 ∷ []) (0 ∷ 2 ∷ 0 ∷ []) (1 ∷ 1 ∷ 0 ∷ 0 ∷ [])
+
+pub each-its-own : Answers apart (permuting (1 ∷ 0 ∷ 0 ∷ 1 ∷ [])) (before2 (+ ∷ + ∷ - ∷ - ∷ [])) Moved apartAfter
+unfolding every any holds acts differs sizeOf countWhere reached final
+each-its-own = goes-by apart (permuting (1 ∷ 0 ∷ 0 ∷ 1 ∷ [])) (before2 (+ ∷ + ∷ - ∷ - ∷ [])) apartAfter [] [] refl (λ _. refl) refl
+
+-- gperm by the reference site 0, (+,-) there: site 1 acts, and gets the products' exchange, not the spins'
+abbrev gaugedBy0 : Call
+gaugedBy0 = plain Gperm Sw (twins []) (first 2)
+
+abbrev gaugedAfter : Buffers
+gaugedAfter = buffers (+ ∷ - ∷ - ∷ - ∷ []) (0 ∷ 1 ∷ []) (0 ∷ 2 ∷ 0 ∷ []) (1 ∷ 1 ∷ 0 ∷ 0 ∷ [])
+
+pub gauge-kept : Answers gaugedBy0 (permuting (1 ∷ 0 ∷ 1 ∷ 0 ∷ [])) (before2 (+ ∷ + ∷ - ∷ + ∷ [])) Moved gaugedAfter
+unfolding every any holds acts differs sizeOf countWhere reached final
+gauge-kept = goes-by gaugedBy0 (permuting (1 ∷ 0 ∷ 1 ∷ 0 ∷ [])) (before2 (+ ∷ + ∷ - ∷ + ∷ [])) gaugedAfter [] [] refl (λ _. refl) refl
+
+-- one site joined to itself is single: pair moves it in the Wolff form, and not in SW, where the answer is "moved" all the same
+abbrev single : Form → Call
+single form = plain Pair form (line 1 2 (0 ∷ []) (0 ∷ []) []) (first 2)
+
+abbrev single1 : List ℤ → Buffers
+single1 spins = buffers spins (0 ∷ []) (0 ∷ 1 ∷ []) (1 ∷ 0 ∷ 0 ∷ 0 ∷ [])
+
+abbrev flipping : List ℕ → Choices
+flipping flips = record { choices = flips; greys = [] }
+
+pub wolff-single : Answers (single Wolff) (flipping []) (single1 (+ ∷ - ∷ [])) Moved (single1 (- ∷ + ∷ []))
+unfolding every any holds acts pairDiffers sizeOf countWhere other reached final
+wolff-single = goes-by (single Wolff) (flipping []) (single1 (+ ∷ - ∷ [])) (single1 (- ∷ + ∷ [])) [] [] refl (λ _. refl) refl
+
+pub sw-single : Answers (single Sw) (flipping (1 ∷ [])) (single1 (+ ∷ - ∷ [])) Moved (single1 (+ ∷ - ∷ []))
+unfolding every any holds acts pairDiffers sizeOf countWhere other reached final
+sw-single = goes-by (single Sw) (flipping (1 ∷ [])) (single1 (+ ∷ - ∷ [])) (single1 (+ ∷ - ∷ [])) [] [] refl (λ _. refl) refl
+
+-- no site acts: idle, and the outputs are written
+pub idle-written : Answers (single Wolff) (flipping []) (buffers (+ ∷ + ∷ []) (9 ∷ []) (9 ∷ 9 ∷ []) (9 ∷ 9 ∷ 9 ∷ 9 ∷ [])) Idle (single1 (+ ∷ + ∷ []))
+unfolding every any holds acts pairDiffers sizeOf countWhere other reached final
+idle-written =
+    rests-by (single Wolff) (flipping []) (buffers (+ ∷ + ∷ []) (9 ∷ []) (9 ∷ 9 ∷ []) (9 ∷ 9 ∷ 9 ∷ 9 ∷ [])) (single1 (+ ∷ + ∷ []))
+    [] [] refl (λ _. refl) refl refl
+
+-- two bonds of one pair have a cut each: the second joins where the first does not
+abbrev doubled : Call
+doubled = record {
+  mode = Jorg;
+  form = Sw;
+  lattice = twins (pos 1 ∷ pos 1 ∷ []);
+  group = first 2;
+  temperature = whole 2;
+  cuts = whole 100 ∷ decimal 5 1 ∷ [];
+  reference = 0;
+  seed = 0;
+}
+
+abbrev doubledAfter : Buffers
+doubledAfter = buffers (- ∷ - ∷ + ∷ + ∷ []) (0 ∷ 0 ∷ []) (0 ∷ 0 ∷ 1 ∷ []) (2 ∷ 0 ∷ 0 ∷ 0 ∷ [])
+
+pub either-bond : Answers doubled (flipping (1 ∷ 0 ∷ [])) (before2 (+ ∷ + ∷ - ∷ - ∷ [])) Moved doubledAfter
+unfolding every any holds acts sum pairDiffers sizeOf countWhere other reached final mul div lt le ofInt round
+either-bond =
+    goes-by doubled (flipping (1 ∷ 0 ∷ [])) (before2 (+ ∷ + ∷ - ∷ - ∷ [])) doubledAfter (0 ∷ 0 ∷ []) [] refl (λ _. refl) refl

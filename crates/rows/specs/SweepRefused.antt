@@ -1,0 +1,72 @@
+-- Worked refusals of sweeps: what is tested, and in which order.
+use Prim.Native.Nat.{ℕ}
+use mathlib.Core.Path.{refl}
+use mathlib.Core.List.{List, [], _∷_}
+use lib.IntN.{pos}
+use lib.Ieee.{Float, nan, div, le, ofInt}
+use Rattle.lemmas.specs.Cells.{table}
+use Rattle.lemmas.specs.Bools.{every}
+use Rattle.paper.specs.declared.Mode.the-variants.{Jorg}
+use Rattle.paper.specs.declared.Form.the-variants.{Wolff}
+use Rattle.paper.specs.Panel.Input.{Buffers}
+use Rattle.paper.specs.Site.Acting.{pairDiffers, acts}
+use Rattle.paper.specs.Site.Bonds.{whole}
+use Rattle.paper.specs.Refusal.Rule.{Kept, Broken}
+use Rattle.paper.specs.Answer.Task.{Sweep}
+use Rattle.paper.specs.Answer.Sweep.{sweepRules}
+use Rattle.paper.specs.Rows.Cases.{+, -, line}
+use Rattle.laws.specs.Decided.{any}
+use Rattle.laws.specs.SweepVerdicts.{sweep-accepted-by, sweep-refused-by}
+
+-- Jörg, Wolff: two temperatures of two replicas, so two tasks, on one site joined to itself
+abbrev sweep : List ℕ → List Float → List Float → List ℕ → Sweep
+sweep masks temperatures cuts seeds = record {
+  mode = Jorg;
+  form = Wolff;
+  lattice = line 1 4 (0 ∷ []) (0 ∷ []) (pos 1 ∷ []);
+  t = 2;
+  r = 2;
+  members = 2;
+  order = 0 ∷ 1 ∷ 2 ∷ 3 ∷ [];
+  masks = masks;
+  temperatures = temperatures;
+  cuts = cuts;
+  references = [];
+  seeds = seeds;
+  choices = [];
+  greys = [];
+}
+
+abbrev lent : Buffers
+lent = record {
+  spins = + ∷ - ∷ + ∷ - ∷ [];
+  labels = 0 ∷ 0 ∷ [];
+  greyLabels = [];
+  counts = 0 ∷ 0 ∷ 0 ∷ 0 ∷ [];
+  sizes = 0 ∷ 0 ∷ 0 ∷ 0 ∷ 0 ∷ 0 ∷ 0 ∷ 0 ∷ [];
+}
+
+abbrev warm : List Float
+warm = whole 1 ∷ whole 1 ∷ []
+
+pub record SweepRefusals : Type 0 where
+  -- tasks in ascending order, each through 8, 9, 10: task 0's seed goes before task 1's cut
+  pub task-by-task : Broken (sweepRules (sweep (0 ∷ 0 ∷ []) warm (whole 0 ∷ nan ∷ []) (1 ∷ 0 ∷ [])) lent) 10
+  -- the mask bytes go before any task, and after 7
+  pub mask-first : Broken (sweepRules (sweep (2 ∷ 0 ∷ []) warm (nan ∷ whole 0 ∷ []) (0 ∷ 0 ∷ [])) lent) 9
+  pub warm-first : Broken (sweepRules (sweep (2 ∷ 0 ∷ []) (nan ∷ whole 1 ∷ []) (nan ∷ whole 0 ∷ []) (0 ∷ 0 ∷ [])) lent) 7
+  -- a mask byte 1 masks: that task's cuts and seed are not tested, but its temperature is
+  pub masked-free : Kept (sweepRules (sweep (1 ∷ 0 ∷ []) warm (nan ∷ whole 0 ∷ []) (9 ∷ 0 ∷ [])) lent)
+  pub masked-warm : Broken (sweepRules (sweep (1 ∷ 0 ∷ []) (nan ∷ whole 1 ∷ []) (nan ∷ whole 0 ∷ []) (9 ∷ 0 ∷ [])) lent) 7
+  pub unmasked : Broken (sweepRules (sweep (0 ∷ 1 ∷ []) warm (nan ∷ whole 0 ∷ []) (9 ∷ 0 ∷ [])) lent) 8
+
+pub sweep-refusals : SweepRefusals
+unfolding table every any acts pairDiffers div le ofInt
+sweep-refusals = record {
+  task-by-task = sweep-refused-by (sweep (0 ∷ 0 ∷ []) warm (whole 0 ∷ nan ∷ []) (1 ∷ 0 ∷ [])) lent 9 refl;
+  mask-first = sweep-refused-by (sweep (2 ∷ 0 ∷ []) warm (nan ∷ whole 0 ∷ []) (0 ∷ 0 ∷ [])) lent 8 refl;
+  warm-first = sweep-refused-by (sweep (2 ∷ 0 ∷ []) (nan ∷ whole 1 ∷ []) (nan ∷ whole 0 ∷ []) (0 ∷ 0 ∷ [])) lent 6 refl;
+  masked-free = sweep-accepted-by (sweep (1 ∷ 0 ∷ []) warm (nan ∷ whole 0 ∷ []) (9 ∷ 0 ∷ [])) lent refl;
+  masked-warm = sweep-refused-by (sweep (1 ∷ 0 ∷ []) (nan ∷ whole 1 ∷ []) (nan ∷ whole 0 ∷ []) (9 ∷ 0 ∷ [])) lent 6 refl;
+  unmasked = sweep-refused-by (sweep (0 ∷ 1 ∷ []) warm (nan ∷ whole 0 ∷ []) (9 ∷ 0 ∷ [])) lent 7 refl;
+}
