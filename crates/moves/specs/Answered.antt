@@ -25,7 +25,7 @@ use Rattle.paper.specs.Refusal.Kept.{Valid, valid-kept}
 use Rattle.paper.specs.Answer.Move.{Answers}
 use Rattle.laws.specs.Choices.{flips-taken, perms-taken, flips-bytes, perms-bytes}
 use Rattle.laws.specs.Unique.{label-lt}
-use Rattle.rules.specs.Sight.{none-acts}
+use Rattle.column_rules.specs.Sight.{none-acts}
 use Rattle.moves.specs.Tested.{TestedFor, ready}
 use Rattle.moves.specs.Moved.{Rows}
 use Rattle.moves.specs.Steps.{LabelAsks, LabelLeaves, ChooseAsks, ChooseLeaves, WriteAsks, WriteLeaves}

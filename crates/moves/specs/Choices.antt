@@ -19,7 +19,7 @@ use Rattle.laws.specs.Unique.{label-lt}
 use Rattle.laws.specs.Entries.{entry-lt}
 use Rattle.columns.specs.Column.{Columns, column-lt}
 use Rattle.choose.specs.Chosen.{reachedAt}
-use Rattle.rules.specs.Sight.{flag-at}
+use Rattle.column_rules.specs.Sight.{flag-at}
 use Rattle.moves.specs.Moved.{Rows}
 
 -- rows of m places, each a permutation: every entry names a place

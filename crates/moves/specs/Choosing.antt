@@ -15,9 +15,9 @@ use Rattle.paper.specs.Component.Marks.{Flags}
 use Rattle.paper.specs.Move.Moving.{flipBy, permAt, greyAt}
 use Rattle.columns.specs.Column.{shown, columnOf, column-lt, flipped}
 use Rattle.columns.specs.Gauge.{gaugeOf}
-use Rattle.rules.specs.Tables.{Table}
+use Rattle.column_rules.specs.Tables.{Table}
 use Rattle.choose.specs.Chosen.{Becomes, reachedAt, flippedAt, permutedBy, permutedAt, greyed, greyedAt}
-use Rattle.rules.specs.Sight.{flag-at}
+use Rattle.column_rules.specs.Sight.{flag-at}
 use Rattle.moves.specs.Moved.{choiceColumn}
 use Rattle.moves.specs.Steps.{chosenAt, finalAt}
 

@@ -27,7 +27,7 @@ use Rattle.columns.specs.Column.{shown, Columns}
 use Rattle.columns.specs.Laws.{columns-shown}
 use Rattle.bonds.specs.Laws.{jorg-ext}
 use Rattle.bonds.specs.Table.{bothActing, jorgAt, blueAt, greyAt, CmrOut}
-use Rattle.rules.specs.Sight.{Sights, flag-at, acts-flags, acts-tells}
+use Rattle.column_rules.specs.Sight.{Sights, flag-at, acts-flags, acts-tells}
 use Rattle.label.specs.Contract.{Labelled, Reported}
 use Rattle.moves.specs.Tested.{Tested, TestedFor}
 use Rattle.moves.specs.Looked.{mark-at}

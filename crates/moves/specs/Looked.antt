@@ -5,7 +5,7 @@ use mathlib.Core.Bool.{Bool}
 use mathlib.Core.List.{List}
 use lib.Dec.{eqb}
 use Rattle.paper.specs.Component.Marks.{Marks, marked}
-use Rattle.rules.specs.Sight.{flag-is}
+use Rattle.column_rules.specs.Sight.{flag-is}
 
 -- a marked bond read back
 pub mark-at : (n d : ℕ) (f : ℕ → ℕ → Bool) (xs : List ℕ) → Marks n d f xs → (i e : ℕ) → i < n → e < d → marked d xs i e ≡ f i e

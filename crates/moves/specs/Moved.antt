@@ -22,7 +22,7 @@ use Rattle.laws.specs.Partners.{partner-lt}
 use Rattle.laws.specs.Entries.{form-moves}
 use Rattle.columns.specs.Column.{shown, columnOf, shown-column, column-ext, flipped}
 use Rattle.columns.specs.Gauge.{gaugeOf, gauge-column}
-use Rattle.rules.specs.Laws.{gauge-spin}
+use Rattle.column_rules.specs.Laws.{gauge-spin}
 use Rattle.choose.specs.Chosen.{permutedBy}
 use Rattle.moves.specs.Tested.{TestedFor}
 

@@ -14,7 +14,7 @@ use Rattle.paper.specs.Panel.Takes.{isGperm, isCmr}
 use Rattle.paper.specs.Refusal.Rules.{Distinct}
 use Rattle.paper.specs.Refusal.Kept.{Sound}
 use Rattle.columns.specs.Column.{Inside, Spinning}
-use Rattle.rules.specs.Sight.{Sighted}
+use Rattle.column_rules.specs.Sight.{Sighted}
 
 -- the parts of tests 1 to 5 that the steps lean on
 pub record Tested (mode : Mode) (n d : ℕ) (fwd : List ℕ) (g : Group) (xs : List ℤ) : Type 0 where

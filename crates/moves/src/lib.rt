@@ -91,7 +91,7 @@ fn label_task(
     let mode = t.mode;
     let group = t.group;
     let n = t.n;
-    let some = rules::look(mode, n, spins, group, t.reference, cols, acts);
+    let some = column_rules::look(mode, n, spins, group, t.reference, cols, acts);
     hold(t, fwd, couplings, cuts, acts, cols, holds, grey);
     label::label(n, t.d, fwd, holds, labels, tally);
     // every component is counted, also a site that does not act
@@ -128,7 +128,7 @@ fn choose_columns(
             reached,
             labels,
             choices,
-            rules::flip_table(mode, group),
+            column_rules::flip_table(mode, group),
             cols,
         );
     }

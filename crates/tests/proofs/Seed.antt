@@ -11,8 +11,8 @@ use Rattle.paper.specs.declared.Task.{Task}
 use Rattle.paper.specs.Panel.Takes.{isWolff}
 use Rattle.paper.specs.Site.Acting.{acts}
 use Rattle.paper.specs.Refusal.Rules.{Seeded}
-use Rattle.rules.specs.Laws.{SomeSite}
-use Rattle.rules.specs.Sight.{actsAt, some-site, some-acts}
+use Rattle.column_rules.specs.Laws.{SomeSite}
+use Rattle.column_rules.specs.Sight.{actsAt, some-site, some-acts}
 use Rattle.tests.specs.Choices.{EveryCut}
 
 module _ (t : Task) (xs : List ℤ) where

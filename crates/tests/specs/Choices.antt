@@ -15,7 +15,7 @@ use Rattle.paper.specs.Panel.Made.{callOf}
 use Rattle.paper.specs.Panel.Takes.{choicesBy, greysBy, entries, choiceBytes}
 use Rattle.paper.specs.Refusal.Rules.{When, AllSystems, Spins, Permutes, NotIdentity}
 use Rattle.columns.specs.Column.{Inside, Spinning}
-use Rattle.rules.specs.Sight.{Sighted}
+use Rattle.column_rules.specs.Sight.{Sighted}
 
 -- what tests 1 to 5 established and these lean on: ranges, the group's rows of spins, the lengths of the choices that are taken
 pub record Tested (t : Task) (xs : List ℤ) (choices greys : List ℕ) : Type 0 where

@@ -97,10 +97,10 @@ fn seed_ok(t: Task, spins: &[i8]) -> bool
     if n <= seed {
         return false;
     }
-    if rules::acts_at(mode, n, spins, group, t.reference, seed) {
+    if column_rules::acts_at(mode, n, spins, group, t.reference, seed) {
         return true;
     }
-    !rules::any_acts(mode, n, spins, group, t.reference)
+    !column_rules::any_acts(mode, n, spins, group, t.reference)
 }
 
 // The number of the first test that fails, or 0.
