@@ -1,5 +1,5 @@
 //! The labelling of random bonds and of shapes that are hard on a forest of parents.
-use crate::Bench;
+use crate::{head, row, Bench};
 use calls::Label;
 use published_as_is::Labelling;
 use std::hint::black_box;
@@ -120,28 +120,34 @@ impl Bench {
         (all, rust)
     }
 
+    fn bonds_cell(&mut self, bonds: &Bonds) -> String {
+        let (all, rust) = self.times(bonds);
+        eprintln!("{:32} port {all:9.2} | Rust {rust:9.2?}", bonds.name);
+        self.cell(all, rust, |_| String::new())
+    }
+
     pub fn labelling(&mut self) {
-        let mut cases = Vec::new();
+        let percents = [10, 50, 90, 100];
+        let columns = percents.map(|percent| format!("{percent} %"));
+        let title = "Labelling, with its tests / Rust";
+        head(title, "Bonds", &columns.each_ref().map(String::as_str));
         for d in 1..=4 {
-            for percent in [10, 50, 90, 100] {
-                cases.push(self.random(d, percent));
-            }
-        }
-        cases.extend(self.shapes());
-        let (mut logs, mut most) = (Vec::new(), 0.0f64);
-        for bonds in &cases {
-            let (all, rust) = self.times(bonds);
-            let ratio = rust.map_or(String::new(), |rust| {
-                logs.push((all / rust).ln());
-                most = most.max(all / rust);
-                format!(" | Rust {rust:9.2} ({:5.2})", all / rust)
+            let cells = percents.map(|percent| {
+                let bonds = self.random(d, percent);
+                self.bonds_cell(&bonds)
             });
-            println!("{:32} port {all:9.2}{ratio}", bonds.name);
+            row(&format!("D = {d}"), cells.into(), 4);
         }
-        if !logs.is_empty() {
-            let mean = (logs.iter().sum::<f64>() / logs.len() as f64).exp();
-            println!("geometric mean {mean:.2}, largest {most:.2}");
+        head(
+            "The same of shapes that are hard on a forest",
+            "Shape",
+            &[""],
+        );
+        for bonds in self.shapes() {
+            let cell = self.bonds_cell(&bonds);
+            row(&bonds.name, vec![cell], 1);
         }
+        self.ratios.print();
     }
 }
 

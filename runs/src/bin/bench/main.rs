@@ -1,9 +1,11 @@
-//! bench [repetitions]: the port against the published Rust, in one run.
+//! bench [repetitions]: the port against the published Rust, in one run, as the tables of docs/BENCHMARKS.md.
 //!
 //! Times are medians in microseconds. "Rust" is the published code with a generator, "lent" the same code with its
 //! draws read from the lent choices, "depth" the one-cluster form without outputs, which the port does not have. The
-//! port's tests are the time of the same call made to fail its last test; "move" is the rest. Where the port is not
-//! linked the model stands in for it, so that the run itself can be tried.
+//! port's tests are the time of the same call made to fail its last test; "move" is the rest. The standard output has
+//! the tables, and the standard error each case with all that was measured. Where the port is not linked the model
+//! stands in for it, so that the run itself can be tried.
+mod clusters;
 mod labelling;
 mod moves;
 mod parts;
@@ -18,6 +20,7 @@ struct Bench {
     port: Box<dyn Port>,
     repetitions: usize,
     rand: Rand,
+    ratios: Ratios,
 }
 
 fn sizes(mode: Mode) -> &'static [usize] {
@@ -35,39 +38,129 @@ fn directions(mode: Mode) -> &'static [usize] {
     }
 }
 
-fn each(mut run: impl FnMut(Mode, Form, usize, usize)) {
+/// What the cells of a table come to.
+#[derive(Default)]
+struct Ratios(Vec<f64>);
+
+impl Ratios {
+    fn print(&mut self) {
+        if !self.0.is_empty() {
+            let most = self.0.iter().copied().fold(0.0, f64::max);
+            let mean = (self.0.iter().map(|r| r.ln()).sum::<f64>() / self.0.len() as f64).exp();
+            println!("\nAt most {most:.2}, {mean:.2} as a geometric mean.");
+        }
+        self.0.clear();
+    }
+}
+
+impl Bench {
+    /// port / Rust and their ratio, with what follows it.
+    fn cell(&mut self, port: f64, rust: Option<f64>, more: impl Fn(f64) -> String) -> String {
+        let short = |time: f64| format!("{time:.*}", if time < 10.0 { 2 } else { 0 });
+        let Some(rust) = rust else {
+            return short(port);
+        };
+        self.ratios.0.push(port / rust);
+        let ratio = port / rust;
+        format!(
+            "{} / {} = **{ratio:.2}**{}",
+            short(port),
+            short(rust),
+            more(rust)
+        )
+    }
+}
+
+fn head(title: &str, first: &str, columns: &[&str]) {
+    println!("\n{title}\n\n| {first} | {} |", columns.join(" | "));
+    println!("|---|{}", "---|".repeat(columns.len()));
+}
+
+fn row(name: &str, mut cells: Vec<String>, columns: usize) {
+    cells.resize(columns, String::new());
+    println!("| {name} | {} |", cells.join(" | "));
+}
+
+/// A row for each mode, form and number of directions, with a cell for each size of the group.
+fn by_size(
+    bench: &mut Bench,
+    title: &str,
+    mut cell: impl FnMut(&mut Bench, Mode, Form, usize, usize) -> String,
+) {
+    head(title, "Mode and form", &["N = 2", "N = 4", "N = 8"]);
     for mode in Mode::ALL {
-        for form in Form::ALL {
-            for &d in directions(mode) {
-                for &members in sizes(mode) {
-                    run(mode, form, d, members);
-                }
+        for &d in directions(mode) {
+            for form in Form::ALL {
+                let cells = sizes(mode).iter().map(|&m| cell(bench, mode, form, d, m));
+                let name = format!("{} {}, D = {d}", mode.name(), form.name());
+                row(&name, cells.collect(), 3);
             }
         }
     }
+    bench.ratios.print();
+}
+
+fn one_cluster(bench: &mut Bench) {
+    let title =
+        "One cluster, N = 2, D = 2: whole call / the Rust's search from the seed without outputs";
+    head(
+        title,
+        "Mode, and the cluster's share of the sites",
+        &clusters::PATCHES.map(|p| p.share),
+    );
+    for mode in [Mode::Houd, Mode::Pair, Mode::Perm, Mode::Jorg, Mode::Cmr] {
+        let cells = clusters::PATCHES.map(|patches| bench.cluster_cell(mode, patches));
+        row(mode.name(), cells.into(), 3);
+    }
+    bench.ratios.print();
+}
+
+fn small_panels(bench: &mut Bench) {
+    let title = "Small panels, N = 2, D = 2: whole call / Rust; the tests' share of the call";
+    head(title, "Mode and form", &["n = 16", "n = 64", "n = 256"]);
+    for mode in Mode::ALL {
+        for form in Form::ALL {
+            let cells = [16, 64, 256].map(|n| bench.small_cell(mode, form, n));
+            row(&format!("{} {}", mode.name(), form.name()), cells.into(), 3);
+        }
+    }
+    bench.ratios.print();
 }
 
 fn main() {
     let word = std::env::args().nth(1);
-    let repetitions = word.and_then(|word| word.parse().ok()).unwrap_or(41);
+    let repetitions = word.and_then(|word| word.parse().ok()).unwrap_or(101);
     let port = port::linked().unwrap_or_else(|| Box::new(Model));
     println!("port: {}, on {}", port.name(), std::env::consts::ARCH);
     if !published_as_is::PRESENT {
         println!("the published Rust was not found when this was built: its times are left out");
     }
-    println!("n = {N}; medians in microseconds; in brackets port / Rust and move / Rust");
+    println!("n = {N} where no other is named; medians in microseconds");
     let mut bench = Bench {
         port,
         repetitions,
         rand: Rand::new(1),
+        ratios: Ratios::default(),
     };
-    println!("\nsingle moves, S = N");
-    each(|mode, form, d, members| bench.single_line(mode, form, d, members, members));
-    println!("\nsingle moves, S = 64");
-    each(|mode, form, d, members| bench.single_line(mode, form, d, members, 64));
-    println!("\nsweeps, t = 8, r = 8");
-    each(|mode, form, d, members| bench.sweep_line(mode, form, d, members));
-    println!("\nlabelling");
+    let move_title =
+        |s: &str| format!("Single moves, {s}: move / Rust; behind it whole call / Rust");
+    by_size(
+        &mut bench,
+        &move_title("S = N"),
+        |bench, mode, form, d, m| bench.single_cell(mode, form, d, m, m),
+    );
+    by_size(
+        &mut bench,
+        &move_title("S = 64"),
+        |bench, mode, form, d, m| bench.single_cell(mode, form, d, m, 64),
+    );
+    by_size(
+        &mut bench,
+        "Sweeps, t = 8, r = 8: whole call / Rust",
+        |bench, mode, form, d, m| bench.sweep_cell(mode, form, d, m),
+    );
+    one_cluster(&mut bench);
+    small_panels(&mut bench);
     bench.labelling();
     println!("\nparts");
     bench.spin_test_line();
