@@ -18,16 +18,17 @@ use paper::BondKind;
 use paper::Group;
 use paper::Sampler;
 
-// The bonds of site i, which acts.
+// The bonds of site i. A test that steers no jump: who acts is unforeseeable.
 fn active_site(i: usize, d: usize, fwd: &[u32], acts: &[u8], holds: &mut [u8])
     requires { ⌜ ActiveIn (length (now acts)) d (now fwd) (now acts) (now holds) ⌝ }
-    requires { ⌜ Acts (now acts) i ⌝ }
+    requires { ⌜ i < length (now acts) ⌝ }
     ensures { λ _. ⌜ Row (i * d) d (bothActing d (now (fwd .entry)) (now (acts .entry)) i) (now (holds .entry)) (now (holds .exit)) ⌝ }
 {
     let base = i * d;
+    let here = acts[i] == 1;
     for e in 0..d {
         let b = base + e;
-        holds[b] = (acts[wide(fwd[b])] == 1) as u8;
+        holds[b] = (here & (acts[wide(fwd[b])] == 1)) as u8;
     }
 }
 
@@ -36,12 +37,8 @@ pub fn active_bonds(n: usize, d: usize, fwd: &[u32], acts: &[u8], holds: &mut [u
     requires { ⌜ ActiveIn n d (now fwd) (now acts) (now holds) ⌝ }
     ensures { λ _. ⌜ Marks n d (bothActing d (now (fwd .entry)) (now (acts .entry))) (now (holds .exit)) ⌝ }
 {
-    // One fill of the whole table costs less than clearing the few bytes of each site that does not act.
-    clear(holds);
     for i in 0..n {
-        if acts[i] == 1 {
-            active_site(i, d, fwd, acts, holds);
-        }
+        active_site(i, d, fwd, acts, holds);
     }
 }
 

@@ -1,42 +1,31 @@
 -- `bonds::active_bonds` meets its contract.
 use Prim.Native.Nat.{_≤_, _-_}
-use mathlib.Core.Path.{_∙_}
-use mathlib.Core.Logic.{⊎-elim}
+use mathlib.Core.Path.{sym, _∙_}
 use native.Mathlib.Nat.{le-antisymm}
 use native.Mathlib.Omega.{arith}
 use borrow.Author.Needs.{needs}
-use borrow.Author.Tests.{ne-eqb}
-use Rattle.lemmas.specs.Stores.{cleared-all}
 use Rattle.bonds.specs.Table.{bothActing}
-use Rattle.bonds.proofs.Rows.{Marking, marking-none, marking-more, marking-skip, begun-all, lent-on}
+use Rattle.bonds.proofs.Rows.{Begun, begun-none, begun-more, begun-all, lent-on}
 use Rattle.bonds.proofs.active_bonds.Statement.{statement}
 use Rattle.bonds.proofs.active_bonds.Tie as tie
 
 abbrev Inv-loop : tie.InvT-loop
-Inv-loop n d fwd acts holds₀ i₀ holds i = (i ≤ n) × Marking n d (bothActing d fwd acts) i holds
+Inv-loop n d fwd acts holds₀ i₀ holds i = (i ≤ n) × Begun n d (bothActing d fwd acts) i holds
 
 abbrev μ-loop : tie.MeasureT-loop
 μ-loop n d fwd acts holds₀ i₀ holds i = n - i
 
-clear-requires : tie.Need-clear-requires Inv-loop μ-loop
-clear-requires c κs = search needs
+abbrev of-turn : tie.In-loop Inv-loop μ-loop → tie.Start Inv-loop μ-loop
+of-turn c = c .before .before .before .before .before
 
 loop-holds : tie.Need-loop-holds Inv-loop μ-loop
-loop-holds c =
-    let s = c .before .before .before .before .before .before .before in
-    let k = c .before .before .clear in
-    (omega arith, marking-none _ _ _ _ (k .kept .0 ∙ s .pre .holds-long) (λ x l. cleared-all (k .ensures) x))
-
-shared-slice-read-if1 : tie.Need-shared-slice-read-if1 Inv-loop μ-loop
-shared-slice-read-if1 c = search needs
+loop-holds c = (omega arith, begun-none _ _ _ _ (c .before .before .before .pre .holds-long))
 
 active-site-requires : tie.Need-active-site-requires Inv-loop μ-loop
 active-site-requires c κs =
-    let t = c .before .before .before in
-    let h = t .before .before .before .before .before .before .before .before .before .pre in (
-      lent-on _ h (t .before .loop .inv .1 .begun .long),
-      record { below = rw (h .acts-long) (t .loop-test .taken); does = c .before .if1 .taken },
-    )
+    let t = c .before in
+    let h = of-turn t .pre in
+    (lent-on _ h (t .before .loop .inv .1 .long), rw (h .acts-long) (t .loop-test .taken))
 
 add-i : tie.Need-add-i Inv-loop μ-loop
 add-i c = search needs
@@ -46,37 +35,16 @@ loop-less c = search needs
 
 loop-again : tie.Need-loop-again Inv-loop μ-loop
 loop-again c =
-    let t = c .before .before in
-    let s = t .before .before .before .before .before .before .before .before .before in
+    let r = c .before .before in
+    let t = r .before .before in
     let l = t .before .loop in
-    let f = bothActing (s .args .d) (s .args .fwd .now) (s .args .acts .now) in (
-      omega arith,
-      ⊎-elim
-          (λ w. rw (w .5) (marking-more _ _ f (l .i) _ (l .inv .1) _ (w .2 .ensures)))
-          (λ w. rw (w .1) (marking-skip _ _ f (l .i) _ (l .inv .1) (λ e. rw (ne-eqb _ 1 (w .0 .left)))))
-          (c .if1 .came),
-    )
+    (omega arith, begun-more _ _ _ (l .i) _ (l .inv .1) _ (r .active-site .ensures))
 
 same-length : tie.Need-same-length Inv-loop μ-loop
-same-length c = search needs
+same-length c = c .before .loop .inv .1 .long ∙ sym (c .before .before .before .before .before .pre .holds-long)
 
 returns : tie.Need-returns Inv-loop μ-loop
-returns c =
-    let inv = c .before .loop .inv in
-    begun-all _ _ _ _ (rw (le-antisymm (inv .0) (c .loop-test .left)) at (inv .1 .begun))
+returns c = let inv = c .before .loop .inv in begun-all _ _ _ _ (rw (le-antisymm (inv .0) (c .loop-test .left)) at (inv .1))
 
 pub active-bonds-spec : {M : Type 1} → statement M
-active-bonds-spec =
-    tie.close
-    (tie.spec
-    Inv-loop
-    μ-loop
-    clear-requires
-    loop-holds
-    shared-slice-read-if1
-    active-site-requires
-    add-i
-    loop-less
-    loop-again
-    same-length
-    returns)
+active-bonds-spec = tie.close (tie.spec Inv-loop μ-loop loop-holds active-site-requires add-i loop-less loop-again same-length returns)

@@ -1,9 +1,10 @@
 -- `bonds::active_site` meets its contract.
-use Prim.Native.Nat.{ℕ, _+_, _*_, _≤_, _-_}
-use mathlib.Core.Path.{_≡_, ap, _∙_}
+use Prim.Native.Nat.{ℕ, _*_, _≤_, _-_}
+use mathlib.Core.Path.{ap}
+use mathlib.Core.Bool.{_&&_}
 use native.Mathlib.Nat.{le-antisymm}
 use native.Mathlib.Omega.{arith}
-use lib.ListN.{length, getD}
+use lib.ListN.{length}
 use borrow.Author.Needs.{needs}
 use Rattle.lemmas.specs.Counts.{bit}
 use Rattle.bonds.specs.Table.{acting, bothActing}
@@ -13,24 +14,22 @@ use Rattle.bonds.proofs.active_site.Statement.{statement}
 use Rattle.bonds.proofs.active_site.Tie as tie
 
 abbrev Inv-loop : tie.InvT-loop
-Inv-loop i d fwd acts holds₀ base e₀ holds e = (e ≤ d) × Row (i * d) e (bothActing d fwd acts i) holds₀ holds
+Inv-loop i d fwd acts holds₀ base here e₀ holds e = (e ≤ d) × Row (i * d) e (bothActing d fwd acts i) holds₀ holds
 
 abbrev μ-loop : tie.MeasureT-loop
-μ-loop i d fwd acts holds₀ base e₀ holds e = d - e
+μ-loop i d fwd acts holds₀ base here e₀ holds e = d - e
 
 abbrev of-turn : tie.In-loop Inv-loop μ-loop → tie.Start Inv-loop μ-loop
-of-turn c = c .before .before .before .before .before
+of-turn c = c .before .before .before .before .before .before
 
 at : (c : tie.In-loop Inv-loop μ-loop) → (let a = of-turn c .args in Place (length (a .acts .now)) (a .d) (a .fwd .now) (a .i) (c .before .loop .e))
-at c = let s = of-turn c in place (s .pre .0 .forward) (s .args .i) (c .before .loop .e) (s .pre .1 .below) (c .loop-test .taken)
-
--- the site acts, so the other end decides
-right : (s : tie.Start Inv-loop μ-loop) (e : ℕ) → (let a = s .args in
-    acting (a .acts .now) (getD (a .fwd .now) (a .i * a .d + e) 0) ≡ bothActing (a .d) (a .fwd .now) (a .acts .now) (a .i) e)
-right s e = rw (s .pre .1 .does)
+at c = let s = of-turn c in place (s .pre .0 .forward) (s .args .i) (c .before .loop .e) (s .pre .1) (c .loop-test .taken)
 
 mul-base : tie.Need-mul-base Inv-loop μ-loop
-mul-base c = let s = c .before .before .before in omega (arith, base-short (s .pre .0 .forward) (s .args .i) (s .pre .1 .below))
+mul-base c = let s = c .before .before .before in omega (arith, base-short (s .pre .0 .forward) (s .args .i) (s .pre .1))
+
+shared-slice-read-here : tie.Need-shared-slice-read-here Inv-loop μ-loop
+shared-slice-read-here c = search needs
 
 loop-holds : tie.Need-loop-holds Inv-loop μ-loop
 loop-holds c = (omega arith, row-none _ _ _)
@@ -66,7 +65,8 @@ loop-again : tie.Need-loop-again Inv-loop μ-loop
 loop-again c =
     let t = c .before .before .before in
     let l = t .before .loop in
-    let is = ap (acting (of-turn t .args .acts .now)) (c .before .wide .ensures) ∙ right (of-turn t) (l .e) in
+    let a = of-turn t .args in
+    let is = ap (λ (j : ℕ). acting (a .acts .now) (a .i) && acting (a .acts .now) j) (c .before .wide .ensures) in
     (omega arith, row-more _ (l .e) _ _ _ _ (l .inv .1) (omega (arith, at t)) (ap bit is))
 
 same-length : tie.Need-same-length Inv-loop μ-loop
@@ -82,6 +82,7 @@ active-site-spec =
     Inv-loop
     μ-loop
     mul-base
+    shared-slice-read-here
     loop-holds
     add-b
     mul-wide
