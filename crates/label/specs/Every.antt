@@ -1,16 +1,16 @@
 -- A byte for each site says which components are counted: what is counted by bytes that say the same, and by bytes that are all 1.
 use Prim.Native.Nat.{ℕ, _+_, _≤_, _<_}
-use mathlib.Core.Path.{_≡_, refl, _∙_, ap}
+use mathlib.Core.Path.{_≡_, _∙_, ap}
 use mathlib.Core.Logic.{_⊎_, inl, inr}
 use mathlib.Core.Bool.{Bool, true, _&&_}
 use mathlib.Core.List.{List}
 use native.Mathlib.Omega.{arith}
 use borrow.Author.Tests.{eq-eqb}
 use lib.Dec.{eqb, leb}
-use lib.ListN.{length, getD, take, replicate, getD-replicate}
+use lib.ListN.{length, take, replicate, getD-replicate}
 use lib.Seq.{getD-take}
 use Rattle.lemmas.specs.Counts.{countWhere, count-ext}
-use Rattle.paper.specs.Component.Sizes.{labelOf, counted, everyOne, sizeOf, ofSize, atLeast, Counted, Rank, Largest}
+use Rattle.paper.specs.Component.Sizes.{labelOf, counted, everyOne, sizeOf, atLeast, Rank}
 use Rattle.label.specs.Contract.{isOne, Reported}
 
 -- two marks that are equal at each site count the same
