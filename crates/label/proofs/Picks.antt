@@ -37,40 +37,43 @@ pick-none l tally marks list = record {
   same = λ f. count-none (λ t. f (getD list t 0)) ∙ sym (count-none (λ r. several l tally marks r && f (getD tally r 0)));
 }
 
-module _ {l tally marks : List ℕ} {room : ℕ} {list : List ℕ} {m i : ℕ} (h : Pick l tally marks room list m i) (g : Picking l tally marks room) (il : i < length l) where
-  pub pick-room : m < length list
-  pick-room = omega (arith, h .long, h .short, g .fits)
+module _
+    {l tally marks : List ℕ} {room : ℕ} {list : List ℕ} {m i : ℕ}
+    (h : Pick l tally marks room list m i) (g : Picking l tally marks room) (il : i < length l)
+  where
+    pub pick-room : m < length list
+    pick-room = omega (arith, h .long, h .short, g .fits)
 
-  abbrev new : List ℕ
-  new = set list m (getD tally i 0)
+    abbrev new : List ℕ
+    new = set list m (getD tally i 0)
 
-  before : (t : ℕ) → t < m → getD new t 0 ≡ getD list t 0
-  before t tl = getD-set-other list m t (getD tally i 0) 0 (λ e. lt-irrefl m (rw e at tl))
+    before : (t : ℕ) → t < m → getD new t 0 ≡ getD list t 0
+    before t tl = getD-set-other list m t (getD tally i 0) 0 (λ e. lt-irrefl m (rw e at tl))
 
-  last : getD new m 0 ≡ getD tally i 0
-  last = getD-set-same list m (getD tally i 0) 0 pick-room
+    last : getD new m 0 ≡ getD tally i 0
+    last = getD-set-same list m (getD tally i 0) 0 pick-room
 
-  old : (f : ℕ → Bool) → countWhere (λ t. f (getD new t 0)) m ≡ below l tally marks f i
-  old f = count-ext (λ t. f (getD new t 0)) (λ t. f (getD list t 0)) m (λ t tl. ap f (before t tl)) ∙ h .same f
+    old : (f : ℕ → Bool) → countWhere (λ t. f (getD new t 0)) m ≡ below l tally marks f i
+    old f = count-ext (λ t. f (getD new t 0)) (λ t. f (getD list t 0)) m (λ t tl. ap f (before t tl)) ∙ h .same f
 
-  lows : (b : Bool) (t : ℕ) → t < m + bit b → AfterSet list m (getD tally i 0) t → getD new t 0 ≤ length l
-  lows b t tl (here e q) = rw q (size-le (g .sized) i il)
-  lows b t tl (there ne q) = rw q (h .low t (lt-of-ne (omega (arith, bit-le b)) ne))
+    lows : (b : Bool) (t : ℕ) → t < m + bit b → AfterSet list m (getD tally i 0) t → getD new t 0 ≤ length l
+    lows b t tl (here e q) = rw q (size-le (g .sized) i il)
+    lows b t tl (there ne q) = rw q (h .low t (lt-of-ne (omega (arith, bit-le b)) ne))
 
-  sames : (b : Bool) → several l tally marks i ≡ b → (f : ℕ → Bool) → countWhere (λ t. f (getD new t 0)) (m + bit b) ≡ below l tally marks f (i + 1)
-  sames true e f =
-      count-suc (λ t. f (getD new t 0)) m
-      ∙ (rw (old f, last) (sym (count-suc (λ r. several l tally marks r && f (getD tally r 0)) i ∙ rw e)))
-  sames false e f = rw (add-zero m) (old f ∙ sym (count-no (λ r. several l tally marks r && f (getD tally r 0)) i (rw e)))
+    sames : (b : Bool) → several l tally marks i ≡ b → (f : ℕ → Bool) → countWhere (λ t. f (getD new t 0)) (m + bit b) ≡ below l tally marks f (i + 1)
+    sames true e f =
+        count-suc (λ t. f (getD new t 0)) m
+        ∙ (rw (old f, last) (sym (count-suc (λ r. several l tally marks r && f (getD tally r 0)) i ∙ rw e)))
+    sames false e f = rw (add-zero m) (old f ∙ sym (count-no (λ r. several l tally marks r && f (getD tally r 0)) i (rw e)))
 
-  pub pick-more : (b : Bool) → several l tally marks i ≡ b → (o : ℕ) → o ≡ bit b → Pick l tally marks room new (m + o) (i + 1)
-  pick-more b e o eo = rw eo (record {
-    long = simp length-set (h .long);
-    reached = omega arith;
-    short = omega (arith, h .short, bit-le b);
-    low = λ t tl. lows b t tl (after-set list m (getD tally i 0) t pick-room);
-    same = sames b e;
-  })
+    pub pick-more : (b : Bool) → several l tally marks i ≡ b → (o : ℕ) → o ≡ bit b → Pick l tally marks room new (m + o) (i + 1)
+    pick-more b e o eo = rw eo (record {
+      long = simp length-set (h .long);
+      reached = omega arith;
+      short = omega (arith, h .short, bit-le b);
+      low = λ t tl. lows b t tl (after-set list m (getD tally i 0) t pick-room);
+      same = sames b e;
+    })
 
 pub pick-end : {l tally marks : List ℕ} {room : ℕ} {list : List ℕ} {m i : ℕ} → Pick l tally marks room list m i → length l ≤ i → Picked l tally marks list m
 pick-end {l} {tally} {marks} {room} {list} {m} {i} h e = record {

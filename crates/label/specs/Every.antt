@@ -15,7 +15,8 @@ use Rattle.label.specs.Contract.{isOne, Reported}
 
 -- two marks that are equal at each site count the same
 module _ {f g : ℕ → Bool} {l counts sizes : List ℕ} (same : (r : ℕ) → r < length l → f r ≡ g r) (h : Reported f l counts sizes) where
-  passing : (test : ℕ → Bool) → countWhere (λ r. counted f l r && test (sizeOf l r)) (length l) ≡ countWhere (λ r. counted g l r && test (sizeOf l r)) (length l)
+  passing : (test : ℕ → Bool)
+      → countWhere (λ r. counted f l r && test (sizeOf l r)) (length l) ≡ countWhere (λ r. counted g l r && test (sizeOf l r)) (length l)
   passing test =
       count-ext (λ r. counted f l r && test (sizeOf l r)) (λ r. counted g l r && test (sizeOf l r)) (length l)
       (λ r rl. ap (λ (b : Bool). (eqb (labelOf l r) r && b) && test (sizeOf l r)) (same r rl))

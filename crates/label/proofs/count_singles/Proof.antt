@@ -57,8 +57,11 @@ loop-less : tie.Need-loop-less Inv-loop μ-loop
 loop-less c = search needs
 
 loop-again : tie.Need-loop-again Inv-loop μ-loop
-loop-again c = let t = c .before .before .before in let s = S t in
-    (omega arith, rw (t .before .loop .inv .1) (sym (count-suc (single (s .args .labels .now) (s .args .tally .now) (s .args .marks .now)) (t .before .loop .i))))
+loop-again c =
+    let t = c .before .before .before in
+    let s = S t in
+    let f = single (s .args .labels .now) (s .args .tally .now) (s .args .marks .now) in
+    (omega arith, rw (t .before .loop .inv .1) (sym (count-suc f (t .before .loop .i))))
 
 returns : tie.Need-returns Inv-loop μ-loop
 returns c = c .before .loop .inv .1 ∙ ap (countWhere _) (le-antisymm (c .before .loop .inv .0) (c .loop-test .left))

@@ -26,7 +26,9 @@ room c = pick-room (c .before .loop .inv) (S c .pre) (c .loop-test .taken)
 
 -- the test of a site's label and size, where the label is z
 abbrev test : tie.In-loop Inv-loop μ-loop → ℕ → Bool
-test t z = (eqb z (t .before .loop .i) && isOne (S t .args .marks .now) (t .before .loop .i)) && not (eqb (getD (S t .args .tally .now) (t .before .loop .i) 0) 1)
+test t z =
+    (eqb z (t .before .loop .i) && isOne (S t .args .marks .now) (t .before .loop .i))
+    && not (eqb (getD (S t .args .tally .now) (t .before .loop .i) 0) 1)
 
 abbrev own : tie.After-wide Inv-loop μ-loop → Bool
 own c = test (c .before .before .before) (c .wide .result)
