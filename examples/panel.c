@@ -15,7 +15,7 @@ static const float CUTS[8] = {2.7726f, 1.6740f, 1.1632f, 0.8267f, 0.5754f, 0.374
 /* what a sweep writes */
 struct outputs {
     int8_t spins[S * N];
-    uint32_t labels[TASKS * N], grey_labels[TASKS * N], counts[TASKS * (N + 1)], sizes[TASKS * 4], tally[2];
+    uint32_t labels[TASKS * N], grey_labels[TASKS * N], counts[TASKS * (N + 1)], sizes[TASKS * 4], outcomes[2];
 };
 
 /* the draws of one sweep, for every mode */
@@ -84,7 +84,7 @@ static uint8_t sweep(uint8_t mode, const struct choices *c, struct outputs *o) {
         .grey_labels = o->grey_labels, .grey_labels_len = TASKS * N,
         .counts = o->counts, .counts_len = TASKS * (N + 1),
         .sizes = o->sizes, .sizes_len = TASKS * 4,
-        .tally = o->tally, .tally_len = 2,
+        .outcomes = o->outcomes, .outcomes_len = 2,
     };
     return tsorvenk_sweep_with(&args);
 }
@@ -112,7 +112,7 @@ static void print_sweep(uint8_t mode, uint8_t code, const struct outputs *o) {
         printf("%s: refused with %d\n", NAMES[mode], code);
         return;
     }
-    printf("%s: %u idle, %u moved; largest components", NAMES[mode], (unsigned)o->tally[0], (unsigned)o->tally[1]);
+    printf("%s: %u idle, %u moved; largest components", NAMES[mode], (unsigned)o->outcomes[0], (unsigned)o->outcomes[1]);
     for (int k = 0; k < TASKS; k++)
         printf("%s %u %u %u %u", k ? "," : "", (unsigned)o->sizes[k * 4], (unsigned)o->sizes[k * 4 + 1],
             (unsigned)o->sizes[k * 4 + 2], (unsigned)o->sizes[k * 4 + 3]);

@@ -107,7 +107,7 @@ uint8_t tsorvenk_step(uint8_t mode, uint8_t form, size_t n, size_t d, size_t s,
  *   grey_labels   K * n                                            SW and Wolff of CMR
  *   counts        K * (n + 1)
  *   sizes         K * 4
- *   tally         2: how many unmasked tasks were idle, and how many were not, even if every choice was 0
+ *   outcomes      2: how many unmasked tasks were idle, and how many were not, even if every choice was 0
  *   spins         the rows of the groups of unmasked tasks
  *
  * Tests 1 to 7 and the mask bytes (9) are made over the whole sweep, masked temperatures too, then 8, 9 and 10 of each
@@ -122,7 +122,7 @@ uint8_t tsorvenk_sweep(uint8_t mode, uint8_t form, size_t n, size_t d, size_t s,
     const uint32_t *seeds, size_t seeds_len,
     const uint8_t *flips, size_t flips_len, const uint8_t *perms, size_t perms_len, const uint8_t *greys, size_t greys_len,
     uint32_t *labels, size_t labels_len, uint32_t *grey_labels, size_t grey_labels_len,
-    uint32_t *counts, size_t counts_len, uint32_t *sizes, size_t sizes_len, uint32_t *tally, size_t tally_len);
+    uint32_t *counts, size_t counts_len, uint32_t *sizes, size_t sizes_len, uint32_t *outcomes, size_t outcomes_len);
 
 /* The energy of one system: minus the sum over all n * d bonds of the coupling times both spins.
  *
@@ -247,8 +247,8 @@ struct tsorvenk_sweep_args {
     size_t counts_len;
     uint32_t *sizes;
     size_t sizes_len;
-    uint32_t *tally;
-    size_t tally_len;
+    uint32_t *outcomes;
+    size_t outcomes_len;
 };
 
 struct tsorvenk_energy_args {
@@ -310,7 +310,7 @@ static inline uint8_t tsorvenk_sweep_with(const struct tsorvenk_sweep_args *args
         TSORVENK_LENT(temperatures, no_f32), TSORVENK_LENT(cuts, no_f32), TSORVENK_LENT(references, no_u32),
         TSORVENK_LENT(seeds, no_u32), TSORVENK_LENT(flips, no_u8), TSORVENK_LENT(perms, no_u8),
         TSORVENK_LENT(greys, no_u8), TSORVENK_LENT(labels, no_u32), TSORVENK_LENT(grey_labels, no_u32),
-        TSORVENK_LENT(counts, no_u32), TSORVENK_LENT(sizes, no_u32), TSORVENK_LENT(tally, no_u32));
+        TSORVENK_LENT(counts, no_u32), TSORVENK_LENT(sizes, no_u32), TSORVENK_LENT(outcomes, no_u32));
 }
 
 static inline uint8_t tsorvenk_energy_with(const struct tsorvenk_energy_args *args) {

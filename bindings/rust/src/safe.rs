@@ -63,7 +63,7 @@ pub fn step(call: Step) -> Result<Stepped, Refusal> {
 #[inline]
 #[rustfmt::skip]
 pub fn sweep(call: Sweep) -> Result<Swept, Refusal> {
-    let mut tally = [0u32; 2];
+    let mut outcomes = [0u32; 2];
     let number = unsafe {
         tsorvenk_sweep(
             call.mode as u8, call.form as u8, call.n, call.d, call.s, call.t, call.r, call.members,
@@ -77,11 +77,11 @@ pub fn sweep(call: Sweep) -> Result<Swept, Refusal> {
             call.greys.as_ptr(), call.greys.len(),
             call.labels.as_mut_ptr(), call.labels.len(), call.grey_labels.as_mut_ptr(), call.grey_labels.len(),
             call.counts.as_mut_ptr(), call.counts.len(), call.sizes.as_mut_ptr(), call.sizes.len(),
-            tally.as_mut_ptr(), tally.len(),
+            outcomes.as_mut_ptr(), outcomes.len(),
         )
     };
     match number {
-        0 => Ok(Swept { idle: tally[0], moved: tally[1] }),
+        0 => Ok(Swept { idle: outcomes[0], moved: outcomes[1] }),
         number => Err(Refusal { number }),
     }
 }

@@ -53,14 +53,14 @@ uint8_t tsorvenk_sweep(uint8_t mode, uint8_t form, size_t n, size_t d, size_t s,
     const uint32_t *seeds, size_t seeds_len,
     const uint8_t *flips, size_t flips_len, const uint8_t *perms, size_t perms_len, const uint8_t *greys, size_t greys_len,
     uint32_t *labels, size_t labels_len, uint32_t *grey_labels, size_t grey_labels_len,
-    uint32_t *counts, size_t counts_len, uint32_t *sizes, size_t sizes_len, uint32_t *tally, size_t tally_len) {
+    uint32_t *counts, size_t counts_len, uint32_t *sizes, size_t sizes_len, uint32_t *outcomes, size_t outcomes_len) {
     NUMBER(sweep, mode), NUMBER(sweep, form), NUMBER(sweep, n), NUMBER(sweep, d), NUMBER(sweep, s);
     NUMBER(sweep, t), NUMBER(sweep, r), NUMBER(sweep, members);
     BUFFER(sweep, spins), BUFFER(sweep, fwd), BUFFER(sweep, bwd), BUFFER(sweep, couplings), BUFFER(sweep, order);
     BUFFER(sweep, masks), BUFFER(sweep, temperatures), BUFFER(sweep, cuts), BUFFER(sweep, references);
     BUFFER(sweep, seeds), BUFFER(sweep, flips), BUFFER(sweep, perms), BUFFER(sweep, greys);
     BUFFER(sweep, labels), BUFFER(sweep, grey_labels), BUFFER(sweep, counts), BUFFER(sweep, sizes);
-    BUFFER(sweep, tally);
+    BUFFER(sweep, outcomes);
     return 102;
 }
 
@@ -105,7 +105,7 @@ int main(void) {
         .references = u32 + 3, .references_len = 18, .seeds = u32 + 4, .seeds_len = 19,
         .flips = u8 + 1, .flips_len = 20, .perms = u8 + 2, .perms_len = 21, .greys = u8 + 3, .greys_len = 22,
         .labels = u32 + 5, .labels_len = 23, .grey_labels = u32 + 6, .grey_labels_len = 24,
-        .counts = u32 + 7, .counts_len = 25, .sizes = u32 + 8, .sizes_len = 26, .tally = u32 + 9, .tally_len = 27,
+        .counts = u32 + 7, .counts_len = 25, .sizes = u32 + 8, .sizes_len = 26, .outcomes = u32 + 9, .outcomes_len = 27,
     };
     energy_of = (struct tsorvenk_energy_args){
         .n = 1, .d = 2, .s = 3, .system = 4,
