@@ -1,0 +1,6 @@
+-- xoshiro256** and what is drawn by it: words, numbers, permutations, fills. Then the laws of draws, and that each function has one result.
+pub mod Words
+pub mod Draw
+pub mod Rows
+pub mod Fill
+pub mod Numbers

@@ -1,0 +1,18 @@
+-- Laws of a number drawn: it is below m.
+use Prim.Native.Nat.{ℕ, zero, suc, _%_, _≤_, _<_}
+use mathlib.Core.Bool.{Bool, true, false, cond}
+use native.Mathlib.Nat.{mod-lt}
+use lib.Dec.{ltb}
+use Rattle.draws.specs.declared.Source.{Source}
+use Rattle.draws.specs.Words.{word, next, drawn}
+use Rattle.draws.specs.Draw.{high, limit, tried}
+
+-- also of a refusal, whose value is 0
+pub tried-below : (lent : Source) (k m : ℕ) (s : Source) → 1 ≤ m → tried lent k m s .value < m
+unfolding tried
+tried-below lent zero m s p = p
+tried-below lent (suc k) m s p = side (ltb (high (word s)) (limit m)) (tried-below lent k m (next s) p)
+  where
+    side : (b : Bool) → tried lent k m (next s) .value < m → cond b (drawn 0 (high (word s) % m) (next s)) (tried lent k m (next s)) .value < m
+    side true h = mod-lt (high (word s)) p
+    side false h = h
