@@ -2,6 +2,7 @@
 use Prim.Native.Nat.{ℕ, _≤_}
 use mathlib.Core.Path.{_≡_, refl, sym, _∙_}
 use mathlib.Core.Bool.{Bool, true, false, not, _&&_}
+use native.Mathlib.Omega.{arith}
 use borrow.Author.Tests.{leb-true, not-true, not-false}
 use lib.Dec.{leb}
 use Rattle.draws.specs.Draw.{Within}
@@ -31,3 +32,6 @@ within-low a b x h = leb-true a x (both-left (leb a x) (leb x b) h)
 
 pub within-top : (a b x : ℕ) → Within a b x → x ≤ b
 within-top a b x h = leb-true x b (both-right (leb a x) (leb x b) h)
+
+pub clash : {v : Bool} → v ≡ true → v ≡ false → ⊥
+clash {v} p q = let z : _≡_ {A = ℕ} 0 1 = cc in omega arith

@@ -1,8 +1,9 @@
 -- A fill: single draws in order, into a lent buffer. Refused, nothing is written and the source is as lent.
 use Prim.Native.Nat.{ℕ, zero, suc, _+_, _/_, _%_, _<_}
 use mathlib.Core.Path.{_≡_}
-use mathlib.Core.Bool.{Bool}
-use mathlib.Core.List.{List, [], _∷_, _++_}
+use mathlib.Core.Bool.{Bool, true, cond}
+use mathlib.Core.List.{List, [], _∷_}
+use lib.Dec.{eqb}
 use lib.ListN.{length, getD}
 use Rattle.paper.specs.Refusal.Rule.{Rule, rule, Kept, Broken}
 use Rattle.draws.specs.declared.Source.{Source}
@@ -41,7 +42,7 @@ abbrev pub Fills : List Rule → (ℕ → ℕ) → Source → Source → List �
 Fills rs at t s xs zero u ys = Accepts rs at t xs u ys
 Fills rs at t s xs (suc c) u ys = Refuses rs (suc c) s xs u ys
 
--- place j is the value of draw j
+-- by the draws d: place j is the value of draw j
 module _ (d : Source → Drawn) where
   abbrev pub goOn : Source → Source
   goOn s = d s .source
@@ -53,10 +54,9 @@ module _ (d : Source → Drawn) where
   numberAt s j = d (stop goOn j s) .value
 
   abbrev pub FillsBy : List Rule → Source → List ℕ → Left → List ℕ → Type 0
-  FillsBy rs s xs l ys =
-      Fills (rs ++ (rule 12 (NumbersGo (length xs) s) ∷ [])) (numberAt s) (stop goOn (length xs) s) s xs (l .refusal) (l .source) ys
+  FillsBy rs s xs l ys = Fills rs (numberAt s) (stop goOn (length xs) s) s xs (l .refusal) (l .source) ys
 
--- place j is place j % n of the row j / n
+-- by rows of n: place j is place j % n of the row j / n
 module _ (moving : Bool) (n : ℕ) where
   abbrev pub goDown : Source → Source
   goDown s = rowBy moving n s .source
@@ -68,18 +68,23 @@ module _ (moving : Bool) (n : ℕ) where
   entryAt s j = getD (rowBy moving n (stop goDown (j / n) s) .row) (j % n) 0
 
   abbrev pub FillsRows : List Rule → Source → List ℕ → Left → List ℕ → Type 0
-  FillsRows rs s xs l ys =
-      Fills (rs ++ (rule 12 (RowsGo (length xs / n) s) ∷ [])) (entryAt s) (stop goDown (length xs / n) s) s xs (l .refusal) (l .source) ys
+  FillsRows rs s xs l ys = Fills rs (entryAt s) (stop goDown (length xs / n) s) s xs (l .refusal) (l .source) ys
 
--- the refusals before that of 64 words, in their order
-abbrev pub live : Source → List Rule
-live s = rule 12 (Live s) ∷ []
+-- the refusals in their order, where `fits` says whether the buffer's length will do. A word is never taken again
+abbrev pub wordRules : Bool → Source → List Rule
+wordRules fits s = rule 12 (Live s) ∷ rule 2 (fits ≡ true) ∷ []
 
-abbrev pub ranged : ℕ → ℕ → Source → List Rule
-ranged top m s = rule 12 (Live s) ∷ rule 12 (Within 1 top m) ∷ []
+-- of `len` numbers below m, which is 1 to `most`
+abbrev pub numberRules : Bool → ℕ → ℕ → ℕ → Source → List Rule
+numberRules fits most m len s = rule 12 (Live s) ∷ rule 12 (Within 1 most m) ∷ rule 2 (fits ≡ true) ∷ rule 12 (NumbersGo (number m) len s) ∷ []
 
-abbrev pub whole : ℕ → Source → List ℕ → List Rule
-whole n s xs = rule 12 (Live s) ∷ rule 12 (Within 2 8 n) ∷ rule 2 (length xs % n ≡ 0) ∷ []
+-- one row, or any number of whole rows
+abbrev pub rowsFit : Bool → ℕ → ℕ → Bool
+rowsFit single n len = cond single (eqb len n) (eqb (len % n) 0)
+
+abbrev pub rowRules : Bool → Bool → ℕ → ℕ → Source → List Rule
+rowRules single moving n len s =
+    rule 12 (Live s) ∷ rule 12 (Within 2 8 n) ∷ rule 2 (rowsFit single n len ≡ true) ∷ rule 12 (RowsGo moving n (len / n) s) ∷ []
 
 -- 1 plus a number below 3
 abbrev pub grey : Source → Drawn

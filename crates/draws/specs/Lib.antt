@@ -3,4 +3,5 @@ pub mod Words
 pub mod Draw
 pub mod Rows
 pub mod Fill
+pub mod Writing
 pub mod Numbers

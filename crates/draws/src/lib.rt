@@ -1,7 +1,7 @@
 // Draws that can be repeated: xoshiro256** of Blackman and Vigna. A source is handed in and handed back, by value.
-
+pub mod fills;
+mod passes;
 mod rows;
-
 
 ghost use mathlib.Core.Path.{_≡_};
 ghost use Prim.Native.Nat.{_*_, _%_, _^_, _≤_};
