@@ -5,3 +5,4 @@ pub mod Rows
 pub mod Fill
 pub mod Writing
 pub mod Numbers
+pub mod Determined

@@ -1,4 +1,5 @@
 // Fills of lent buffers, for any caller. All draws are tried before any is written, so that a refusal writes nothing.
+use super::Drawn;
 use super::Left;
 use super::Source;
 use super::limit_of;
@@ -9,17 +10,45 @@ use super::passes::write_bytes;
 use super::passes::write_flips;
 use super::passes::write_numbers;
 use super::passes::write_rows;
+use super::step;
 use super::wide;
 ghost use mathlib.Core.Bool.{true, false};
+ghost use lib.Dec.{eqb};
 ghost use lib.ListN.{length};
+ghost use Rattle.draws.specs.Words.{stepped};
 ghost use Rattle.draws.specs.Draw.{number, flipped};
 ghost use Rattle.draws.specs.Fill.{FillsBy, FillsRows, wordRules, numberRules, rowRules, grey};
 
-// Coins.
-pub fn fill_flips(source: Source, flips: &mut [u8]) -> Left
-    ensures { λ r. ⌜ FillsBy flipped (wordRules true source) source (now (flips .entry)) r (now (flips .exit)) ⌝ }
+// A word, into a buffer of one.
+pub fn one_word(source: Source, word: &mut [u64]) -> Left
+    ensures { λ r. ⌜ FillsBy stepped
+        (wordRules (eqb (length (now (word .entry))) 1) source)
+        source
+        (now (word .entry))
+        r
+        (now (word .exit)) ⌝ }
 {
-    let refusal = word_verdict(true, source);
+    let refusal = word_verdict(word.len() == 1, source);
+    if refusal != 0 {
+        return Left {
+            refusal,
+            source,
+        };
+    }
+    let d = step(source);
+    word[0] = d.value;
+    let next = d.source;
+    Left {
+        refusal: 0,
+        source: next,
+    }
+}
+
+// `fits` says whether the buffer's length will do.
+fn flips_if(fits: bool, source: Source, flips: &mut [u8]) -> Left
+    ensures { λ r. ⌜ FillsBy flipped (wordRules fits source) source (now (flips .entry)) r (now (flips .exit)) ⌝ }
+{
+    let refusal = word_verdict(fits, source);
     if refusal != 0 {
         return Left {
             refusal,
@@ -32,16 +61,34 @@ pub fn fill_flips(source: Source, flips: &mut [u8]) -> Left
     }
 }
 
-// Numbers below m, of 1 to 4,096.
-pub fn fill_below(source: Source, m: u32, numbers: &mut [u32]) -> Left
+// Coins.
+pub fn fill_flips(source: Source, flips: &mut [u8]) -> Left
+    ensures { λ r. ⌜ FillsBy flipped (wordRules true source) source (now (flips .entry)) r (now (flips .exit)) ⌝ }
+{
+    flips_if(true, source, flips)
+}
+
+// A coin, into a buffer of one.
+pub fn one_coin(source: Source, coin: &mut [u8]) -> Left
+    ensures { λ r. ⌜ FillsBy flipped
+        (wordRules (eqb (length (now (coin .entry))) 1) source)
+        source
+        (now (coin .entry))
+        r
+        (now (coin .exit)) ⌝ }
+{
+    flips_if(coin.len() == 1, source, coin)
+}
+
+fn below_if(fits: bool, source: Source, m: u32, numbers: &mut [u32]) -> Left
     ensures { λ r. ⌜ FillsBy (number m)
-        (numberRules true 4096 m (length (now (numbers .entry))) source)
+        (numberRules fits 4096 m (length (now (numbers .entry))) source)
         source
         (now (numbers .entry))
         r
         (now (numbers .exit)) ⌝ }
 {
-    let refusal = number_verdict(true, 4096, m, numbers.len(), source);
+    let refusal = number_verdict(fits, 4096, m, numbers.len(), source);
     if refusal != 0 {
         return Left {
             refusal,
@@ -54,6 +101,30 @@ pub fn fill_below(source: Source, m: u32, numbers: &mut [u32]) -> Left
         refusal: 0,
         source: write_numbers(n, top, source, numbers),
     }
+}
+
+// Numbers below m, of 1 to 4,096.
+pub fn fill_below(source: Source, m: u32, numbers: &mut [u32]) -> Left
+    ensures { λ r. ⌜ FillsBy (number m)
+        (numberRules true 4096 m (length (now (numbers .entry))) source)
+        source
+        (now (numbers .entry))
+        r
+        (now (numbers .exit)) ⌝ }
+{
+    below_if(true, source, m, numbers)
+}
+
+// A number below m, into a buffer of one.
+pub fn one_below(source: Source, m: u32, one: &mut [u32]) -> Left
+    ensures { λ r. ⌜ FillsBy (number m)
+        (numberRules (eqb (length (now (one .entry))) 1) 4096 m (length (now (one .entry))) source)
+        source
+        (now (one .entry))
+        r
+        (now (one .exit)) ⌝ }
+{
+    below_if(one.len() == 1, source, m, one)
 }
 
 // Numbers below m, of 1 to 256, so that each is a byte.
@@ -146,4 +217,16 @@ pub fn wolff_permutations(source: Source, members: usize, rows: &mut [u8]) -> Le
         (now (rows .exit)) ⌝ }
 {
     fill_rows(false, true, source, members, rows)
+}
+
+// A permutation, into a buffer of its length.
+pub fn one_permutation(source: Source, members: usize, row: &mut [u8]) -> Left
+    ensures { λ r. ⌜ FillsRows false members
+        (rowRules true false members (length (now (row .entry))) source)
+        source
+        (now (row .entry))
+        r
+        (now (row .exit)) ⌝ }
+{
+    fill_rows(true, false, source, members, row)
 }

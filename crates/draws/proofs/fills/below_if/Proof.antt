@@ -1,8 +1,7 @@
--- `fill_below` meets its contract: refused by the verdict, or written.
+-- `below_if` meets its contract: refused by the verdict, or written.
 use borrow.Author.Needs.{needs}
 use Prim.Native.Nat.{ℕ, _+_, _≤_}
 use mathlib.Core.Path.{_≡_, subst}
-use mathlib.Core.Bool.{true}
 use mathlib.Core.List.{List}
 use native.Mathlib.Omega.{arith}
 use lib.ListN.{length}
@@ -11,8 +10,8 @@ use Rattle.draws.specs.Draw.{number, Within}
 use Rattle.draws.specs.Fill.{stop, goOn, numberAt, numberRules, Written}
 use Rattle.draws.proofs.Choosing.{within-low, within-top}
 use Rattle.draws.proofs.Answering.{fills-refused, fills-written}
-use Rattle.draws.proofs.fills.fill_below.Statement.{statement}
-use Rattle.draws.proofs.fills.fill_below.Tie as tie
+use Rattle.draws.proofs.fills.below_if.Statement.{statement}
+use Rattle.draws.proofs.fills.below_if.Tie as tie
 
 abbrev A : tie.After-number-verdict → tie.Start
 A v = v .before .before
@@ -26,7 +25,7 @@ returns c =
     let a = A v .args in
     let s = a .source in
     let xs = a .numbers .now in
-    fills-refused (numberRules true 4096 (a .m) (length xs) s) (numberAt (number (a .m)) s) (stop (goOn (number (a .m))) (length xs) s) s xs
+    fills-refused (numberRules (a .fits) 4096 (a .m) (length xs) s) (numberAt (number (a .m)) s) (stop (goOn (number (a .m))) (length xs) s) s xs
     (v .number-verdict .result) (v .number-verdict .ensures) (c .if1 .taken)
 
 wide-requires : tie.Need-wide-requires
@@ -37,7 +36,7 @@ ranged c =
     let v = c .before in
     let a = A v .args in
     let s = a .source in
-    subst (λ (x : ℕ). Verdict (numberRules true 4096 (a .m) (length (a .numbers .now)) s) x) (c .if1 .left) (v .number-verdict .ensures) .1 .0
+    subst (λ (x : ℕ). Verdict (numberRules (a .fits) 4096 (a .m) (length (a .numbers .now)) s) x) (c .if1 .left) (v .number-verdict .ensures) .1 .0
 
 some : (c : tie.After-wide) → 1 ≤ c .wide .result
 some c = rw (c .wide .ensures) (within-low 1 4096 _ (ranged (c .before)))
@@ -65,12 +64,12 @@ returns-2 c =
     let a = A v .args in
     let s = a .source in
     let xs = a .numbers .now in
-    fills-written (numberRules true 4096 (a .m) (length xs) s) (numberAt (number (a .m)) s) (stop (goOn (number (a .m))) (length xs) s) s xs
+    fills-written (numberRules (a .fits) 4096 (a .m) (length xs) s) (numberAt (number (a .m)) s) (stop (goOn (number (a .m))) (length xs) s) s xs
     (v .number-verdict .result) (v .number-verdict .ensures) (e .if1 .left)
     (subst (λ (m : ℕ). Written (numberAt (number m) s) (stop (goOn (number m)) (length xs) s) xs (w .write-numbers .result) (w .write-numbers .last .1 .1 .1 .0)) (d .wide .ensures) (w .write-numbers .ensures))
 
-pub fill-below-spec : {M : Type 1} → statement M
-fill-below-spec =
+pub below-if-spec : {M : Type 1} → statement M
+below-if-spec =
     tie.close
     (tie.spec
     number-verdict-requires
