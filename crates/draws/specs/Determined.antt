@@ -17,6 +17,8 @@ use Rattle.draws.specs.declared.Left.{Left}
 use Rattle.draws.specs.Words.{source, stepped, isBlank}
 use Rattle.draws.specs.Draw.{left, number, flipped, within, newOf, wordOf, coinOf, belowOf}
 use Rattle.draws.specs.Rows.{refusedRow, permuted, rowBy, permutationOf}
+use Rattle.draws.specs.Promise.{WordDrawn, CoinDrawn, BelowDrawn, PermutationDrawn, FlipsFilled, BelowFilled, BytesFilled}
+use Rattle.draws.specs.Promise.{PermutationsFilled, WolffFilled, GreysFilled}
 use Rattle.draws.specs.Fill.{Written, Fills, FillsBy, FillsRows, numberAt, entryAt, stop, goOn, goDown, grey, wordRules, numberRules, rowRules}
 
 pub new-determined : (a b c d : ℕ) (x y : Left) → x ≡ newOf (source a b c d) → y ≡ newOf (source a b c d) → x ≡ y
@@ -114,46 +116,39 @@ module _ (rs : List Rule) (at : ℕ → ℕ) (t s : Source) (xs : List ℕ) wher
       (x y : Left) (ys zs : List ℕ) → Fills rs at t s xs (x .refusal) (x .source) ys → Fills rs at t s xs (y .refusal) (y .source) zs → Same x y ys zs
   fills-determined x y ys zs p q = by-number (x .refusal) (y .refusal) p q
 
-module _ (d : Source → Drawn) (rs : List Rule) (s : Source) (xs : List ℕ) where
-  fills-by-determined : (x y : Left) (ys zs : List ℕ) → FillsBy d rs s xs x ys → FillsBy d rs s xs y zs → Same x y ys zs
-  fills-by-determined = fills-determined rs (numberAt d s) (stop (goOn d) (length xs) s) s xs
-
 module _ (s : Source) (xs : List ℕ) (x y : Left) (ys zs : List ℕ) where
-  pub one-word-determined : FillsBy stepped (wordRules (eqb (length xs) 1) s) s xs x ys → FillsBy stepped (wordRules (eqb (length xs) 1) s) s xs y zs → Same x y ys zs
-  one-word-determined = fills-by-determined stepped (wordRules (eqb (length xs) 1) s) s xs x y ys zs
-
-  pub one-coin-determined : FillsBy flipped (wordRules (eqb (length xs) 1) s) s xs x ys → FillsBy flipped (wordRules (eqb (length xs) 1) s) s xs y zs → Same x y ys zs
-  one-coin-determined = fills-by-determined flipped (wordRules (eqb (length xs) 1) s) s xs x y ys zs
-
-  pub fill-flips-determined : FillsBy flipped (wordRules true s) s xs x ys → FillsBy flipped (wordRules true s) s xs y zs → Same x y ys zs
-  fill-flips-determined = fills-by-determined flipped (wordRules true s) s xs x y ys zs
-
-  pub one-below-determined : (m : ℕ) → FillsBy (number m) (numberRules (eqb (length xs) 1) 4096 m (length xs) s) s xs x ys → FillsBy (number m) (numberRules (eqb (length xs) 1) 4096 m (length xs) s) s xs y zs → Same x y ys zs
-  one-below-determined m = fills-by-determined (number m) (numberRules (eqb (length xs) 1) 4096 m (length xs) s) s xs x y ys zs
-
-  pub fill-below-determined : (m : ℕ) → FillsBy (number m) (numberRules true 4096 m (length xs) s) s xs x ys → FillsBy (number m) (numberRules true 4096 m (length xs) s) s xs y zs → Same x y ys zs
-  fill-below-determined m = fills-by-determined (number m) (numberRules true 4096 m (length xs) s) s xs x y ys zs
-
-  pub fill-bytes-below-determined : (m : ℕ) → FillsBy (number m) (numberRules true 256 m (length xs) s) s xs x ys → FillsBy (number m) (numberRules true 256 m (length xs) s) s xs y zs → Same x y ys zs
-  fill-bytes-below-determined m = fills-by-determined (number m) (numberRules true 256 m (length xs) s) s xs x y ys zs
-
-  pub wolff-greys-determined : FillsBy grey (numberRules true 3 3 (length xs) s) s xs x ys → FillsBy grey (numberRules true 3 3 (length xs) s) s xs y zs → Same x y ys zs
-  wolff-greys-determined = fills-by-determined grey (numberRules true 3 3 (length xs) s) s xs x y ys zs
+  by-draws : (d : Source → Drawn) (rs : List Rule) → FillsBy d rs s xs x ys → FillsBy d rs s xs y zs → Same x y ys zs
+  by-draws d rs = fills-determined rs (numberAt d s) (stop (goOn d) (length xs) s) s xs x y ys zs
 
   by-rows : (moving : Bool) (n : ℕ) (rs : List Rule) → FillsRows moving n rs s xs x ys → FillsRows moving n rs s xs y zs → Same x y ys zs
   by-rows moving n rs = fills-determined rs (entryAt moving n s) (stop (goDown moving n) (length xs / n) s) s xs x y ys zs
 
-  pub one-permutation-determined :
-      (n : ℕ) → FillsRows false n (rowRules true false n (length xs) s) s xs x ys → FillsRows false n (rowRules true false n (length xs) s) s xs y zs
-      → Same x y ys zs
-  one-permutation-determined n = by-rows false n (rowRules true false n (length xs) s)
+  pub one-word-determined : WordDrawn s xs x ys → WordDrawn s xs y zs → Same x y ys zs
+  one-word-determined = by-draws stepped (wordRules (eqb (length xs) 1) s)
 
-  pub fill-permutations-determined :
-      (n : ℕ) → FillsRows false n (rowRules false false n (length xs) s) s xs x ys → FillsRows false n (rowRules false false n (length xs) s) s xs y zs
-      → Same x y ys zs
-  fill-permutations-determined n = by-rows false n (rowRules false false n (length xs) s)
+  pub one-coin-determined : CoinDrawn s xs x ys → CoinDrawn s xs y zs → Same x y ys zs
+  one-coin-determined = by-draws flipped (wordRules (eqb (length xs) 1) s)
 
-  pub wolff-permutations-determined :
-      (n : ℕ) → FillsRows true n (rowRules false true n (length xs) s) s xs x ys → FillsRows true n (rowRules false true n (length xs) s) s xs y zs
-      → Same x y ys zs
-  wolff-permutations-determined n = by-rows true n (rowRules false true n (length xs) s)
+  pub fill-flips-determined : FlipsFilled s xs x ys → FlipsFilled s xs y zs → Same x y ys zs
+  fill-flips-determined = by-draws flipped (wordRules true s)
+
+  pub one-below-determined : (m : ℕ) → BelowDrawn s xs x ys m → BelowDrawn s xs y zs m → Same x y ys zs
+  one-below-determined m = by-draws (number m) (numberRules (eqb (length xs) 1) 4096 m (length xs) s)
+
+  pub fill-below-determined : (m : ℕ) → BelowFilled s xs x ys m → BelowFilled s xs y zs m → Same x y ys zs
+  fill-below-determined m = by-draws (number m) (numberRules true 4096 m (length xs) s)
+
+  pub fill-bytes-below-determined : (m : ℕ) → BytesFilled s xs x ys m → BytesFilled s xs y zs m → Same x y ys zs
+  fill-bytes-below-determined m = by-draws (number m) (numberRules true 256 m (length xs) s)
+
+  pub wolff-greys-determined : GreysFilled s xs x ys → GreysFilled s xs y zs → Same x y ys zs
+  wolff-greys-determined = by-draws grey (numberRules true 3 3 (length xs) s)
+
+  pub one-permutation-determined : (m : ℕ) → PermutationDrawn s xs x ys m → PermutationDrawn s xs y zs m → Same x y ys zs
+  one-permutation-determined m = by-rows false m (rowRules true false m (length xs) s)
+
+  pub fill-permutations-determined : (m : ℕ) → PermutationsFilled s xs x ys m → PermutationsFilled s xs y zs m → Same x y ys zs
+  fill-permutations-determined m = by-rows false m (rowRules false false m (length xs) s)
+
+  pub wolff-permutations-determined : (m : ℕ) → WolffFilled s xs x ys m → WolffFilled s xs y zs m → Same x y ys zs
+  wolff-permutations-determined m = by-rows true m (rowRules false true m (length xs) s)

@@ -3,6 +3,7 @@ pub mod Words
 pub mod Draw
 pub mod Rows
 pub mod Fill
+pub mod Promise
 pub mod Writing
 pub mod Numbers
 pub mod Determined

@@ -12,21 +12,15 @@ use super::passes::write_numbers;
 use super::passes::write_rows;
 use super::step;
 use super::wide;
-ghost use mathlib.Core.Bool.{true, false};
-ghost use lib.Dec.{eqb};
 ghost use lib.ListN.{length};
-ghost use Rattle.draws.specs.Words.{stepped};
 ghost use Rattle.draws.specs.Draw.{number, flipped};
-ghost use Rattle.draws.specs.Fill.{FillsBy, FillsRows, wordRules, numberRules, rowRules, grey};
+ghost use Rattle.draws.specs.Fill.{FillsBy, FillsRows, wordRules, numberRules, rowRules};
+ghost use Rattle.draws.specs.Promise.{WordDrawn, CoinDrawn, BelowDrawn, PermutationDrawn, FlipsFilled, BelowFilled, BytesFilled};
+ghost use Rattle.draws.specs.Promise.{PermutationsFilled, WolffFilled, GreysFilled};
 
 // A word, into a buffer of one.
 pub fn one_word(source: Source, word: &mut [u64]) -> Left
-    ensures { λ r. ⌜ FillsBy stepped
-        (wordRules (eqb (length (now (word .entry))) 1) source)
-        source
-        (now (word .entry))
-        r
-        (now (word .exit)) ⌝ }
+    ensures { λ r. ⌜ WordDrawn source (now (word .entry)) r (now (word .exit)) ⌝ }
 {
     let refusal = word_verdict(word.len() == 1, source);
     if refusal != 0 {
@@ -63,19 +57,14 @@ fn flips_if(fits: bool, source: Source, flips: &mut [u8]) -> Left
 
 // Coins.
 pub fn fill_flips(source: Source, flips: &mut [u8]) -> Left
-    ensures { λ r. ⌜ FillsBy flipped (wordRules true source) source (now (flips .entry)) r (now (flips .exit)) ⌝ }
+    ensures { λ r. ⌜ FlipsFilled source (now (flips .entry)) r (now (flips .exit)) ⌝ }
 {
     flips_if(true, source, flips)
 }
 
 // A coin, into a buffer of one.
 pub fn one_coin(source: Source, coin: &mut [u8]) -> Left
-    ensures { λ r. ⌜ FillsBy flipped
-        (wordRules (eqb (length (now (coin .entry))) 1) source)
-        source
-        (now (coin .entry))
-        r
-        (now (coin .exit)) ⌝ }
+    ensures { λ r. ⌜ CoinDrawn source (now (coin .entry)) r (now (coin .exit)) ⌝ }
 {
     flips_if(coin.len() == 1, source, coin)
 }
@@ -105,36 +94,21 @@ fn below_if(fits: bool, source: Source, m: u32, numbers: &mut [u32]) -> Left
 
 // Numbers below m, of 1 to 4,096.
 pub fn fill_below(source: Source, m: u32, numbers: &mut [u32]) -> Left
-    ensures { λ r. ⌜ FillsBy (number m)
-        (numberRules true 4096 m (length (now (numbers .entry))) source)
-        source
-        (now (numbers .entry))
-        r
-        (now (numbers .exit)) ⌝ }
+    ensures { λ r. ⌜ BelowFilled source (now (numbers .entry)) r (now (numbers .exit)) m ⌝ }
 {
     below_if(true, source, m, numbers)
 }
 
 // A number below m, into a buffer of one.
 pub fn one_below(source: Source, m: u32, one: &mut [u32]) -> Left
-    ensures { λ r. ⌜ FillsBy (number m)
-        (numberRules (eqb (length (now (one .entry))) 1) 4096 m (length (now (one .entry))) source)
-        source
-        (now (one .entry))
-        r
-        (now (one .exit)) ⌝ }
+    ensures { λ r. ⌜ BelowDrawn source (now (one .entry)) r (now (one .exit)) m ⌝ }
 {
     below_if(one.len() == 1, source, m, one)
 }
 
 // Numbers below m, of 1 to 256, so that each is a byte.
 pub fn fill_bytes_below(source: Source, m: u32, bytes: &mut [u8]) -> Left
-    ensures { λ r. ⌜ FillsBy (number m)
-        (numberRules true 256 m (length (now (bytes .entry))) source)
-        source
-        (now (bytes .entry))
-        r
-        (now (bytes .exit)) ⌝ }
+    ensures { λ r. ⌜ BytesFilled source (now (bytes .entry)) r (now (bytes .exit)) m ⌝ }
 {
     let refusal = number_verdict(true, 256, m, bytes.len(), source);
     if refusal != 0 {
@@ -153,12 +127,7 @@ pub fn fill_bytes_below(source: Source, m: u32, bytes: &mut [u8]) -> Left
 
 // Wolff's grey numbers, 1 to 3.
 pub fn wolff_greys(source: Source, greys: &mut [u8]) -> Left
-    ensures { λ r. ⌜ FillsBy grey
-        (numberRules true 3 3 (length (now (greys .entry))) source)
-        source
-        (now (greys .entry))
-        r
-        (now (greys .exit)) ⌝ }
+    ensures { λ r. ⌜ GreysFilled source (now (greys .entry)) r (now (greys .exit)) ⌝ }
 {
     let refusal = number_verdict(true, 3, 3, greys.len(), source);
     if refusal != 0 {
@@ -197,36 +166,21 @@ fn fill_rows(single: bool, moving: bool, source: Source, members: usize, rows: &
 
 // Permutations, row after row.
 pub fn fill_permutations(source: Source, members: usize, rows: &mut [u8]) -> Left
-    ensures { λ r. ⌜ FillsRows false members
-        (rowRules false false members (length (now (rows .entry))) source)
-        source
-        (now (rows .entry))
-        r
-        (now (rows .exit)) ⌝ }
+    ensures { λ r. ⌜ PermutationsFilled source (now (rows .entry)) r (now (rows .exit)) members ⌝ }
 {
     fill_rows(false, false, source, members, rows)
 }
 
 // Permutations other than the identity, row after row.
 pub fn wolff_permutations(source: Source, members: usize, rows: &mut [u8]) -> Left
-    ensures { λ r. ⌜ FillsRows true members
-        (rowRules false true members (length (now (rows .entry))) source)
-        source
-        (now (rows .entry))
-        r
-        (now (rows .exit)) ⌝ }
+    ensures { λ r. ⌜ WolffFilled source (now (rows .entry)) r (now (rows .exit)) members ⌝ }
 {
     fill_rows(false, true, source, members, rows)
 }
 
 // A permutation, into a buffer of its length.
 pub fn one_permutation(source: Source, members: usize, row: &mut [u8]) -> Left
-    ensures { λ r. ⌜ FillsRows false members
-        (rowRules true false members (length (now (row .entry))) source)
-        source
-        (now (row .entry))
-        r
-        (now (row .exit)) ⌝ }
+    ensures { λ r. ⌜ PermutationDrawn source (now (row .entry)) r (now (row .exit)) members ⌝ }
 {
     fill_rows(true, false, source, members, row)
 }
