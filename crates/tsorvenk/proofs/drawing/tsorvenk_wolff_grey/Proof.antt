@@ -1,48 +1,34 @@
+-- `tsorvenk_wolff_grey` meets its contract: the draws' answer, handed over.
 use borrow.Author.Needs.{needs}
+use Rattle.tsorvenk.specs.Drawing.{unread, answered}
 use Rattle.tsorvenk.proofs.drawing.tsorvenk_wolff_grey.Statement.{statement}
 use Rattle.tsorvenk.proofs.drawing.tsorvenk_wolff_grey.Tie as tie
-use Rattle.tsorvenk.proofs.drawing.tsorvenk_wolff_grey.Reads as reads
-use Rattle.tsorvenk.proofs.drawing.tsorvenk_wolff_grey.Lts as lts
-use Rattle.draws.proofs.fills.wolff_greys.Reads as wolff-greys-reads
-use Rattle.tsorvenk.proofs.drawing.hand_over.Reads as hand-over-reads
-use Rattle.tsorvenk.proofs.drawing.source_of.Reads as source-of-reads
 
--- src/drawing.rt:149:9
 returns : tie.Need-returns
-returns c = search needs
+returns c = unread (c .if1 .taken)
 
--- src/drawing.rt:151:42
 source-of-requires : tie.Need-source-of-requires
 source-of-requires c κs = search needs
 
--- src/drawing.rt:151:9
 wolff-greys-requires : tie.Need-wolff-greys-requires
 wolff-greys-requires c κs = search needs
 
--- src/drawing.rt:152:5
 hand-over-requires : tie.Need-hand-over-requires
 hand-over-requires c κs = search needs
 
--- src/drawing.rt:144:1
 same-length : tie.Need-same-length
 same-length c = search needs
 
--- src/drawing.rt:144:1
 same-length-2 : tie.Need-same-length-2
 same-length-2 c = search needs
 
--- src/drawing.rt:144:1
 returns-2 : tie.Need-returns-2
-returns-2 c = search needs
+returns-2 c =
+    let h = c .before .before in
+    let o = h .before .before .before .before in
+    let f = o .before .before in
+    let e = f .before .before in
+    answered (f .source-of .result) (o .wolff-greys .result) (e .if1 .left) (f .source-of .ensures) (o .wolff-greys .ensures) (h .hand-over .ensures)
 
 pub tsorvenk-wolff-grey-spec : {M : Type 1} → statement M
-tsorvenk-wolff-grey-spec =
-    tie.close
-    (tie.spec
-    returns
-    source-of-requires
-    wolff-greys-requires
-    hand-over-requires
-    same-length
-    same-length-2
-    returns-2)
+tsorvenk-wolff-grey-spec = tie.close (tie.spec returns source-of-requires wolff-greys-requires hand-over-requires same-length same-length-2 returns-2)
