@@ -6,4 +6,5 @@ pub mod Fill
 pub mod Promise
 pub mod Writing
 pub mod Numbers
+pub mod Laws
 pub mod Determined
