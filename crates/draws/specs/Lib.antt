@@ -7,4 +7,5 @@ pub mod Promise
 pub mod Writing
 pub mod Numbers
 pub mod Laws
+pub mod Permuted
 pub mod Determined
