@@ -1,19 +1,16 @@
 -- Rows written one after another into a table.
-use Prim.Native.Nat.{ℕ, suc, _+_, _-_, _*_, _/_, _%_, _≤_, _<_}
-use mathlib.Core.Path.{_≡_, refl, sym, ap, _∙_, subst}
+use Prim.Native.Nat.{ℕ, _+_, _-_, _*_, _/_, _%_, _≤_, _<_}
+use mathlib.Core.Path.{_≡_, refl, ap, _∙_, subst}
 use mathlib.Core.Bool.{Bool, true, false}
 use mathlib.Core.List.{List}
 use native.Mathlib.Omega.{arith}
-use native.Mathlib.Nat.{suc-mul, mul-le-mul-right, mod-self, div-add-mod'}
+use native.Mathlib.Nat.{suc-mul, mod-self, div-add-mod'}
 use native.Mathlib.Numerals.{add-one}
 use native.Mathlib.Decide.{ℕ-discrete, decLt}
 use borrow.Author.Tests.{eqb-true}
-use lib.Arith.{digits-div, digits-mod}
 use lib.ListN.{length, getD, set, length-set}
 use lib.Seq.{getD-set-same, getD-set-other}
-use Rattle.draws.specs.declared.Source.{Source}
-use Rattle.draws.specs.Rows.{rowBy}
-use Rattle.draws.specs.Fill.{stop, goDown, entryAt, rowsFit}
+use Rattle.draws.specs.Fill.{rowsFit}
 use Rattle.draws.specs.Writing.{RowPut}
 use Rattle.draws.proofs.Filling.{Filled}
 
@@ -32,9 +29,6 @@ module _ {at : ℕ} {row : List ℕ} where
       go x m (yes e) = rw (e, getD-set-same ys (at + k) (getD row k 0) 0 l)
       go x m (no e) = getD-set-other ys (at + k) (at + x) (getD row k 0) 0 (λ (q : at + x ≡ at + k). e (omega arith)) ∙ h .here x (omega arith)
 
-pub row-inside : (i k n : ℕ) → i < k → i * n + n ≤ k * n
-row-inside i k n l = omega (arith, mul-le-mul-right n l, suc-mul i n)
-
 pub rows-more :
     {at : ℕ → ℕ} (i : ℕ) {n m : ℕ} {row ys zs : List ℕ} → Filled at (i * n) m ys → RowPut n (i * n) row ys zs → i * n + n ≤ m
     → ((k : ℕ) → k < n → getD row k 0 ≡ at (i * n + k)) → Filled at ((i + 1) * n) m zs
@@ -49,13 +43,6 @@ rows-more {at} i {n} {m} {row} {ys} {zs} h p l e = record { low = rw rows l; lon
         let k = j - i * n in
         let f : i * n + k ≡ j = omega arith in
         subst (λ (x : ℕ). getD zs x 0 ≡ at x) f (p .here k (omega arith) ∙ e k (omega arith))
-
-pub entry-of :
-    (moving : Bool) (n : ℕ) (s : Source) (i k : ℕ) → k < n
-    → getD (rowBy moving n (stop (goDown moving n) i s) .row) k 0 ≡ entryAt moving n s (i * n + k)
-entry-of moving n s i k l =
-    ap (λ (x : ℕ). getD (rowBy moving n (stop (goDown moving n) x s) .row) k 0) (sym (digits-div i l))
-        ∙ ap (λ (x : ℕ). getD (rowBy moving n (stop (goDown moving n) ((i * n + k) / n) s) .row) x 0) (sym (digits-mod i l))
 
 whole : (n len : ℕ) → len % n ≡ 0 → len ≡ len / n * n
 whole n len e = omega (arith, div-add-mod' len n)

@@ -10,7 +10,7 @@ use lib.Arith.{digits-mod}
 use lib.Bits.{bitOr, bitXor, xor-lt, xor-zero-r, xor-add-and, or-add-and, and-le-l, and-le-r}
 use lib.Dec.{eqb, ltb}
 use Rattle.draws.specs.declared.Source.{Source}
-use Rattle.draws.specs.Words.{rotl, word, next, after, isBlank, Live, drawn}
+use Rattle.draws.specs.Words.{source, rotl, word, next, after, isBlank, Live, drawn}
 use Rattle.draws.specs.Draw.{flipped, number, high, limit, tried, refused}
 use Rattle.draws.specs.Fill.{stop, goOn}
 
@@ -193,3 +193,7 @@ pub flips-words : (n : ℕ) (s : Source) → stop (goOn flipped) n s ≡ after n
 unfolding stop after
 flips-words zero s = refl
 flips-words (suc n) s = ap next (flips-words n s)
+
+-- from the words 1, 2, 3, 4
+pub first-words : (word (source 1 2 3 4) ≡ 11520) × (word (next (source 1 2 3 4)) ≡ 0)
+first-words = (refl, refl)

@@ -115,21 +115,18 @@ fn number(budget: usize, m: u64, top: u64, s: Source) -> Drawn
     while 0 < left {
         let d = step(source);
         let high = d.value >> 32;
+        let rest = high % m;
         source = d.source;
         if high < top {
             return Drawn {
                 refusal: 0,
-                value: high % m,
+                value: rest,
                 source,
             };
         }
         left -= 1;
     }
-    Drawn {
-        refusal: 12,
-        value: 0,
-        source: s,
-    }
+    refuse(s)
 }
 
 fn number_ok(top: u32, m: u32) -> bool

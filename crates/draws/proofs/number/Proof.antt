@@ -27,8 +27,8 @@ L c = c .before .before .before
 abbrev S : tie.In-loop Inv-loop μ-loop → tie.Start Inv-loop μ-loop
 S l = l .before .before
 
-rem-t10 : tie.Need-rem-t10 Inv-loop μ-loop
-rem-t10 c = omega (arith, S (L (c .before)) .pre .some)
+rem-rest : tie.Need-rem-rest Inv-loop μ-loop
+rem-rest c = omega (arith, S (c .before .before) .pre .some)
 
 returns : tie.Need-returns Inv-loop μ-loop
 returns c =
@@ -54,9 +54,12 @@ loop-again c =
     (subst (λ (x : ℕ). x ≤ d .result .value / 2 ^ 32) (S l .pre .at) (c .if1 .left))
         ∙ l .before .loop .inv
 
+refuse-requires : tie.Need-refuse-requires Inv-loop μ-loop
+refuse-requires c κs = search needs
+
 returns-2 : tie.Need-returns-2 Inv-loop μ-loop
 unfolding tried
-returns-2 c = rw (le-zero (c .loop-test .left)) at (c .before .loop .inv)
+returns-2 c = c .refuse .ensures ∙ rw (le-zero (c .before .loop-test .left)) at (c .before .before .loop .inv)
 
 pub number-spec : {M : Type 1} → statement M
 number-spec =
@@ -66,9 +69,10 @@ number-spec =
     μ-loop
     loop-holds
     step-requires
-    rem-t10
+    rem-rest
     returns
     sub-left
     loop-less
     loop-again
+    refuse-requires
     returns-2)

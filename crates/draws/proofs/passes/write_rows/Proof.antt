@@ -11,7 +11,8 @@ use Rattle.draws.specs.declared.Row.{Row}
 use Rattle.draws.specs.Rows.{rowBy}
 use Rattle.draws.specs.Fill.{stop, goDown, entryAt}
 use Rattle.draws.proofs.Filling.{Stopped, stop-none, stop-more, Filled, fill-none, fill-done}
-use Rattle.draws.proofs.Placing.{row-inside, rows-more, entry-of}
+use Rattle.draws.specs.Permuted.{row-inside, entry-of}
+use Rattle.draws.proofs.Placing.{rows-more}
 use Rattle.draws.proofs.passes.write_rows.Statement.{statement}
 use Rattle.draws.proofs.passes.write_rows.Tie as tie
 
