@@ -1,6 +1,6 @@
 -- One turn of the loop that exchanges places, and of the one that draws permutations again.
 use Prim.Native.Nat.{ℕ, zero, suc, _+_, _-_, _<_}
-use mathlib.Core.Path.{_≡_, refl, sym, ap, _∙_, subst}
+use mathlib.Core.Path.{_≡_, ap, _∙_, subst}
 use mathlib.Core.Bool.{true, false}
 use mathlib.Core.List.{List}
 use native.Mathlib.Omega.{arith}
@@ -28,7 +28,7 @@ module _ (lent : Source) (xs : List ℕ) (s : Source) where
       → shuffled lent (i - 1) (swapped xs i (d .value)) (d .source) ≡ shuffled lent i xs s
   place-done i d p e h =
       ap (λ (x : Drawn). shuffled lent (i - 1) (swapped xs i (x .value)) (x .source)) e
-          ∙ one-place i p (subst (λ (x : Drawn). x .refusal ≡ 0) e h)
+      ∙ one-place i p (subst (λ (x : Drawn). x .refusal ≡ 0) e h)
 
 module _ (lent : Source) (n : ℕ) (s : Source) (r : Row) (e : r ≡ permuted n s) where
   pub row-refused : (k : ℕ) → 0 < k → (r .refusal ≡ 0 → ⊥) → refusedRow lent ≡ retried lent k n s

@@ -1,6 +1,6 @@
 -- One turn of the loop that tries words: the word is taken, or the next is tried with one less to go.
 use Prim.Native.Nat.{ℕ, zero, suc, _-_, _/_, _%_, _^_, _≤_, _<_}
-use mathlib.Core.Path.{_≡_, refl, sym, ap, _∙_, subst}
+use mathlib.Core.Path.{_≡_, sym, ap, _∙_, subst}
 use native.Mathlib.Omega.{arith}
 use native.Mathlib.Numerals.{sub-one}
 use borrow.Author.Tests.{lt-ltb, le-ltb}
@@ -25,7 +25,7 @@ module _ (lent : Source) (m : ℕ) (s : Source) where
       → drawn 0 ((d .value / 2 ^ 32) % m) (d .source) ≡ tried lent k m s
   word-taken k d p e h =
       ap (λ (x : Drawn). drawn 0 ((x .value / 2 ^ 32) % m) (x .source)) e
-          ∙ sym (taken k p (subst (λ (x : Drawn). x .value / 2 ^ 32 < limit m) e h))
+      ∙ sym (taken k p (subst (λ (x : Drawn). x .value / 2 ^ 32 < limit m) e h))
 
   pub word-again :
       (k : ℕ) (d : Drawn) → 0 < k → d ≡ stepped s → limit m ≤ d .value / 2 ^ 32 → tried lent (k - 1) m (d .source) ≡ tried lent k m s

@@ -108,7 +108,8 @@ module _ (rs : List Rule) (at : ℕ → ℕ) (t s : Source) (xs : List ℕ) wher
   by-number zero (suc b) p q = absurd (broken-not-kept rs (suc b) (q .why) (p .valid))
   by-number (suc a) zero p q = absurd (broken-not-kept rs (suc a) (p .why) (q .valid))
   by-number (suc a) (suc b) {u} {v} p q = record {
-    answer = ap (λ (x : ℕ). left x u) (broken-unique rs (suc a) (suc b) (p .why) (q .why)) ∙ ap (λ (x : Source). left (suc b) x) (one-value (p .source) (q .source));
+    answer = ap (λ (x : ℕ). left x u) (broken-unique rs (suc a) (suc b) (p .why) (q .why)) ∙ ap (λ (x : Source). left (suc b) x)
+        (one-value (p .source) (q .source));
     buffer = one-value (p .kept) (q .kept);
   }
 
@@ -132,23 +133,23 @@ module _ (s : Source) (xs : List ℕ) (x y : Left) (ys zs : List ℕ) where
   pub fill-flips-determined : FlipsFilled s xs x ys → FlipsFilled s xs y zs → Same x y ys zs
   fill-flips-determined = by-draws flipped (wordRules true s)
 
-  pub one-below-determined : (m : ℕ) → BelowDrawn s xs x ys m → BelowDrawn s xs y zs m → Same x y ys zs
+  pub one-below-determined : (m : ℕ) → BelowDrawn m s xs x ys → BelowDrawn m s xs y zs → Same x y ys zs
   one-below-determined m = by-draws (number m) (numberRules (eqb (length xs) 1) 4096 m (length xs) s)
 
-  pub fill-below-determined : (m : ℕ) → BelowFilled s xs x ys m → BelowFilled s xs y zs m → Same x y ys zs
+  pub fill-below-determined : (m : ℕ) → BelowFilled m s xs x ys → BelowFilled m s xs y zs → Same x y ys zs
   fill-below-determined m = by-draws (number m) (numberRules true 4096 m (length xs) s)
 
-  pub fill-bytes-below-determined : (m : ℕ) → BytesFilled s xs x ys m → BytesFilled s xs y zs m → Same x y ys zs
+  pub fill-bytes-below-determined : (m : ℕ) → BytesFilled m s xs x ys → BytesFilled m s xs y zs → Same x y ys zs
   fill-bytes-below-determined m = by-draws (number m) (numberRules true 256 m (length xs) s)
 
   pub wolff-greys-determined : GreysFilled s xs x ys → GreysFilled s xs y zs → Same x y ys zs
   wolff-greys-determined = by-draws grey (numberRules true 3 3 (length xs) s)
 
-  pub one-permutation-determined : (m : ℕ) → PermutationDrawn s xs x ys m → PermutationDrawn s xs y zs m → Same x y ys zs
+  pub one-permutation-determined : (m : ℕ) → PermutationDrawn m s xs x ys → PermutationDrawn m s xs y zs → Same x y ys zs
   one-permutation-determined m = by-rows false m (rowRules true false m (length xs) s)
 
-  pub fill-permutations-determined : (m : ℕ) → PermutationsFilled s xs x ys m → PermutationsFilled s xs y zs m → Same x y ys zs
+  pub fill-permutations-determined : (m : ℕ) → PermutationsFilled m s xs x ys → PermutationsFilled m s xs y zs → Same x y ys zs
   fill-permutations-determined m = by-rows false m (rowRules false false m (length xs) s)
 
-  pub wolff-permutations-determined : (m : ℕ) → WolffFilled s xs x ys m → WolffFilled s xs y zs m → Same x y ys zs
+  pub wolff-permutations-determined : (m : ℕ) → WolffFilled m s xs x ys → WolffFilled m s xs y zs → Same x y ys zs
   wolff-permutations-determined m = by-rows true m (rowRules false true m (length xs) s)

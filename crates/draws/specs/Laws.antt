@@ -1,13 +1,13 @@
 -- Laws of words and numbers: a live source stays live, a number is the first of the next words that is not taken again, and draws leave the source after
 -- their words.
 use Prim.Native.Nat.{ℕ, zero, suc, _+_, _-_, _*_, _/_, _%_, _^_, _≤_, _<_}
-use mathlib.Core.Path.{_≡_, refl, sym, ap, _∙_, subst}
+use mathlib.Core.Path.{_≡_, refl, sym, ap, _∙_}
 use mathlib.Core.Bool.{Bool, true, false, cond, _&&_}
 use native.Mathlib.Omega.{arith}
 use native.Mathlib.Nat.{mod-lt, div-add-mod', mod-eq-of-lt}
 use borrow.Author.Tests.{lt-ltb, le-ltb, eqb-true, eq-eqb}
 use lib.Arith.{digits-mod}
-use lib.Bits.{bitOr, bitXor, xor-lt, xor-zero-r, xor-add-and, or-add-and, and-le-l, and-le-r}
+use lib.Bits.{bitOr, bitXor, xor-zero-r, xor-add-and, or-add-and, and-le-l, and-le-r}
 use lib.Dec.{eqb, ltb}
 use Rattle.draws.specs.declared.Source.{Source}
 use Rattle.draws.specs.Words.{source, rotl, word, next, after, isBlank, Live, drawn}
@@ -132,7 +132,7 @@ tried-first lent (suc b) m s zero l t f = rw (lt-ltb (high (word s)) (limit m) t
 tried-first lent (suc b) m s (suc k) l t f =
     rw (le-ltb (high (word s)) (limit m) (f 0 (omega arith)))
     (tried-first lent b m (next s) k (omega arith) (rw (after-next k s) t) (λ j q. rw (after-next j s) (f (suc j) (omega arith)))
-        ∙ ap (λ (x : Source). drawn 0 (high (word x) % m) (next x)) (after-next k s))
+    ∙ ap (λ (x : Source). drawn 0 (high (word x) % m) (next x)) (after-next k s))
 
 pub tried-none : (lent : Source) (budget m : ℕ) (s : Source) → ((j : ℕ) → j < budget → Again m s j) → tried lent budget m s ≡ refused lent
 unfolding tried after

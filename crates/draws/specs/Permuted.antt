@@ -1,6 +1,6 @@
 -- Laws of rows: what is drawn is a permutation, Wolff's is not the identity, and so filled rows pass test 9.
-use Prim.Native.Nat.{ℕ, zero, suc, _+_, _-_, _*_, _/_, _%_, _≤_, _<_}
-use mathlib.Core.Path.{_≡_, refl, sym, ap, _∙_, subst}
+use Prim.Native.Nat.{ℕ, zero, suc, _+_, _-_, _*_, _/_, _≤_, _<_}
+use mathlib.Core.Path.{_≡_, refl, sym, ap, _∙_}
 use mathlib.Core.Bool.{Bool, true, false, cond, _&&_}
 use mathlib.Core.List.{List}
 use native.Mathlib.Omega.{arith}
@@ -41,15 +41,18 @@ module _ (xs : List ℕ) (i j : ℕ) (li : i < length xs) (lj : j < length xs) w
     where
       go : Dec (k ≡ j) → Dec (k ≡ i) → Comes xs i j k
       go (yes e) d = record {
-        place = i; why = at-j e;
+        place = i;
+        why = at-j e;
         same = rw e (getD-set-same (set xs i (getD xs j 0)) j (getD xs i 0) 0 (simp length-set lj));
       }
       go (no n) (yes e) = record {
-        place = j; why = at-i n e;
+        place = j;
+        why = at-i n e;
         same = getD-set-other (set xs i (getD xs j 0)) j k (getD xs i 0) 0 n ∙ rw e (getD-set-same xs i (getD xs j 0) 0 li);
       }
       go (no n) (no m) = record {
-        place = k; why = off n m;
+        place = k;
+        why = off n m;
         same = getD-set-other (set xs i (getD xs j 0)) j k (getD xs i 0) 0 n ∙ getD-set-other xs i k (getD xs j 0) 0 m;
       }
 
@@ -73,10 +76,10 @@ swapped-permutes : (n : ℕ) (xs : List ℕ) (i j : ℕ) → n ≤ length xs →
 swapped-permutes n xs i j l li lj p = record {
   within = λ k q. let c = comes xs i j (omega arith) (omega arith) k in rw (c .same) (p .within (c .place) (from-below (c .why) li lj q));
   distinct = λ a b qa qb e.
-    let c = comes xs i j (omega arith) (omega arith) a in
-    let d = comes xs i j (omega arith) (omega arith) b in
-    from-one (c .why) (d .why)
-    (p .distinct (c .place) (d .place) (from-below (c .why) li lj qa) (from-below (d .why) li lj qb) (sym (c .same) ∙ (e ∙ d .same)));
+      let c = comes xs i j (omega arith) (omega arith) a in
+      let d = comes xs i j (omega arith) (omega arith) b in
+      from-one (c .why) (d .why)
+      (p .distinct (c .place) (d .place) (from-below (c .why) li lj qa) (from-below (d .why) li lj qb) (sym (c .same) ∙ (e ∙ d .same)));
 }
 
 -- ---- the row that is drawn
@@ -163,7 +166,7 @@ pub entry-of :
     → getD (rowBy moving n (stop (goDown moving n) i s) .row) k 0 ≡ entryAt moving n s (i * n + k)
 entry-of moving n s i k l =
     ap (λ (x : ℕ). getD (rowBy moving n (stop (goDown moving n) x s) .row) k 0) (sym (digits-div i l))
-        ∙ ap (λ (x : ℕ). getD (rowBy moving n (stop (goDown moving n) ((i * n + k) / n) s) .row) x 0) (sym (digits-mod i l))
+    ∙ ap (λ (x : ℕ). getD (rowBy moving n (stop (goDown moving n) ((i * n + k) / n) s) .row) x 0) (sym (digits-mod i l))
 
 pub row-inside : (i k n : ℕ) → i < k → i * n + n ≤ k * n
 row-inside i k n l = omega (arith, mul-le-mul-right n l, suc-mul i n)

@@ -1,9 +1,9 @@
 -- What the functions that fill are handed, and what one that writes a row leaves.
-use Prim.Native.Nat.{ℕ, _+_, _*_, _-_, _≤_, _<_}
+use Prim.Native.Nat.{ℕ, _+_, _*_, _≤_, _<_}
 use mathlib.Core.Path.{_≡_}
 use mathlib.Core.List.{List}
 use lib.ListN.{length, getD}
-use Rattle.draws.specs.Draw.{limit, Topped}
+use Rattle.draws.specs.Draw.{Topped}
 use Rattle.draws.specs.Rows.{Members}
 
 -- numbers below m that, with `plus` added, are at most `most`

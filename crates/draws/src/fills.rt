@@ -24,10 +24,7 @@ pub fn one_word(source: Source, word: &mut [u64]) -> Left
 {
     let refusal = word_verdict(word.len() == 1, source);
     if refusal != 0 {
-        return Left {
-            refusal,
-            source,
-        };
+        return Left { refusal, source };
     }
     let d = step(source);
     word[0] = d.value;
@@ -44,10 +41,7 @@ fn flips_if(fits: bool, source: Source, flips: &mut [u8]) -> Left
 {
     let refusal = word_verdict(fits, source);
     if refusal != 0 {
-        return Left {
-            refusal,
-            source,
-        };
+        return Left { refusal, source };
     }
     Left {
         refusal: 0,
@@ -79,10 +73,7 @@ fn below_if(fits: bool, source: Source, m: u32, numbers: &mut [u32]) -> Left
 {
     let refusal = number_verdict(fits, 4096, m, numbers.len(), source);
     if refusal != 0 {
-        return Left {
-            refusal,
-            source,
-        };
+        return Left { refusal, source };
     }
     let n = wide(m);
     let top = limit_of(n);
@@ -94,28 +85,25 @@ fn below_if(fits: bool, source: Source, m: u32, numbers: &mut [u32]) -> Left
 
 // Numbers below m, of 1 to 4,096.
 pub fn fill_below(source: Source, m: u32, numbers: &mut [u32]) -> Left
-    ensures { λ r. ⌜ BelowFilled source (now (numbers .entry)) r (now (numbers .exit)) m ⌝ }
+    ensures { λ r. ⌜ BelowFilled m source (now (numbers .entry)) r (now (numbers .exit)) ⌝ }
 {
     below_if(true, source, m, numbers)
 }
 
 // A number below m, into a buffer of one.
 pub fn one_below(source: Source, m: u32, one: &mut [u32]) -> Left
-    ensures { λ r. ⌜ BelowDrawn source (now (one .entry)) r (now (one .exit)) m ⌝ }
+    ensures { λ r. ⌜ BelowDrawn m source (now (one .entry)) r (now (one .exit)) ⌝ }
 {
     below_if(one.len() == 1, source, m, one)
 }
 
 // Numbers below m, of 1 to 256, so that each is a byte.
 pub fn fill_bytes_below(source: Source, m: u32, bytes: &mut [u8]) -> Left
-    ensures { λ r. ⌜ BytesFilled source (now (bytes .entry)) r (now (bytes .exit)) m ⌝ }
+    ensures { λ r. ⌜ BytesFilled m source (now (bytes .entry)) r (now (bytes .exit)) ⌝ }
 {
     let refusal = number_verdict(true, 256, m, bytes.len(), source);
     if refusal != 0 {
-        return Left {
-            refusal,
-            source,
-        };
+        return Left { refusal, source };
     }
     let n = wide(m);
     let top = limit_of(n);
@@ -131,10 +119,7 @@ pub fn wolff_greys(source: Source, greys: &mut [u8]) -> Left
 {
     let refusal = number_verdict(true, 3, 3, greys.len(), source);
     if refusal != 0 {
-        return Left {
-            refusal,
-            source,
-        };
+        return Left { refusal, source };
     }
     Left {
         refusal: 0,
@@ -152,10 +137,7 @@ fn fill_rows(single: bool, moving: bool, source: Source, members: usize, rows: &
 {
     let refusal = row_verdict(single, moving, members, rows.len(), source);
     if refusal != 0 {
-        return Left {
-            refusal,
-            source,
-        };
+        return Left { refusal, source };
     }
     let count = rows.len() / members;
     Left {
@@ -166,21 +148,21 @@ fn fill_rows(single: bool, moving: bool, source: Source, members: usize, rows: &
 
 // Permutations, row after row.
 pub fn fill_permutations(source: Source, members: usize, rows: &mut [u8]) -> Left
-    ensures { λ r. ⌜ PermutationsFilled source (now (rows .entry)) r (now (rows .exit)) members ⌝ }
+    ensures { λ r. ⌜ PermutationsFilled members source (now (rows .entry)) r (now (rows .exit)) ⌝ }
 {
     fill_rows(false, false, source, members, rows)
 }
 
 // Permutations other than the identity, row after row.
 pub fn wolff_permutations(source: Source, members: usize, rows: &mut [u8]) -> Left
-    ensures { λ r. ⌜ WolffFilled source (now (rows .entry)) r (now (rows .exit)) members ⌝ }
+    ensures { λ r. ⌜ WolffFilled members source (now (rows .entry)) r (now (rows .exit)) ⌝ }
 {
     fill_rows(false, true, source, members, rows)
 }
 
 // A permutation, into a buffer of its length.
 pub fn one_permutation(source: Source, members: usize, row: &mut [u8]) -> Left
-    ensures { λ r. ⌜ PermutationDrawn source (now (row .entry)) r (now (row .exit)) members ⌝ }
+    ensures { λ r. ⌜ PermutationDrawn members source (now (row .entry)) r (now (row .exit)) ⌝ }
 {
     fill_rows(true, false, source, members, row)
 }

@@ -157,22 +157,14 @@ impl Source {
     pub fn new(s0: u64, s1: u64, s2: u64, s3: u64) -> Left
         ensures { λ r. ⌜ r ≡ newOf (source s0 s1 s2 s3) ⌝ }
     {
-        let source = Source {
-            s0,
-            s1,
-            s2,
-            s3,
-        };
+        let source = Source { s0, s1, s2, s3 };
         if source.is_blank() {
             return Left {
                 refusal: 12,
                 source,
             };
         }
-        Left {
-            refusal: 0,
-            source,
-        }
+        Left { refusal: 0, source }
     }
 
     pub fn is_blank(self) -> bool

@@ -187,26 +187,30 @@ module _ (ws xs : List ℕ) (r r′ : ℕ) (us vs ys zs : List ℕ) where
   pub tsorvenk-coin-determined : Draws CoinDrawn ws xs r us ys → Draws CoinDrawn ws xs r′ vs zs → SameDrawn r r′ us vs ys zs
   tsorvenk-coin-determined = draws-determined CoinDrawn (λ x y. Draw.one-coin-determined (sourceOf ws) xs x y ys zs)
 
-  pub tsorvenk-below-determined : (m : ℕ) → Draws (λ s xs l ys. BelowDrawn s xs l ys m) ws xs r us ys → Draws (λ s xs l ys. BelowDrawn s xs l ys m) ws xs r′ vs zs → SameDrawn r r′ us vs ys zs
-  tsorvenk-below-determined m = draws-determined (λ s xs l ys. BelowDrawn s xs l ys m) (λ x y. Draw.one-below-determined (sourceOf ws) xs x y ys zs m)
+  pub tsorvenk-below-determined : (m : ℕ) → Draws (BelowDrawn m) ws xs r us ys → Draws (BelowDrawn m) ws xs r′ vs zs → SameDrawn r r′ us vs ys zs
+  tsorvenk-below-determined m = draws-determined (BelowDrawn m) (λ x y. Draw.one-below-determined (sourceOf ws) xs x y ys zs m)
 
-  pub tsorvenk-permutation-determined : (m : ℕ) → Draws (λ s xs l ys. PermutationDrawn s xs l ys m) ws xs r us ys → Draws (λ s xs l ys. PermutationDrawn s xs l ys m) ws xs r′ vs zs → SameDrawn r r′ us vs ys zs
-  tsorvenk-permutation-determined m = draws-determined (λ s xs l ys. PermutationDrawn s xs l ys m) (λ x y. Draw.one-permutation-determined (sourceOf ws) xs x y ys zs m)
+  pub tsorvenk-permutation-determined : (m : ℕ) → Draws (PermutationDrawn m) ws xs r us ys → Draws (PermutationDrawn m) ws xs r′ vs zs
+      → SameDrawn r r′ us vs ys zs
+  tsorvenk-permutation-determined m = draws-determined (PermutationDrawn m) (λ x y. Draw.one-permutation-determined (sourceOf ws) xs x y ys zs m)
 
   pub tsorvenk-fill-flips-determined : Draws FlipsFilled ws xs r us ys → Draws FlipsFilled ws xs r′ vs zs → SameDrawn r r′ us vs ys zs
   tsorvenk-fill-flips-determined = draws-determined FlipsFilled (λ x y. Draw.fill-flips-determined (sourceOf ws) xs x y ys zs)
 
-  pub tsorvenk-fill-below-determined : (m : ℕ) → Draws (λ s xs l ys. BelowFilled s xs l ys m) ws xs r us ys → Draws (λ s xs l ys. BelowFilled s xs l ys m) ws xs r′ vs zs → SameDrawn r r′ us vs ys zs
-  tsorvenk-fill-below-determined m = draws-determined (λ s xs l ys. BelowFilled s xs l ys m) (λ x y. Draw.fill-below-determined (sourceOf ws) xs x y ys zs m)
+  pub tsorvenk-fill-below-determined : (m : ℕ) → Draws (BelowFilled m) ws xs r us ys → Draws (BelowFilled m) ws xs r′ vs zs → SameDrawn r r′ us vs ys zs
+  tsorvenk-fill-below-determined m = draws-determined (BelowFilled m) (λ x y. Draw.fill-below-determined (sourceOf ws) xs x y ys zs m)
 
-  pub tsorvenk-fill-bytes-below-determined : (m : ℕ) → Draws (λ s xs l ys. BytesFilled s xs l ys m) ws xs r us ys → Draws (λ s xs l ys. BytesFilled s xs l ys m) ws xs r′ vs zs → SameDrawn r r′ us vs ys zs
-  tsorvenk-fill-bytes-below-determined m = draws-determined (λ s xs l ys. BytesFilled s xs l ys m) (λ x y. Draw.fill-bytes-below-determined (sourceOf ws) xs x y ys zs m)
+  pub tsorvenk-fill-bytes-below-determined : (m : ℕ) → Draws (BytesFilled m) ws xs r us ys → Draws (BytesFilled m) ws xs r′ vs zs
+      → SameDrawn r r′ us vs ys zs
+  tsorvenk-fill-bytes-below-determined m = draws-determined (BytesFilled m) (λ x y. Draw.fill-bytes-below-determined (sourceOf ws) xs x y ys zs m)
 
-  pub tsorvenk-fill-permutations-determined : (m : ℕ) → Draws (λ s xs l ys. PermutationsFilled s xs l ys m) ws xs r us ys → Draws (λ s xs l ys. PermutationsFilled s xs l ys m) ws xs r′ vs zs → SameDrawn r r′ us vs ys zs
-  tsorvenk-fill-permutations-determined m = draws-determined (λ s xs l ys. PermutationsFilled s xs l ys m) (λ x y. Draw.fill-permutations-determined (sourceOf ws) xs x y ys zs m)
+  pub tsorvenk-fill-permutations-determined : (m : ℕ) → Draws (PermutationsFilled m) ws xs r us ys → Draws (PermutationsFilled m) ws xs r′ vs zs
+      → SameDrawn r r′ us vs ys zs
+  tsorvenk-fill-permutations-determined m = draws-determined (PermutationsFilled m) (λ x y. Draw.fill-permutations-determined (sourceOf ws) xs x y ys zs m)
 
-  pub tsorvenk-wolff-permutation-determined : (m : ℕ) → Draws (λ s xs l ys. WolffFilled s xs l ys m) ws xs r us ys → Draws (λ s xs l ys. WolffFilled s xs l ys m) ws xs r′ vs zs → SameDrawn r r′ us vs ys zs
-  tsorvenk-wolff-permutation-determined m = draws-determined (λ s xs l ys. WolffFilled s xs l ys m) (λ x y. Draw.wolff-permutations-determined (sourceOf ws) xs x y ys zs m)
+  pub tsorvenk-wolff-permutation-determined : (m : ℕ) → Draws (WolffFilled m) ws xs r us ys → Draws (WolffFilled m) ws xs r′ vs zs
+      → SameDrawn r r′ us vs ys zs
+  tsorvenk-wolff-permutation-determined m = draws-determined (WolffFilled m) (λ x y. Draw.wolff-permutations-determined (sourceOf ws) xs x y ys zs m)
 
   pub tsorvenk-wolff-grey-determined : Draws GreysFilled ws xs r us ys → Draws GreysFilled ws xs r′ vs zs → SameDrawn r r′ us vs ys zs
   tsorvenk-wolff-grey-determined = draws-determined GreysFilled (λ x y. Draw.wolff-greys-determined (sourceOf ws) xs x y ys zs)

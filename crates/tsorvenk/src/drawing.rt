@@ -59,7 +59,7 @@ pub extern "C" fn tsorvenk_coin(source: &mut [u64], coin: &mut [u8]) -> u8
 // A number below m, of 1 to 4,096, into a buffer of one.
 #[no_mangle]
 pub extern "C" fn tsorvenk_below(m: u32, source: &mut [u64], number: &mut [u32]) -> u8
-    ensures { λ r. ⌜ Draws (λ s xs l ys. BelowDrawn s xs l ys m) (now (source .entry)) (now (number .entry)) r (now (source .exit)) (now (number .exit)) ⌝ }
+    ensures { λ r. ⌜ Draws (BelowDrawn m) (now (source .entry)) (now (number .entry)) r (now (source .exit)) (now (number .exit)) ⌝ }
 {
     if source.len() != 4 {
         return 2;
@@ -71,7 +71,7 @@ pub extern "C" fn tsorvenk_below(m: u32, source: &mut [u64], number: &mut [u32])
 // A permutation of 2 to 8 members, into a buffer of so many.
 #[no_mangle]
 pub extern "C" fn tsorvenk_permutation(members: usize, source: &mut [u64], row: &mut [u8]) -> u8
-    ensures { λ r. ⌜ Draws (λ s xs l ys. PermutationDrawn s xs l ys members) (now (source .entry)) (now (row .entry)) r (now (source .exit)) (now (row .exit)) ⌝ }
+    ensures { λ r. ⌜ Draws (PermutationDrawn members) (now (source .entry)) (now (row .entry)) r (now (source .exit)) (now (row .exit)) ⌝ }
 {
     if source.len() != 4 {
         return 2;
@@ -95,7 +95,7 @@ pub extern "C" fn tsorvenk_fill_flips(source: &mut [u64], flips: &mut [u8]) -> u
 // Numbers below m, of 1 to 4,096.
 #[no_mangle]
 pub extern "C" fn tsorvenk_fill_below(m: u32, source: &mut [u64], numbers: &mut [u32]) -> u8
-    ensures { λ r. ⌜ Draws (λ s xs l ys. BelowFilled s xs l ys m) (now (source .entry)) (now (numbers .entry)) r (now (source .exit)) (now (numbers .exit)) ⌝ }
+    ensures { λ r. ⌜ Draws (BelowFilled m) (now (source .entry)) (now (numbers .entry)) r (now (source .exit)) (now (numbers .exit)) ⌝ }
 {
     if source.len() != 4 {
         return 2;
@@ -107,7 +107,7 @@ pub extern "C" fn tsorvenk_fill_below(m: u32, source: &mut [u64], numbers: &mut 
 // Numbers below m, of 1 to 256.
 #[no_mangle]
 pub extern "C" fn tsorvenk_fill_bytes_below(m: u32, source: &mut [u64], bytes: &mut [u8]) -> u8
-    ensures { λ r. ⌜ Draws (λ s xs l ys. BytesFilled s xs l ys m) (now (source .entry)) (now (bytes .entry)) r (now (source .exit)) (now (bytes .exit)) ⌝ }
+    ensures { λ r. ⌜ Draws (BytesFilled m) (now (source .entry)) (now (bytes .entry)) r (now (source .exit)) (now (bytes .exit)) ⌝ }
 {
     if source.len() != 4 {
         return 2;
@@ -118,8 +118,12 @@ pub extern "C" fn tsorvenk_fill_bytes_below(m: u32, source: &mut [u64], bytes: &
 
 // Permutations, row after row.
 #[no_mangle]
-pub extern "C" fn tsorvenk_fill_permutations(members: usize, source: &mut [u64], rows: &mut [u8]) -> u8
-    ensures { λ r. ⌜ Draws (λ s xs l ys. PermutationsFilled s xs l ys members) (now (source .entry)) (now (rows .entry)) r (now (source .exit)) (now (rows .exit)) ⌝ }
+pub extern "C" fn tsorvenk_fill_permutations(
+    members: usize,
+    source: &mut [u64],
+    rows: &mut [u8],
+) -> u8
+    ensures { λ r. ⌜ Draws (PermutationsFilled members) (now (source .entry)) (now (rows .entry)) r (now (source .exit)) (now (rows .exit)) ⌝ }
 {
     if source.len() != 4 {
         return 2;
@@ -130,8 +134,12 @@ pub extern "C" fn tsorvenk_fill_permutations(members: usize, source: &mut [u64],
 
 // Permutations other than the identity, row after row.
 #[no_mangle]
-pub extern "C" fn tsorvenk_wolff_permutation(members: usize, source: &mut [u64], rows: &mut [u8]) -> u8
-    ensures { λ r. ⌜ Draws (λ s xs l ys. WolffFilled s xs l ys members) (now (source .entry)) (now (rows .entry)) r (now (source .exit)) (now (rows .exit)) ⌝ }
+pub extern "C" fn tsorvenk_wolff_permutation(
+    members: usize,
+    source: &mut [u64],
+    rows: &mut [u8],
+) -> u8
+    ensures { λ r. ⌜ Draws (WolffFilled members) (now (source .entry)) (now (rows .entry)) r (now (source .exit)) (now (rows .exit)) ⌝ }
 {
     if source.len() != 4 {
         return 2;

@@ -1,10 +1,10 @@
 -- `number` meets its contract. The invariant: with the words left to try, the present source gives what the lent one gives.
 use borrow.Author.Needs.{needs}
 use Prim.Native.Nat.{_≤_, _<_, _/_, _^_, ℕ}
-use mathlib.Core.Path.{_≡_, refl, sym, _∙_, subst, ap}
+use mathlib.Core.Path.{_≡_, refl, _∙_, subst}
 use native.Mathlib.Omega.{arith}
 use lib.Arith.{le-zero}
-use Rattle.draws.specs.Draw.{tried, limit}
+use Rattle.draws.specs.Draw.{tried}
 use Rattle.draws.proofs.Trying.{word-taken, word-again}
 use Rattle.draws.proofs.number.Statement.{statement}
 use Rattle.draws.proofs.number.Tie as tie
@@ -37,7 +37,7 @@ returns c =
     let d = c .before .before .before .step in
     word-taken (a .s) (a .m) (l .before .loop .source) (l .before .loop .left) (d .result) (l .loop-test .taken) (d .ensures)
     (subst (λ (x : ℕ). d .result .value / 2 ^ 32 < x) (S l .pre .at) (c .if1 .taken))
-        ∙ l .before .loop .inv
+    ∙ l .before .loop .inv
 
 sub-left : tie.Need-sub-left Inv-loop μ-loop
 sub-left c = search needs
@@ -52,7 +52,7 @@ loop-again c =
     let d = c .before .before .before .step in
     word-again (a .s) (a .m) (l .before .loop .source) (l .before .loop .left) (d .result) (l .loop-test .taken) (d .ensures)
     (subst (λ (x : ℕ). x ≤ d .result .value / 2 ^ 32) (S l .pre .at) (c .if1 .left))
-        ∙ l .before .loop .inv
+    ∙ l .before .loop .inv
 
 refuse-requires : tie.Need-refuse-requires Inv-loop μ-loop
 refuse-requires c κs = search needs

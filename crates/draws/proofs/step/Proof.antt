@@ -2,7 +2,6 @@
 use borrow.Author.Needs.{needs}
 use Prim.Native.Nat.{ℕ, _*_, _%_, _^_}
 use mathlib.Core.Path.{_≡_, ap, _∙_}
-use lib.Bits.{bitXor}
 use Rattle.draws.specs.Words.{source, drawn, rotl, word, next}
 use Rattle.draws.proofs.step.Statement.{statement}
 use Rattle.draws.proofs.step.Tie as tie
@@ -25,10 +24,10 @@ returns c =
     let v = n .before in
     let s = v .before .before .args .s in
     let e : n .by-nine .result ≡ word s =
-        n .by-nine .ensures
-            ∙ ap (λ (x : ℕ). x * 9 % 2 ^ 64) (v .turned-7 .ensures ∙ ap (λ (x : ℕ). rotl x 7) (v .before .by-five .ensures)) in
+    n .by-nine .ensures
+    ∙ ap (λ (x : ℕ). x * 9 % 2 ^ 64) (v .turned-7 .ensures ∙ ap (λ (x : ℕ). rotl x 7) (v .before .by-five .ensures)) in
     ap (λ (x : ℕ). drawn 0 (n .by-nine .result) (source (next s .s0) (next s .s1) (next s .s2) x)) (c .turned-45 .ensures)
-        ∙ ap (λ (x : ℕ). drawn 0 x (next s)) e
+    ∙ ap (λ (x : ℕ). drawn 0 x (next s)) e
 
 pub step-spec : {M : Type 1} → statement M
 step-spec =

@@ -1,8 +1,7 @@
 -- `below_if` meets its contract: refused by the verdict, or written.
 use borrow.Author.Needs.{needs}
-use Prim.Native.Nat.{ℕ, _+_, _≤_}
-use mathlib.Core.Path.{_≡_, subst}
-use mathlib.Core.List.{List}
+use Prim.Native.Nat.{ℕ, _≤_}
+use mathlib.Core.Path.{subst}
 use native.Mathlib.Omega.{arith}
 use lib.ListN.{length}
 use Rattle.paper.specs.Refusal.Verdict.{Verdict}
@@ -66,7 +65,8 @@ returns-2 c =
     let xs = a .numbers .now in
     fills-written (numberRules (a .fits) 4096 (a .m) (length xs) s) (numberAt (number (a .m)) s) (stop (goOn (number (a .m))) (length xs) s) s xs
     (v .number-verdict .result) (v .number-verdict .ensures) (e .if1 .left)
-    (subst (λ (m : ℕ). Written (numberAt (number m) s) (stop (goOn (number m)) (length xs) s) xs (w .write-numbers .result) (w .write-numbers .last .1 .1 .1 .0)) (d .wide .ensures) (w .write-numbers .ensures))
+    (subst (λ (m : ℕ). Written (numberAt (number m) s) (stop (goOn (number m)) (length xs) s) xs (w .write-numbers .result)
+    (w .write-numbers .last .1 .1 .1 .0)) (d .wide .ensures) (w .write-numbers .ensures))
 
 pub below-if-spec : {M : Type 1} → statement M
 below-if-spec =

@@ -1,9 +1,8 @@
 -- `fill_bytes_below` meets its contract: refused by the verdict, or written.
 use borrow.Author.Needs.{needs}
 use Prim.Native.Nat.{ℕ, _+_, _≤_}
-use mathlib.Core.Path.{_≡_, subst}
+use mathlib.Core.Path.{subst}
 use mathlib.Core.Bool.{true}
-use mathlib.Core.List.{List}
 use native.Mathlib.Omega.{arith}
 use lib.ListN.{length}
 use Rattle.paper.specs.Refusal.Verdict.{Verdict}
@@ -67,7 +66,8 @@ returns-2 c =
     let xs = a .bytes .now in
     fills-written (numberRules true 256 (a .m) (length xs) s) (numberAt (number (a .m)) s) (stop (goOn (number (a .m))) (length xs) s) s xs
     (v .number-verdict .result) (v .number-verdict .ensures) (e .if1 .left)
-    (plus-none (subst (λ (m : ℕ). Written (λ j. numberAt (number m) s j + 0) (stop (goOn (number m)) (length xs) s) xs (w .write-bytes .result) (w .write-bytes .last .1 .1 .1 .1 .0)) (d .wide .ensures) (w .write-bytes .ensures)))
+    (plus-none (subst (λ (m : ℕ). Written (λ j. numberAt (number m) s j + 0) (stop (goOn (number m)) (length xs) s) xs (w .write-bytes .result)
+    (w .write-bytes .last .1 .1 .1 .1 .0)) (d .wide .ensures) (w .write-bytes .ensures)))
 
 pub fill-bytes-below-spec : {M : Type 1} → statement M
 fill-bytes-below-spec =

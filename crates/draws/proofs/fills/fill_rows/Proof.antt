@@ -1,8 +1,7 @@
 -- `fill_rows` meets its contract: refused by the verdict, or written.
 use borrow.Author.Needs.{needs}
 use Prim.Native.Nat.{ℕ, _/_}
-use mathlib.Core.Path.{_≡_, subst}
-use mathlib.Core.Bool.{true}
+use mathlib.Core.Path.{subst}
 use native.Mathlib.Omega.{arith}
 use lib.ListN.{length}
 use Rattle.paper.specs.Refusal.Rule.{Kept}

@@ -15,7 +15,8 @@ returns c =
     let v = c .before in
     let a = v .before .before .args in
     let s = a .source in
-    fills-refused (wordRules (a .fits) s) (numberAt flipped s) (stop (goOn flipped) (length (a .flips .now)) s) s (a .flips .now) (v .word-verdict .result) (v .word-verdict .ensures) (c .if1 .taken)
+    fills-refused (wordRules (a .fits) s) (numberAt flipped s) (stop (goOn flipped) (length (a .flips .now)) s) s (a .flips .now)
+    (v .word-verdict .result) (v .word-verdict .ensures) (c .if1 .taken)
 
 write-flips-requires : tie.Need-write-flips-requires
 write-flips-requires c κs = search needs
@@ -30,7 +31,8 @@ returns-2 c =
     let v = e .before in
     let a = v .before .before .args in
     let s = a .source in
-    fills-written (wordRules (a .fits) s) (numberAt flipped s) (stop (goOn flipped) (length (a .flips .now)) s) s (a .flips .now) (v .word-verdict .result) (v .word-verdict .ensures) (e .if1 .left)
+    fills-written (wordRules (a .fits) s) (numberAt flipped s) (stop (goOn flipped) (length (a .flips .now)) s) s (a .flips .now)
+    (v .word-verdict .result) (v .word-verdict .ensures) (e .if1 .left)
     (w .write-flips .ensures)
 
 pub flips-if-spec : {M : Type 1} → statement M

@@ -1,13 +1,12 @@
 -- `one_word` meets its contract: refused by the verdict, or written.
 use borrow.Author.Needs.{needs}
 use Prim.Native.Nat.{ℕ}
-use mathlib.Core.Path.{_≡_, ap, subst}
+use mathlib.Core.Path.{_≡_, subst}
 use native.Mathlib.Omega.{arith}
 use borrow.Author.Tests.{eqb-true}
 use lib.Dec.{eqb}
 use lib.ListN.{length}
 use Rattle.paper.specs.Refusal.Verdict.{Verdict}
-use Rattle.draws.specs.declared.Drawn.{Drawn}
 use Rattle.draws.specs.Words.{stepped}
 use Rattle.draws.specs.Fill.{stop, goOn, numberAt, wordRules}
 use Rattle.draws.proofs.Answering.{fills-refused, fills-written, one-written}

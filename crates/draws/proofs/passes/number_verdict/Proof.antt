@@ -1,7 +1,7 @@
 -- `number_verdict` meets its contract: rule by rule.
 use borrow.Author.Needs.{needs}
 use Prim.Native.Nat.{ℕ, _≤_}
-use mathlib.Core.Path.{_≡_, refl, subst}
+use mathlib.Core.Path.{refl, subst}
 use mathlib.Core.Logic.{inl, inr}
 use mathlib.Core.Bool.{true, false}
 use borrow.Author.Tests.{not-true, not-false}
@@ -56,12 +56,27 @@ told c =
 returns-4 : tie.Need-returns-4
 returns-4 c =
     let e = c .before .before .before .before in
-    inr (live (e .before .before .before), inr (ranged (e .before), inr (not-false _ (e .if3 .left), inl (refused (c .before .numbers-go .result) (c .if4 .taken) (told (c .before)), refl))))
+    inr (
+      live (e .before .before .before),
+      inr (
+        ranged (e .before),
+        inr
+            (not-false _ (e .if3 .left), inl (refused (c .before .numbers-go .result) (c .if4 .taken) (told (c .before)), refl)),
+      ),
+    )
 
 returns-5 : tie.Need-returns-5
 returns-5 c =
-    let e = c .before .before .before .before in
-    (live (e .before .before .before), (ranged (e .before), (not-false _ (e .if3 .left), (passed (c .before .numbers-go .result) (c .if4 .left) (told (c .before)), tt))))
+    let e = c .before .before .before .before in (
+      live (e .before .before .before),
+      (
+        ranged (e .before),
+        (
+          not-false _ (e .if3 .left),
+          (passed (c .before .numbers-go .result) (c .if4 .left) (told (c .before)), tt),
+        ),
+      ),
+    )
 
 pub number-verdict-spec : {M : Type 1} → statement M
 number-verdict-spec =

@@ -1,6 +1,5 @@
 -- `row_verdict` meets its contract: rule by rule.
 use borrow.Author.Needs.{needs}
-use Prim.Native.Nat.{ℕ, _≤_}
 use mathlib.Core.Path.{_≡_, refl}
 use mathlib.Core.Logic.{inl, inr}
 use mathlib.Core.Bool.{true, false}
@@ -56,7 +55,17 @@ returns-4 : tie.Need-returns-4
 returns-4 c =
     let f = c .before .before in
     let e = f .before .before in
-    inr (live (e .before .before), inr (ranged e, inr (fit f, inl (refused (c .before .rows-go .result) (c .if4 .taken) (c .before .rows-go .ensures), refl))))
+    inr (
+      live (e .before .before),
+      inr (
+        ranged e,
+        inr (
+          fit f,
+          inl
+              (refused (c .before .rows-go .result) (c .if4 .taken) (c .before .rows-go .ensures), refl),
+        ),
+      ),
+    )
 
 returns-5 : tie.Need-returns-5
 returns-5 c =

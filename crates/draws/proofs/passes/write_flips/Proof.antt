@@ -1,9 +1,8 @@
 -- `write_flips` meets its contract. The invariant: the first i draws are made and written.
 use borrow.Author.Needs.{needs}
-use Prim.Native.Nat.{ℕ, _+_, _-_, _≤_, _<_}
+use Prim.Native.Nat.{ℕ, _-_, _<_}
 use mathlib.Core.Path.{_≡_, ap, sym, _∙_, subst}
 use native.Mathlib.Omega.{arith}
-use native.Mathlib.Nat.{le-antisymm}
 use lib.ListN.{length}
 use Rattle.draws.specs.declared.Source.{Source}
 use Rattle.draws.specs.declared.Drawn.{Drawn}
@@ -48,10 +47,11 @@ loop-less c = let h = c .before .before .before .before .loop in omega (arith, h
 loop-again : tie.Need-loop-again Inv-loop μ-loop
 loop-again c =
     let n = c .before .before in
-    let h = n .before .before .loop in
-    (stop-more (n .coin-step .result .source) (h .inv .0) (ap (λ (d : Drawn). d .source) (n .coin-step .ensures)),
-    fill-more (n .coin-step .result .value) (h .inv .1) (n .before .loop-test .taken)
-    (ap (λ (d : Drawn). d .value) (n .coin-step .ensures) ∙ ap (λ (t : Source). flipped t .value) (h .inv .0 .is)))
+    let h = n .before .before .loop in (
+      stop-more (n .coin-step .result .source) (h .inv .0) (ap (λ (d : Drawn). d .source) (n .coin-step .ensures)),
+      fill-more (n .coin-step .result .value) (h .inv .1) (n .before .loop-test .taken)
+          (ap (λ (d : Drawn). d .value) (n .coin-step .ensures) ∙ ap (λ (t : Source). flipped t .value) (h .inv .0 .is)),
+    )
 
 same-length : tie.Need-same-length Inv-loop μ-loop
 same-length c = c .before .loop .inv .1 .long
@@ -65,4 +65,17 @@ returns c =
     ended c = omega (arith, c .before .loop .inv .1 .low, c .before .loop .inv .1 .long, c .loop-test .left)
 
 pub write-flips-spec : {M : Type 1} → statement M
-write-flips-spec = tie.close (tie.spec Inv-loop μ-loop loop-holds coin-step-requires cast-flips slice-write-flips add-i loop-less loop-again same-length returns)
+write-flips-spec =
+    tie.close
+    (tie.spec
+    Inv-loop
+    μ-loop
+    loop-holds
+    coin-step-requires
+    cast-flips
+    slice-write-flips
+    add-i
+    loop-less
+    loop-again
+    same-length
+    returns)

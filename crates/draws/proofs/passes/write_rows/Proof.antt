@@ -1,10 +1,9 @@
 -- `write_rows` meets its contract. The invariant: the first i rows are drawn and written.
 use borrow.Author.Needs.{needs}
-use Prim.Native.Nat.{ℕ, zero, _+_, _-_, _*_, _≤_, _<_}
+use Prim.Native.Nat.{ℕ, _+_, _-_, _*_, _≤_}
 use mathlib.Core.Path.{_≡_, ap, sym, _∙_, subst}
-use mathlib.Core.List.{List}
 use native.Mathlib.Omega.{arith}
-use native.Mathlib.Nat.{le-antisymm, le-of-eq, zero-mul}
+use native.Mathlib.Nat.{le-antisymm, zero-mul}
 use lib.ListN.{length, getD}
 use Rattle.draws.specs.declared.Source.{Source}
 use Rattle.draws.specs.declared.Row.{Row}
@@ -34,9 +33,12 @@ inside l =
 
 loop-holds : tie.Need-loop-holds Inv-loop μ-loop
 loop-holds c =
-    let a = c .before .args in
-    (omega arith, stop-none,
-    subst (λ (x : ℕ). Filled (entryAt (a .moving) (a .members) (a .s)) x (length (a .rows .now)) (a .rows .now)) (sym (zero-mul (a .members))) (fill-none _))
+    let a = c .before .args in (
+      omega arith,
+      stop-none,
+      subst (λ (x : ℕ). Filled (entryAt (a .moving) (a .members) (a .s)) x (length (a .rows .now)) (a .rows .now)) (sym (zero-mul (a .members)))
+          (fill-none _),
+    )
 
 row-by-requires : tie.Need-row-by-requires Inv-loop μ-loop
 row-by-requires c κs = S c .pre .members
@@ -61,12 +63,13 @@ loop-again c =
     let r = p .before .before .before in
     let l = r .before in
     let h = l .before .loop in
-    let a = S l .args in
-    (omega (arith, l .loop-test .taken),
-    stop-more (r .row-by .result .source) (h .inv .1) (ap (λ (d : Row). d .source) (r .row-by .ensures)),
-    rows-more (h .i) (h .inv .2) (p .put-row .ensures) (inside l)
-    (λ k q. ap (λ (d : Row). getD (d .row) k 0) (r .row-by .ensures)
-        ∙ (ap (λ (t : Source). getD (rowBy (a .moving) (a .members) t .row) k 0) (h .inv .1 .is) ∙ entry-of (a .moving) (a .members) (a .s) (h .i) k q)))
+    let a = S l .args in (
+      omega (arith, l .loop-test .taken),
+      stop-more (r .row-by .result .source) (h .inv .1) (ap (λ (d : Row). d .source) (r .row-by .ensures)),
+      rows-more (h .i) (h .inv .2) (p .put-row .ensures) (inside l)
+          (λ k q. ap (λ (d : Row). getD (d .row) k 0) (r .row-by .ensures)
+          ∙ (ap (λ (t : Source). getD (rowBy (a .moving) (a .members) t .row) k 0) (h .inv .1 .is) ∙ entry-of (a .moving) (a .members) (a .s) (h .i) k q)),
+    )
 
 same-length : tie.Need-same-length Inv-loop μ-loop
 same-length c = c .before .loop .inv .2 .long

@@ -1,7 +1,7 @@
 -- `identity` meets its contract. The invariant: the first k places are tested.
 use borrow.Author.Needs.{needs}
-use Prim.Native.Nat.{ℕ, _-_, _≤_, _<_, suc}
-use mathlib.Core.Path.{_≡_, refl, ap, _∙_}
+use Prim.Native.Nat.{_-_, _≤_, _<_}
+use mathlib.Core.Path.{_≡_, refl, ap}
 use mathlib.Core.Bool.{Bool, _&&_}
 use native.Mathlib.Omega.{arith}
 use native.Mathlib.Nat.{le-antisymm}
@@ -39,9 +39,10 @@ loop-less c = search needs
 
 loop-again : tie.Need-loop-again Inv-loop μ-loop
 unfolding isIdentity
-loop-again c =
-    (omega arith,
-    rw add-one (ap (λ (b : Bool). b && eqb (getD (c .before .before .args .t2) (c .before .loop .k) 0) (c .before .loop .k)) (c .before .loop .inv .1)))
+loop-again c = (
+  omega arith,
+  rw add-one (ap (λ (b : Bool). b && eqb (getD (c .before .before .args .t2) (c .before .loop .k) 0) (c .before .loop .k)) (c .before .loop .inv .1)),
+)
 
 returns : tie.Need-returns Inv-loop μ-loop
 returns c = rw (le-antisymm (c .before .loop .inv .0) (c .loop-test .left)) at (c .before .loop .inv .1)

@@ -1,7 +1,6 @@
 -- `moving_row` meets its contract. The invariant: with the permutations left to try, the present source gives what the lent one gives.
 use borrow.Author.Needs.{needs}
-use Prim.Native.Nat.{ℕ}
-use mathlib.Core.Path.{_≡_, refl, sym, _∙_}
+use mathlib.Core.Path.{_≡_, refl, _∙_}
 use lib.Arith.{le-zero}
 use Rattle.draws.specs.Rows.{retried}
 use Rattle.draws.proofs.Choosing.{so-not, so-is}
@@ -30,9 +29,9 @@ returns c =
     let l = r .before in
     let a = l .before .before .args in
     c .refused-row .ensures
-        ∙ (row-refused (a .s) (a .members) (l .before .loop .source) (r .shuffle .result) (r .shuffle .ensures) (l .before .loop .left) (l .loop-test .taken)
-        (c .before .if1 .taken)
-        ∙ l .before .loop .inv)
+    ∙ (row-refused (a .s) (a .members) (l .before .loop .source) (r .shuffle .result) (r .shuffle .ensures) (l .before .loop .left) (l .loop-test .taken)
+    (c .before .if1 .taken)
+    ∙ l .before .loop .inv)
 
 identity-requires : tie.Need-identity-requires Inv-loop μ-loop
 identity-requires c κs = c .before .before .before .before .before .before .pre
@@ -45,7 +44,7 @@ returns-2 c =
     let a = l .before .before .args in
     row-moved (a .s) (a .members) (l .before .loop .source) (r .shuffle .result) (r .shuffle .ensures) (l .before .loop .left) (l .loop-test .taken)
     (i .before .before .if1 .left) (so-not (i .identity .ensures) (c .if2 .taken))
-        ∙ l .before .loop .inv
+    ∙ l .before .loop .inv
 
 sub-left : tie.Need-sub-left Inv-loop μ-loop
 sub-left c = search needs
@@ -61,7 +60,7 @@ loop-again c =
     let a = l .before .before .args in
     row-again (a .s) (a .members) (l .before .loop .source) (r .shuffle .result) (r .shuffle .ensures) (l .before .loop .left) (l .loop-test .taken)
     (i .before .before .if1 .left) (so-is (i .identity .ensures) (c .before .if2 .left))
-        ∙ l .before .loop .inv
+    ∙ l .before .loop .inv
 
 refused-row-requires-2 : tie.Need-refused-row-requires-2 Inv-loop μ-loop
 refused-row-requires-2 c κs = search needs

@@ -1,5 +1,4 @@
 -- `place` meets its contract: the two sides of its test.
-use borrow.Author.Needs.{needs}
 use borrow.Author.Tests.{lt-ltb, le-ltb}
 use Rattle.draws.proofs.rows.place.Statement.{statement}
 use Rattle.draws.proofs.rows.place.Tie as tie

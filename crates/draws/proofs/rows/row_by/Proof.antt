@@ -1,5 +1,4 @@
 -- `row_by` meets its contract: the two sides of its test.
-use borrow.Author.Needs.{needs}
 use Rattle.draws.proofs.rows.row_by.Statement.{statement}
 use Rattle.draws.proofs.rows.row_by.Tie as tie
 

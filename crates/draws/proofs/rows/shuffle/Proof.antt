@@ -1,13 +1,13 @@
 -- `shuffle` meets its contract. The invariant: the places from i down, exchanged in the present row, make the permutation of the lent source.
 use borrow.Author.Needs.{needs}
-use Prim.Native.Nat.{ℕ, _+_, _-_, _≤_, _<_}
-use mathlib.Core.Path.{_≡_, refl, sym, ap, _∙_, subst}
+use Prim.Native.Nat.{ℕ, _+_, _-_, _<_}
+use mathlib.Core.Path.{_≡_, sym, ap, _∙_, subst}
 use mathlib.Core.List.{List}
 use native.Mathlib.Omega.{arith}
 use lib.Arith.{le-zero}
 use Rattle.draws.specs.declared.Drawn.{Drawn}
 use Rattle.draws.specs.Draw.{number}
-use Rattle.draws.specs.Rows.{shuffled, permuted, firstRow, Members}
+use Rattle.draws.specs.Rows.{shuffled, permuted}
 use Rattle.draws.specs.Numbers.{tried-below}
 use Rattle.draws.proofs.Shuffling.{place-refused, place-done}
 use Rattle.draws.proofs.rows.shuffle.Statement.{statement}
@@ -64,8 +64,8 @@ returns c =
     let l = L n in
     let h = l .before .loop in
     c .refused-row .ensures
-        ∙ (place-refused (S l .args .s) (h .row) (h .source) (h .i) (n .number .result) (l .loop-test .taken) (n .number .ensures) (c .before .if1 .taken)
-        ∙ h .inv .1)
+    ∙ (place-refused (S l .args .s) (h .row) (h .source) (h .i) (n .number .result) (l .loop-test .taken) (n .number .ensures) (c .before .if1 .taken)
+    ∙ h .inv .1)
 
 array-read-x : tie.Need-array-read-x Inv-loop μ-loop
 array-read-x c = L (c .before .before) .before .loop .inv .0
@@ -89,9 +89,11 @@ loop-again : tie.Need-loop-again Inv-loop μ-loop
 loop-again c =
     let n = c .before .before .before in
     let l = L n in
-    let h = l .before .loop in
-    (omega (arith, h .inv .0),
-    place-done (S l .args .s) (h .row) (h .source) (h .i) (n .number .result) (l .loop-test .taken) (n .number .ensures) (c .before .if1 .left) ∙ h .inv .1)
+    let h = l .before .loop in (
+      omega (arith, h .inv .0),
+      place-done (S l .args .s) (h .row) (h .source) (h .i) (n .number .result) (l .loop-test .taken) (n .number .ensures) (c .before .if1 .left)
+          ∙ h .inv .1,
+    )
 
 returns-2 : tie.Need-returns-2 Inv-loop μ-loop
 unfolding shuffled

@@ -28,7 +28,17 @@ returns-2 c =
     let o = h .before .before .before .before in
     let f = o .before .before in
     let e = f .before .before in
-    answered (f .source-of .result) (o .fill-bytes-below .result) (e .if1 .left) (f .source-of .ensures) (o .fill-bytes-below .ensures) (h .hand-over .ensures)
+    answered (f .source-of .result) (o .fill-bytes-below .result) (e .if1 .left) (f .source-of .ensures) (o .fill-bytes-below .ensures)
+    (h .hand-over .ensures)
 
 pub tsorvenk-fill-bytes-below-spec : {M : Type 1} → statement M
-tsorvenk-fill-bytes-below-spec = tie.close (tie.spec returns source-of-requires fill-bytes-below-requires hand-over-requires same-length same-length-2 returns-2)
+tsorvenk-fill-bytes-below-spec =
+    tie.close
+    (tie.spec
+    returns
+    source-of-requires
+    fill-bytes-below-requires
+    hand-over-requires
+    same-length
+    same-length-2
+    returns-2)
