@@ -227,8 +227,9 @@ uint8_t tsorvenk_wolff_grey(uint64_t *source, size_t source_len, uint8_t *greys,
  *     uint8_t number = tsorvenk_step_with(&args);
  *
  * A buffer whose pointer is null has length 0, whatever its _len is: where the mode and form do not take it it is ignored,
- * and where they do it is refused with 2, but in a fill, which may have no entry. A struct that is initialised by name, or to 0 and then field by field, needs no
- * change where a field is added. The functions are inline: the struct is no part of what is linked. */
+ * and where they do it is refused with 2, but in a fill, which may have no entry. A struct that is
+ * initialised by name, or to 0 and then field by field, needs no change where a field is added. The functions are inline:
+ * the struct is no part of what is linked. */
 struct tsorvenk_step_args {
     uint8_t mode, form;
     size_t n, d, s;
