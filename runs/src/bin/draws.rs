@@ -1,7 +1,7 @@
 //! draws [seeds] [seed] [steps]: the draws of the port beside request 1/14 in plain Rust.
 //!
 //! `steps` words from each of `seeds` sources (1000 and 1000 where they are not given); then, for each of these, a call of
-//! every kind, one that takes words again, one that draws identities again, and two damaged ones. What comes back, the source
+//! every kind, one that takes words again, one that draws identities again, and twenty damaged ones. What comes back, the source
 //! and the buffer must be the same; a refusal must leave both as they were lent.
 use std::process::ExitCode;
 use tsorvenk_runs::draws::backwards::{before, giving};
@@ -143,12 +143,12 @@ fn main() -> ExitCode {
     run.compare(&case);
     println!("identities drawn again: {drawn} in {seeds} calls, and {run_of} in a row; 64 in a row, the refusal, by no source that is known");
     let accepted = run.refused;
-    for mut rand in rands(seed, 2 * seeds, 6) {
+    for mut rand in rands(seed, 20 * seeds, 6) {
         run.compare(&make::damaged(&mut rand));
     }
     println!(
         "damaged calls: {}, refused with 2: {}, with 12: {}",
-        2 * seeds,
+        20 * seeds,
         run.refused[2] - accepted[2],
         run.refused[12] - accepted[12]
     );
