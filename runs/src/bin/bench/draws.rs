@@ -41,7 +41,17 @@ fn word(source: &mut Plain) -> u64 {
     source.word()
 }
 
-/// The same with the tests of the exported one.
+#[inline(never)]
+fn called_below(source: &mut Plain, m: u32) -> u32 {
+    below(source, m)
+}
+
+#[inline(never)]
+fn called_permutation(source: &mut Plain, row: &mut [u8]) {
+    permutation(source, row)
+}
+
+/// A word with the tests of the exported one.
 #[inline(never)]
 fn tested_word(source: &mut [u64], word: &mut [u64]) -> u8 {
     let Ok(words) = <&mut [u64; 4]>::try_from(source) else {
@@ -122,6 +132,39 @@ impl Bench {
             COUNT,
             |source, out: &mut [u64]| out.iter_mut().for_each(|w| *w = source.word().unwrap()),
             |source, out| out.iter_mut().for_each(|w| *w = source.word()),
+        );
+        line(
+            times,
+            "4,096 coins, one by one",
+            COUNT,
+            |source, out: &mut [u8]| out.iter_mut().for_each(|c| *c = source.coin().unwrap()),
+            |source, out| out.iter_mut().for_each(|c| *c = (word(source) >> 63) as u8),
+        );
+        line(
+            times,
+            "4,096 below 1000, one by one",
+            COUNT,
+            |source, out: &mut [u32]| {
+                let m = black_box(1000);
+                out.iter_mut().for_each(|v| *v = source.below(m).unwrap())
+            },
+            |source, out| {
+                let m = black_box(1000);
+                out.iter_mut().for_each(|v| *v = called_below(source, m))
+            },
+        );
+        line(
+            times,
+            "4,096 rows of eight, one by one",
+            COUNT * ROW,
+            |source, out: &mut [u8]| {
+                let rows = out.chunks_mut(ROW);
+                rows.for_each(|row| source.permutation(row).unwrap())
+            },
+            |source, out| {
+                let rows = out.chunks_mut(ROW);
+                rows.for_each(|row| called_permutation(source, row))
+            },
         );
         line(
             times,
