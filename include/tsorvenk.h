@@ -201,7 +201,7 @@ uint8_t tsorvenk_frames(const uint8_t *text, size_t text_len, uint8_t *out, size
  *
  * Each returns 0 or a refusal, tested in this order: 2 if source_len is not 4; 12 if the source's words are all 0, m or
  * members is out of range; 2 if the buffer to write has not the length named above; and last 12 if 64 words, or 64
- * identities, in a row are taken again. Then the source and every buffer are as they were. */
+ * identities, in a row are taken again. Refused, the source and every buffer are as they were. */
 uint8_t tsorvenk_word(uint64_t *source, size_t source_len, uint64_t *word, size_t word_len);
 uint8_t tsorvenk_coin(uint64_t *source, size_t source_len, uint8_t *coin, size_t coin_len);
 uint8_t tsorvenk_below(uint32_t m, uint64_t *source, size_t source_len, uint32_t *number, size_t number_len);
