@@ -51,21 +51,22 @@ fn called_permutation(source: &mut Plain, row: &mut [u8]) {
     permutation(source, row)
 }
 
-/// A word with the tests of the exported one.
+/// A word with the tests of the exported one. Its words are looked at one by one: compared as an array they are loaded at
+/// once, which has to wait for the four stores of the word before.
 #[inline(never)]
 fn tested_word(source: &mut [u64], word: &mut [u64]) -> u8 {
-    let Ok(words) = <&mut [u64; 4]>::try_from(source) else {
+    if source.len() != 4 {
         return 2;
-    };
-    if *words == [0; 4] {
+    }
+    if source[0] == 0 && source[1] == 0 && source[2] == 0 && source[3] == 0 {
         return 12;
     }
-    let [word] = word else {
+    if word.len() != 1 {
         return 2;
-    };
-    let mut stepped = Plain(*words);
-    *word = stepped.word();
-    *words = stepped.0;
+    }
+    let mut stepped = Plain([source[0], source[1], source[2], source[3]]);
+    word[0] = stepped.word();
+    source.copy_from_slice(&stepped.0);
     0
 }
 
