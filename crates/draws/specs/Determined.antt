@@ -7,7 +7,7 @@ use native.Mathlib.Omega.{arith}
 use lib.Dec.{eqb}
 use lib.ListN.{length}
 use lib.Seq.{ext-getD}
-use Rattle.paper.specs.Law.TypesDetermined.{one-value}
+use Rattle.lemmas.specs.Determined.{one-value}
 use Rattle.paper.specs.Refusal.Rule.{Rule, broken-unique, broken-not-kept}
 use Rattle.paper.specs.Refusal.Verdict.{Verdict, verdict-unique}
 use Rattle.draws.specs.declared.Source.{Source}

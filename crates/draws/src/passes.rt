@@ -12,7 +12,7 @@ use super::wide;
 ghost use mathlib.Core.Path.{_≡_};
 ghost use Prim.Native.Nat.{_+_};
 ghost use lib.ListN.{length};
-ghost use Rattle.paper.specs.Component.Marks.{Tells};
+ghost use Rattle.lemmas.specs.Tells.{Tells};
 ghost use Rattle.paper.specs.Refusal.Verdict.{Verdict};
 ghost use Rattle.draws.specs.Draw.{number, flipped, Topped};
 ghost use Rattle.draws.specs.Rows.{Members};

@@ -5,7 +5,7 @@ use mathlib.Core.Path.{refl, subst}
 use mathlib.Core.Logic.{inl, inr}
 use mathlib.Core.Bool.{true, false}
 use borrow.Author.Tests.{not-true, not-false}
-use Rattle.paper.specs.Component.Marks.{Tells, passed, refused}
+use Rattle.lemmas.specs.Tells.{Tells, passed, refused}
 use Rattle.draws.specs.Words.{Live}
 use Rattle.draws.specs.Draw.{number, Within}
 use Rattle.draws.specs.Fill.{NumbersGo}

@@ -4,7 +4,7 @@ use mathlib.Core.Path.{_≡_, refl}
 use mathlib.Core.Logic.{inl, inr}
 use mathlib.Core.Bool.{true, false}
 use native.Mathlib.Omega.{arith}
-use Rattle.paper.specs.Component.Marks.{passed, refused}
+use Rattle.lemmas.specs.Tells.{passed, refused}
 use Rattle.draws.specs.Words.{Live}
 use Rattle.draws.specs.Draw.{Within}
 use Rattle.draws.specs.Rows.{Members}
