@@ -1,6 +1,6 @@
 -- What the exported draws answer: over a lent source of four words, what the draws answer by themselves.
 use Prim.Native.Nat.{ℕ}
-use mathlib.Core.Path.{_≡_, refl, subst}
+use mathlib.Core.Path.{_≡_, refl, ap, _∙_, subst}
 use mathlib.Core.List.{List, [], _∷_}
 use native.Mathlib.Omega.{arith}
 use lib.ListN.{length, getD, set}
@@ -66,3 +66,7 @@ reread (_ ∷ _ ∷ []) e = absurd (omega arith)
 reread (_ ∷ _ ∷ _ ∷ []) e = absurd (omega arith)
 reread (_ ∷ _ ∷ _ ∷ _ ∷ []) e = refl
 reread (_ ∷ _ ∷ _ ∷ _ ∷ _ ∷ ws) e = absurd (omega arith)
+
+-- where a refusal has left the source as lent, its words are as lent
+pub words-kept : {l : Left} {r : ℕ} {ws ws′ : List ℕ} → length ws ≡ 4 → Handed l r ws′ → l .source ≡ sourceOf ws → ws′ ≡ ws
+words-kept {ws = ws} four h e = h .words ∙ (ap wordsOf e ∙ reread ws four)
