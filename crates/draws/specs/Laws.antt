@@ -3,16 +3,23 @@
 use Prim.Native.Nat.{ℕ, zero, suc, _+_, _-_, _*_, _/_, _%_, _^_, _≤_, _<_}
 use mathlib.Core.Path.{_≡_, refl, sym, ap, _∙_}
 use mathlib.Core.Bool.{Bool, true, false, cond, _&&_}
+use mathlib.Core.List.{List}
 use native.Mathlib.Omega.{arith}
 use native.Mathlib.Nat.{mod-lt, div-add-mod', mod-eq-of-lt}
 use borrow.Author.Tests.{lt-ltb, le-ltb, eqb-true, eq-eqb}
 use lib.Arith.{digits-mod}
 use lib.Bits.{bitOr, bitXor, xor-zero-r, xor-add-and, or-add-and, and-le-l, and-le-r}
 use lib.Dec.{eqb, ltb}
+use lib.ListN.{length}
+use Rattle.paper.specs.Refusal.Rule.{Rule}
 use Rattle.draws.specs.declared.Source.{Source}
+use Rattle.draws.specs.declared.Row.{Row}
+use Rattle.draws.specs.declared.Left.{Left}
 use Rattle.draws.specs.Words.{source, rotl, word, next, after, isBlank, Live, drawn}
 use Rattle.draws.specs.Draw.{flipped, number, high, limit, tried, refused}
-use Rattle.draws.specs.Fill.{stop, goOn}
+use Rattle.draws.specs.Rows.{firstRow, swapped, shuffled, permuted, isIdentity, retried, rowBy, refusedRow}
+use Rattle.draws.specs.Fill.{stop, goOn, goDown, grey, Fills, entryAt, numberAt, numberRules, rowRules}
+use Rattle.draws.specs.Promise.{PermutationsFilled, WolffFilled, GreysFilled}
 
 -- ---- a live source stays live
 
@@ -193,6 +200,56 @@ pub flips-words : (n : ℕ) (s : Source) → stop (goOn flipped) n s ≡ after n
 unfolding stop after
 flips-words zero s = refl
 flips-words (suc n) s = ap next (flips-words n s)
+
+-- a permutation's words are those of its numbers, a Wolff row's those of its tries
+either-words : {s : Source} (b : Bool) (p q : Row) → Words s (p .source) → Words s (q .source) → Words s (cond b p q .source)
+either-words true p q v w = v
+either-words false p q v w = w
+
+shuffled-words : (i : ℕ) (xs : List ℕ) (s lent : Source) → Words lent s → Words lent (shuffled lent i xs s .source)
+unfolding shuffled
+shuffled-words zero xs s lent w = w
+shuffled-words (suc i) xs s lent w =
+    let d = number (suc i + 1) s in
+    either-words (eqb (d .refusal) 0) (shuffled lent i (swapped xs (suc i) (d .value)) (d .source)) (refusedRow lent)
+    (shuffled-words i (swapped xs (suc i) (d .value)) (d .source) lent (words-both w (tried-words 64 (suc i + 1) s s (words-none s)))) (words-none lent)
+
+pub permuted-words : (n : ℕ) (s : Source) → Words s (permuted n s .source)
+permuted-words n s = shuffled-words (n - 1) (firstRow n) s s (words-none s)
+
+pub retried-words : (budget n : ℕ) (s lent : Source) → Words lent s → Words lent (retried lent budget n s .source)
+unfolding retried
+retried-words zero n s lent w = words-none lent
+retried-words (suc k) n s lent w =
+    let r = permuted n s in
+    let v = words-both w (permuted-words n s) in
+    either-words (eqb (r .refusal) 0) (cond (isIdentity n (r .row)) (retried lent k n (r .source)) r) (refusedRow lent)
+    (either-words (isIdentity n (r .row)) (retried lent k n (r .source)) r (retried-words k n (r .source) lent v) v) (words-none lent)
+
+pub row-words : (moving : Bool) (n : ℕ) (s : Source) → Words s (rowBy moving n s .source)
+row-words true n s = retried-words 64 n s s (words-none s)
+row-words false n s = permuted-words n s
+
+pub rows-words : (moving : Bool) (n k : ℕ) (s : Source) → Words s (stop (goDown moving n) k s)
+rows-words moving n = stop-words (goDown moving n) (row-words moving n)
+
+-- so the source that a fill hands back is the source lent after some words; refused, after none
+module _ (s : Source) (xs : List ℕ) (l : Left) (ys : List ℕ) where
+  fills-words : (rs : List Rule) (at : ℕ → ℕ) {t : Source} → Words s t → Fills rs at t s xs (l .refusal) (l .source) ys → Words s (l .source)
+  fills-words rs at {t} w = side (l .refusal)
+    where
+      side : (c : ℕ) → Fills rs at t s xs c (l .source) ys → Words s (l .source)
+      side zero f = record { count = w .count; is = f .written .source ∙ w .is }
+      side (suc c) f = record { count = words-none s .count; is = f .source ∙ words-none s .is }
+
+  pub fill-permutations-words : (n : ℕ) → PermutationsFilled n s xs l ys → Words s (l .source)
+  fill-permutations-words n = fills-words (rowRules false false n (length xs) s) (entryAt false n s) (rows-words false n (length xs / n) s)
+
+  pub wolff-permutations-words : (n : ℕ) → WolffFilled n s xs l ys → Words s (l .source)
+  wolff-permutations-words n = fills-words (rowRules false true n (length xs) s) (entryAt true n s) (rows-words true n (length xs / n) s)
+
+  pub wolff-greys-words : GreysFilled s xs l ys → Words s (l .source)
+  wolff-greys-words = fills-words (numberRules true 3 3 (length xs) s) (numberAt grey s) (numbers-words 3 (length xs) s)
 
 -- from the words 1, 2, 3, 4
 pub first-words : (word (source 1 2 3 4) ≡ 11520) × (word (next (source 1 2 3 4)) ≡ 0)
