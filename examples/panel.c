@@ -1,7 +1,9 @@
 /* A small panel through the C interface: a torus of 4 by 4 sites, four systems at two temperatures, one sweep of each
- * mode in the all-clusters form, and a sweep that is refused. panel.rs is the same program in Rust; both print panel.out. */
+ * mode in the all-clusters form, and a sweep that is refused. Every choice is drawn from one seed, so that each run is the
+ * same. panel.rs is the same program in Rust; both print panel.out. */
 #include "tsorvenk.h"
 #include <stdio.h>
+#include <stdlib.h>
 #include <string.h>
 
 enum { SIDE = 4, N = SIDE * SIDE, D = 2, S = 4, T = 2, R = 2, MEMBERS = 2, TASKS = T * (R / MEMBERS) };
@@ -30,13 +32,18 @@ static int32_t couplings[N * D];
 static const uint32_t order[S] = {0, 1, 2, 3};
 static const uint8_t masks[T] = {0, 0};
 
-/* a number below 2^bits: any generator does, since the library draws nothing itself */
-static uint32_t draw(uint32_t *state, int bits) {
-    *state = *state * 1664525u + 1013904223u;
-    return *state >> (32 - bits);
+/* what all draws of a run come from: its seed, stepped by each draw */
+static uint64_t source[4] = {0x0123456789abcdef, 0xfedcba9876543210, 0x0f1e2d3c4b5a6978, 0x8796a5b4c3d2e1f0};
+
+static void drawn(uint8_t code) {
+    if (code) {
+        fprintf(stderr, "a draw is refused with %d: %s\n", code, tsorvenk_refusal_words(code));
+        exit(1);
+    }
 }
 
-static void make_panel(uint32_t *state, struct outputs *o) {
+static void make_panel(struct outputs *o) {
+    uint8_t coins[S * N];
     for (uint32_t i = 0; i < N; i++) {
         uint32_t x = i % SIDE, y = i / SIDE;
         fwd[i * D] = y * SIDE + (x + 1) % SIDE;
@@ -44,24 +51,25 @@ static void make_panel(uint32_t *state, struct outputs *o) {
         bwd[i * D] = y * SIDE + (x + SIDE - 1) % SIDE;
         bwd[i * D + 1] = (y + SIDE - 1) % SIDE * SIDE + x;
     }
+    drawn(tsorvenk_fill_flips(source, 4, coins, N * D));
     for (int k = 0; k < N * D; k++)
-        couplings[k] = draw(state, 1) ? 1 : -1;
+        couplings[k] = coins[k] ? 1 : -1;
     memset(o, 0, sizeof *o);
+    drawn(tsorvenk_fill_flips(source, 4, coins, S * N));
     for (int k = 0; k < S * N; k++)
-        o->spins[k] = draw(state, 1) ? 1 : -1;
+        o->spins[k] = coins[k] ? 1 : -1;
 }
 
-static void make_choices(uint32_t *state, struct choices *c) {
+/* the library draws every choice but the cuts, for which an index is drawn */
+static void make_choices(struct choices *c) {
+    uint8_t cuts[TASKS * N * D];
+    drawn(tsorvenk_fill_bytes_below(8, source, 4, cuts, TASKS * N * D));
     for (int k = 0; k < TASKS * N * D; k++)
-        c->cuts[k] = CUTS[draw(state, 3)];
-    for (int k = 0; k < TASKS; k++)
-        c->references[k] = draw(state, 4);
-    for (int k = 0; k < TASKS * N; k++) {
-        c->flips[k] = draw(state, 1);
-        c->perms[k * MEMBERS] = draw(state, 1);
-        c->perms[k * MEMBERS + 1] = 1 - c->perms[k * MEMBERS];
-        c->greys[k] = draw(state, 2);
-    }
+        c->cuts[k] = CUTS[cuts[k]];
+    drawn(tsorvenk_fill_below(N, source, 4, c->references, TASKS));
+    drawn(tsorvenk_fill_flips(source, 4, c->flips, TASKS * N));
+    drawn(tsorvenk_fill_permutations(MEMBERS, source, 4, c->perms, TASKS * N * MEMBERS));
+    drawn(tsorvenk_fill_bytes_below(4, source, 4, c->greys, TASKS * N));
 }
 
 /* what only some modes take may be lent in all, and the seeds, for the one-cluster form, are left out */
@@ -120,19 +128,18 @@ static void print_sweep(uint8_t mode, uint8_t code, const struct outputs *o) {
 }
 
 int main(void) {
-    uint32_t state = 1;
     struct outputs o, before;
     struct choices c;
-    make_panel(&state, &o);
+    make_panel(&o);
     printf("start\n");
     print_energies(&o);
     for (uint8_t mode = TSORVENK_HOUD; mode <= TSORVENK_CMR; mode++) {
-        make_choices(&state, &c);
+        make_choices(&c);
         print_sweep(mode, sweep(mode, &c, &o), &o);
         print_energies(&o);
     }
     /* a fault in the last task: the first task does not move either */
-    make_choices(&state, &c);
+    make_choices(&c);
     c.flips[TASKS * N - 1] = 2;
     before = o;
     print_sweep(TSORVENK_PAIR, sweep(TSORVENK_PAIR, &c, &o), &o);

@@ -1,6 +1,7 @@
 //! A small panel through the safe crate: a torus of 4 by 4 sites, four systems at two temperatures, one sweep of each mode
-//! in the all-clusters form, and a sweep that is refused. panel.c is the same program in C; both print panel.out.
-use tsorvenk::{Energy, Form, Mode, Refusal, Sweep, Swept};
+//! in the all-clusters form, and a sweep that is refused. Every choice is drawn from one seed, so that each run is the same.
+//! panel.c is the same program in C; both print panel.out.
+use tsorvenk::{Energy, Form, Mode, Refusal, Source, Sweep, Swept};
 
 const SIDE: usize = 4;
 const N: usize = SIDE * SIDE;
@@ -10,6 +11,14 @@ const T: usize = 2;
 const R: usize = 2;
 const MEMBERS: usize = 2;
 const TASKS: usize = T * (R / MEMBERS);
+
+/// What all draws of a run come from.
+const SEED: [u64; 4] = [
+    0x0123456789abcdef,
+    0xfedcba9876543210,
+    0x0f1e2d3c4b5a6978,
+    0x8796a5b4c3d2e1f0,
+];
 
 const TEMPERATURES: [f32; T] = [1.0, 2.5];
 
@@ -43,21 +52,16 @@ struct Panel {
     couplings: [i32; N * D],
 }
 
-/// A number below 2^bits: any generator does, since the library draws nothing itself.
-fn draw(state: &mut u32, bits: u32) -> u32 {
-    *state = state.wrapping_mul(1664525).wrapping_add(1013904223);
-    *state >> (32 - bits)
-}
-
-fn sign(state: &mut u32) -> i8 {
-    if draw(state, 1) == 1 {
+/// A coin as a spin or a coupling.
+fn sign(coin: u8) -> i8 {
+    if coin == 1 {
         1
     } else {
         -1
     }
 }
 
-fn make_panel(state: &mut u32) -> (Panel, Outputs) {
+fn make_panel(source: &mut Source) -> Result<(Panel, Outputs), Refusal> {
     let mut panel = Panel {
         fwd: [0; N * D],
         bwd: [0; N * D],
@@ -70,7 +74,9 @@ fn make_panel(state: &mut u32) -> (Panel, Outputs) {
         panel.bwd[i * D] = (y * SIDE + (x + SIDE - 1) % SIDE) as u32;
         panel.bwd[i * D + 1] = ((y + SIDE - 1) % SIDE * SIDE + x) as u32;
     }
-    panel.couplings.fill_with(|| sign(state).into());
+    let mut coins = [0; N * D];
+    source.fill_flips(&mut coins)?;
+    panel.couplings = coins.map(|coin| sign(coin).into());
     let mut outputs = Outputs {
         spins: [0; S * N],
         labels: [0; TASKS * N],
@@ -78,11 +84,14 @@ fn make_panel(state: &mut u32) -> (Panel, Outputs) {
         counts: [0; TASKS * (N + 1)],
         sizes: [0; TASKS * 4],
     };
-    outputs.spins.fill_with(|| sign(state));
-    (panel, outputs)
+    let mut coins = [0; S * N];
+    source.fill_flips(&mut coins)?;
+    outputs.spins = coins.map(sign);
+    Ok((panel, outputs))
 }
 
-fn make_choices(state: &mut u32) -> Choices {
+/// The library draws every choice but the cuts, for which an index is drawn.
+fn make_choices(source: &mut Source) -> Result<Choices, Refusal> {
     let mut c = Choices {
         cuts: [0.0; TASKS * N * D],
         references: [0; TASKS],
@@ -90,15 +99,14 @@ fn make_choices(state: &mut u32) -> Choices {
         perms: [0; TASKS * N * MEMBERS],
         greys: [0; TASKS * N],
     };
-    c.cuts.fill_with(|| CUTS[draw(state, 3) as usize]);
-    c.references.fill_with(|| draw(state, 4));
-    for k in 0..TASKS * N {
-        c.flips[k] = draw(state, 1) as u8;
-        c.perms[k * MEMBERS] = draw(state, 1) as u8;
-        c.perms[k * MEMBERS + 1] = 1 - c.perms[k * MEMBERS];
-        c.greys[k] = draw(state, 2) as u8;
-    }
-    c
+    let mut cuts = [0; TASKS * N * D];
+    source.fill_bytes_below(8, &mut cuts)?;
+    c.cuts = cuts.map(|cut| CUTS[usize::from(cut)]);
+    source.fill_below(N as u32, &mut c.references)?;
+    source.fill_flips(&mut c.flips)?;
+    source.fill_permutations(MEMBERS, &mut c.perms)?;
+    source.fill_bytes_below(4, &mut c.greys)?;
+    Ok(c)
 }
 
 /// What only some modes take may be lent in all, and the seeds, for the one-cluster form, are left out.
@@ -169,19 +177,19 @@ fn print_sweep(mode: Mode, answer: Result<Swept, Refusal>, sizes: &[u32]) {
     }
 }
 
-fn main() {
-    let mut state = 1;
-    let (panel, mut o) = make_panel(&mut state);
+fn main() -> Result<(), Refusal> {
+    let mut source = Source::new(SEED)?;
+    let (panel, mut o) = make_panel(&mut source)?;
     println!("start");
     print_energies(&panel, &o.spins);
     for mode in Mode::ALL {
-        let c = make_choices(&mut state);
+        let c = make_choices(&mut source)?;
         let answer = sweep(mode, &panel, &c, &mut o);
         print_sweep(mode, answer, &o.sizes);
         print_energies(&panel, &o.spins);
     }
     // A fault in the last task: the first task does not move either.
-    let mut c = make_choices(&mut state);
+    let mut c = make_choices(&mut source)?;
     c.flips[TASKS * N - 1] = 2;
     let before = o.clone();
     let answer = sweep(Mode::Pair, &panel, &c, &mut o);
@@ -195,4 +203,5 @@ fn main() {
         }
     );
     print_energies(&panel, &o.spins);
+    Ok(())
 }

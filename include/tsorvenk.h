@@ -26,6 +26,10 @@
  *   8  a cut is below 0, infinite or not a number
  *   9  a permutation, flip, grey number, reference site or mask byte is out of its set
  *  10  a seed is n or more; or, outside CMR, some site acts and the seed does not
+ *  12  of the draws alone: the four words of a source are all 0, m is not 1 to 4096 (for bytes not 1 to 256), the members
+ *      are not 2 to 8, or 64 words in a row are taken again
+ *
+ * The draws say their order themselves, further down.
  *
  * A test is made only of what the mode and form take.
  *
@@ -161,10 +165,58 @@ enum { TSORVENK_FRAMES_ROOM = 6157 };
  * the last two cases nothing is written. */
 uint8_t tsorvenk_frames(const uint8_t *text, size_t text_len, uint8_t *out, size_t out_len, size_t *written, size_t written_len);
 
+/* Draws that can be repeated: the choices of a day, from a seed of four words.
+ *
+ * The generator is xoshiro256** of Blackman and Vigna. Equal sources give equal draws, everywhere. Rust's rand has another
+ * stream, and cuts are not drawn here.
+ *
+ *   source       4: at first the seed, any words that are not all 0, and then what the last draw left. It is read and,
+ *                unless refused, written: stepped by one word for each word that the call drew
+ *
+ * Every draw is made of words, the first one first:
+ *
+ *   a coin       the top bit of a word
+ *   a number below m, m from 1 to 4096
+ *                the high 32 bits of a word, taken again from the next word while they are not below m * (2^32 / m), the
+ *                quotient rounded down; then the remainder by m. 64 words in a row taken again are refused
+ *   a permutation of 0 to N - 1, N = members from 2 to 8
+ *                0 to N - 1 in order; then, from the last place k down to place 1, place k is exchanged with a place that
+ *                is a number below k + 1
+ *
+ * Each function writes, unless refused:
+ *
+ *   tsorvenk_word                word, 1: the next word
+ *   tsorvenk_coin                coin, 1: 0 or 1
+ *   tsorvenk_below               number, 1: a number below m
+ *   tsorvenk_permutation         row, members: a permutation
+ *   tsorvenk_fill_flips          flips, any length: a coin each
+ *   tsorvenk_fill_below          numbers, any length: a number below m each, as seeds and references are
+ *   tsorvenk_fill_bytes_below    bytes, any length: a number below m each, m from 1 to 256; grey numbers of SW with m = 4
+ *   tsorvenk_fill_permutations   rows, a whole number of rows of members bytes: a permutation each
+ *   tsorvenk_wolff_permutation   rows, as above: a permutation each that is not the identity. A permutation that is is
+ *                                drawn again as a whole, and the 64th in a row is refused
+ *   tsorvenk_wolff_grey          greys, any length: 1 to 3 each, 1 more than a number below 3
+ *
+ * A fill leaves what its draws one by one would leave, from the first entry to the last, and the same source.
+ *
+ * Each returns 0 or a refusal, tested in this order: 2 if source_len is not 4; 12 if the source's words are all 0, m or
+ * members is out of range; 2 if the buffer to write has not the length named above; and last 12 if 64 words, or 64
+ * identities, in a row are taken again. Refused, the source and every buffer are as they were. */
+uint8_t tsorvenk_word(uint64_t *source, size_t source_len, uint64_t *word, size_t word_len);
+uint8_t tsorvenk_coin(uint64_t *source, size_t source_len, uint8_t *coin, size_t coin_len);
+uint8_t tsorvenk_below(uint32_t m, uint64_t *source, size_t source_len, uint32_t *number, size_t number_len);
+uint8_t tsorvenk_permutation(size_t members, uint64_t *source, size_t source_len, uint8_t *row, size_t row_len);
+uint8_t tsorvenk_fill_flips(uint64_t *source, size_t source_len, uint8_t *flips, size_t flips_len);
+uint8_t tsorvenk_fill_below(uint32_t m, uint64_t *source, size_t source_len, uint32_t *numbers, size_t numbers_len);
+uint8_t tsorvenk_fill_bytes_below(uint32_t m, uint64_t *source, size_t source_len, uint8_t *bytes, size_t bytes_len);
+uint8_t tsorvenk_fill_permutations(size_t members, uint64_t *source, size_t source_len, uint8_t *rows, size_t rows_len);
+uint8_t tsorvenk_wolff_permutation(size_t members, uint64_t *source, size_t source_len, uint8_t *rows, size_t rows_len);
+uint8_t tsorvenk_wolff_grey(uint64_t *source, size_t source_len, uint8_t *greys, size_t greys_len);
+
 /* Calls with named fields.
  *
  * Each function NAME_with below is the function NAME above, with the inputs of the same names and lengths as fields of a
- * struct. Name what the mode and form take and leave out the rest, which is then 0:
+ * struct; all draws share one. Name what the mode and form take and leave out the rest, which is then 0:
  *
  *     struct tsorvenk_step_args args = {
  *         .mode = TSORVENK_PAIR, .form = TSORVENK_WOLFF, .n = n, .d = d, .s = s,
@@ -175,8 +227,9 @@ uint8_t tsorvenk_frames(const uint8_t *text, size_t text_len, uint8_t *out, size
  *     uint8_t number = tsorvenk_step_with(&args);
  *
  * A buffer whose pointer is null has length 0, whatever its _len is: where the mode and form do not take it it is ignored,
- * and where they do it is refused with 2. A struct that is initialised by name, or to 0 and then field by field, needs no
- * change where a field is added. The functions are inline: the struct is no part of what is linked. */
+ * and where they do it is refused with 2, but in a fill, which may have no entry. A struct that is
+ * initialised by name, or to 0 and then field by field, needs no change where a field is added. The functions are inline:
+ * the struct is no part of what is linked. */
 struct tsorvenk_step_args {
     uint8_t mode, form;
     size_t n, d, s;
@@ -280,6 +333,31 @@ struct tsorvenk_label_args {
     size_t sizes_len;
 };
 
+struct tsorvenk_draw_args {
+    uint32_t m;
+    size_t members;
+    uint64_t *source;
+    size_t source_len;
+    uint64_t *word;
+    size_t word_len;
+    uint8_t *coin;
+    size_t coin_len;
+    uint32_t *number;
+    size_t number_len;
+    uint8_t *row;
+    size_t row_len;
+    uint8_t *flips;
+    size_t flips_len;
+    uint32_t *numbers;
+    size_t numbers_len;
+    uint8_t *bytes;
+    size_t bytes_len;
+    uint8_t *rows;
+    size_t rows_len;
+    uint8_t *greys;
+    size_t greys_len;
+};
+
 /* A buffer of args as the two arguments that the functions above take. Where it is left out they get a pointer to the
  * local NONE, of the buffer's type, since they ask for one that is not null. */
 #define TSORVENK_LENT(buffer, none) args->buffer ? args->buffer : &none, args->buffer ? args->buffer##_len : 0
@@ -329,6 +407,65 @@ static inline uint8_t tsorvenk_label_with(const struct tsorvenk_label_args *args
         TSORVENK_LENT(labels, no_u32), TSORVENK_LENT(counts, no_u32), TSORVENK_LENT(sizes, no_u32));
 }
 
+static inline uint8_t tsorvenk_word_with(const struct tsorvenk_draw_args *args) {
+    uint64_t no_u64 = 0;
+    return tsorvenk_word(TSORVENK_LENT(source, no_u64), TSORVENK_LENT(word, no_u64));
+}
+
+static inline uint8_t tsorvenk_coin_with(const struct tsorvenk_draw_args *args) {
+    uint64_t no_u64 = 0;
+    uint8_t no_u8 = 0;
+    return tsorvenk_coin(TSORVENK_LENT(source, no_u64), TSORVENK_LENT(coin, no_u8));
+}
+
+static inline uint8_t tsorvenk_below_with(const struct tsorvenk_draw_args *args) {
+    uint64_t no_u64 = 0;
+    uint32_t no_u32 = 0;
+    return tsorvenk_below(args->m, TSORVENK_LENT(source, no_u64), TSORVENK_LENT(number, no_u32));
+}
+
+static inline uint8_t tsorvenk_permutation_with(const struct tsorvenk_draw_args *args) {
+    uint64_t no_u64 = 0;
+    uint8_t no_u8 = 0;
+    return tsorvenk_permutation(args->members, TSORVENK_LENT(source, no_u64), TSORVENK_LENT(row, no_u8));
+}
+
+static inline uint8_t tsorvenk_fill_flips_with(const struct tsorvenk_draw_args *args) {
+    uint64_t no_u64 = 0;
+    uint8_t no_u8 = 0;
+    return tsorvenk_fill_flips(TSORVENK_LENT(source, no_u64), TSORVENK_LENT(flips, no_u8));
+}
+
+static inline uint8_t tsorvenk_fill_below_with(const struct tsorvenk_draw_args *args) {
+    uint64_t no_u64 = 0;
+    uint32_t no_u32 = 0;
+    return tsorvenk_fill_below(args->m, TSORVENK_LENT(source, no_u64), TSORVENK_LENT(numbers, no_u32));
+}
+
+static inline uint8_t tsorvenk_fill_bytes_below_with(const struct tsorvenk_draw_args *args) {
+    uint64_t no_u64 = 0;
+    uint8_t no_u8 = 0;
+    return tsorvenk_fill_bytes_below(args->m, TSORVENK_LENT(source, no_u64), TSORVENK_LENT(bytes, no_u8));
+}
+
+static inline uint8_t tsorvenk_fill_permutations_with(const struct tsorvenk_draw_args *args) {
+    uint64_t no_u64 = 0;
+    uint8_t no_u8 = 0;
+    return tsorvenk_fill_permutations(args->members, TSORVENK_LENT(source, no_u64), TSORVENK_LENT(rows, no_u8));
+}
+
+static inline uint8_t tsorvenk_wolff_permutation_with(const struct tsorvenk_draw_args *args) {
+    uint64_t no_u64 = 0;
+    uint8_t no_u8 = 0;
+    return tsorvenk_wolff_permutation(args->members, TSORVENK_LENT(source, no_u64), TSORVENK_LENT(rows, no_u8));
+}
+
+static inline uint8_t tsorvenk_wolff_grey_with(const struct tsorvenk_draw_args *args) {
+    uint64_t no_u64 = 0;
+    uint8_t no_u8 = 0;
+    return tsorvenk_wolff_grey(TSORVENK_LENT(source, no_u64), TSORVENK_LENT(greys, no_u8));
+}
+
 #undef TSORVENK_LENT
 
 /* Words for each number that comes back, and for 11, which a text of frames may be answered with. */
@@ -346,6 +483,7 @@ static inline const char *tsorvenk_refusal_words(int number) {
     case 9: return "a permutation, flip, grey number, reference site, mask byte or byte of holds is out of its set";
     case 10: return "a seed is n or more, or does not act although some site does";
     case 11: return "a frame is missing, misplaced, misspelt or of the wrong length, or there is one too many";
+    case 12: return "a source of draws is all 0, m or the members are out of range, or 64 words in a row were taken again";
     case TSORVENK_IDLE: return "not refused: no site acts";
     case TSORVENK_NO_ROOM: return "there is no room for the answer";
     default: return "a number that no call gives";

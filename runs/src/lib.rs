@@ -2,6 +2,7 @@
 pub mod case;
 pub mod compare;
 pub mod damage;
+pub mod draws;
 pub mod exhaustive;
 pub mod lattices;
 pub mod make;

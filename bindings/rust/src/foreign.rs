@@ -34,4 +34,34 @@ extern "C" {
     pub fn tsorvenk_frames(
         text: *const u8, text_len: usize, out: *mut u8, out_len: usize, written: *mut usize, written_len: usize,
     ) -> u8;
+    pub fn tsorvenk_word(
+        source: *mut u64, source_len: usize, word: *mut u64, word_len: usize,
+    ) -> u8;
+    pub fn tsorvenk_coin(
+        source: *mut u64, source_len: usize, coin: *mut u8, coin_len: usize,
+    ) -> u8;
+    pub fn tsorvenk_below(
+        m: u32, source: *mut u64, source_len: usize, number: *mut u32, number_len: usize,
+    ) -> u8;
+    pub fn tsorvenk_permutation(
+        members: usize, source: *mut u64, source_len: usize, row: *mut u8, row_len: usize,
+    ) -> u8;
+    pub fn tsorvenk_fill_flips(
+        source: *mut u64, source_len: usize, flips: *mut u8, flips_len: usize,
+    ) -> u8;
+    pub fn tsorvenk_fill_below(
+        m: u32, source: *mut u64, source_len: usize, numbers: *mut u32, numbers_len: usize,
+    ) -> u8;
+    pub fn tsorvenk_fill_bytes_below(
+        m: u32, source: *mut u64, source_len: usize, bytes: *mut u8, bytes_len: usize,
+    ) -> u8;
+    pub fn tsorvenk_fill_permutations(
+        members: usize, source: *mut u64, source_len: usize, rows: *mut u8, rows_len: usize,
+    ) -> u8;
+    pub fn tsorvenk_wolff_permutation(
+        members: usize, source: *mut u64, source_len: usize, rows: *mut u8, rows_len: usize,
+    ) -> u8;
+    pub fn tsorvenk_wolff_grey(
+        source: *mut u64, source_len: usize, greys: *mut u8, greys_len: usize,
+    ) -> u8;
 }

@@ -6,8 +6,9 @@
 //!
 //! No caller is trusted: every call is answered, whatever it is lent. A refusal is an `Err` with its number, and leaves
 //! every buffer as it was. For every input the library is proved to give one answer and one content of every buffer.
-//! It draws nothing itself (cuts, flips, permutations and seeds are lent), allocates nothing and keeps nothing between
-//! calls, so calls on different buffers may run at the same time.
+//! A move draws nothing itself (cuts, flips, permutations and seeds are lent), allocates nothing and keeps nothing between
+//! calls, so calls on different buffers may run at the same time. A `Source` draws such choices, all but the cuts, from a
+//! seed of four words, so that a day can be repeated.
 //!
 //! ```
 //! use tsorvenk::{step, Form, Mode, Refusal, Step, Stepped};
@@ -47,11 +48,15 @@
 mod answers;
 mod calls;
 #[cfg(linked)]
+mod draws;
+#[cfg(linked)]
 mod foreign;
 #[cfg(linked)]
 mod safe;
 
 pub use answers::{refusal_words, NoRoom, Refusal, Stepped, Swept};
 pub use calls::{Energy, Form, Frames, Label, Mode, Step, Sweep, FRAMES_ROOM};
+#[cfg(linked)]
+pub use draws::Source;
 #[cfg(linked)]
 pub use safe::{energy, frames, label, step, sweep};

@@ -22,11 +22,17 @@ use Rattle.frame_lines.specs.declared.Written.{Written}
 use Rattle.frame_lines.specs.Number.{writtenValues}
 use Rattle.frame_lines.specs.Determined.{SameWritten}
 use Rattle.frame.specs.Determined.{run-determined}
+use Rattle.draws.specs.declared.Source.{Source}
+use Rattle.draws.specs.declared.Left.{Left}
+use Rattle.draws.specs.Promise.{WordDrawn, CoinDrawn, BelowDrawn, PermutationDrawn, FlipsFilled, BelowFilled, BytesFilled}
+use Rattle.draws.specs.Promise.{PermutationsFilled, WolffFilled, GreysFilled}
+use Rattle.draws.specs.Determined as Draw
 use Rattle.tsorvenk.specs.Number.{Coded, coded, Returned, valuesTo}
 use Rattle.tsorvenk.specs.Step.{StepAnswers}
 use Rattle.tsorvenk.specs.Energy.{energyRules, Metered, EnergyAs, EnergyAnswers}
 use Rattle.tsorvenk.specs.Label.{LabelAnswers}
 use Rattle.tsorvenk.specs.Sweep.{WithOutcomes, withOutcomes, outcomeRules, Sweeping, OutcomeAnswers, SweepNumbers}
+use Rattle.tsorvenk.specs.Drawing.{sourceOf, wordsOf, Draws}
 use Rattle.tsorvenk.specs.Frames.{Framed, framed, Ran, FramesNumbers}
 
 -- one answer, and one content of what was lent
@@ -144,3 +150,67 @@ tsorvenk-frames-determined text l y z r r′ f g = go (ℕ-discrete (length (l .
       answer = f .roomless e .number ∙ sym (g .roomless e .number);
       buffers = f .roomless e .kept ∙ sym (g .roomless e .kept);
     }
+
+-- one number, one source and one content of what was lent
+pub record SameDrawn (r r′ : ℕ) (ws ws′ ys zs : List ℕ) : Type 0 where
+  pub number : r ≡ r′
+  pub words : ws ≡ ws′
+  pub buffer : ys ≡ zs
+
+module _ (ws xs : List ℕ) (r r′ : ℕ) (us vs ys zs : List ℕ) where
+  draws-determined :
+      (Allowed : Source → List ℕ → Left → List ℕ → Type 0)
+      → ((x y : Left) → Allowed (sourceOf ws) xs x ys → Allowed (sourceOf ws) xs y zs → Draw.Same x y ys zs)
+      → Draws Allowed ws xs r us ys
+      → Draws Allowed ws xs r′ vs zs
+      → SameDrawn r r′ us vs ys zs
+  draws-determined Allowed one p q = go (ℕ-discrete (length ws) 4)
+    where
+      go : Dec (length ws ≡ 4) → SameDrawn r r′ us vs ys zs
+      go (yes e) =
+          let f = p .four e in
+          let g = q .four e in
+          let s = one (f .answer) (g .answer) (f .allowed) (g .allowed) in
+          record {
+            number = f .handed .number ∙ (ap (λ (l : Left). l .refusal) (s .answer) ∙ sym (g .handed .number));
+            words = f .handed .words ∙ (ap (λ (l : Left). wordsOf (l .source)) (s .answer) ∙ sym (g .handed .words));
+            buffer = s .buffer;
+          }
+      go (no n) =
+          let f = p .other n in
+          let g = q .other n in
+          record { number = f .number ∙ sym (g .number); words = f .words ∙ sym (g .words); buffer = f .kept ∙ sym (g .kept) }
+
+  pub tsorvenk-word-determined : Draws WordDrawn ws xs r us ys → Draws WordDrawn ws xs r′ vs zs → SameDrawn r r′ us vs ys zs
+  tsorvenk-word-determined = draws-determined WordDrawn (λ x y. Draw.one-word-determined (sourceOf ws) xs x y ys zs)
+
+  pub tsorvenk-coin-determined : Draws CoinDrawn ws xs r us ys → Draws CoinDrawn ws xs r′ vs zs → SameDrawn r r′ us vs ys zs
+  tsorvenk-coin-determined = draws-determined CoinDrawn (λ x y. Draw.one-coin-determined (sourceOf ws) xs x y ys zs)
+
+  pub tsorvenk-below-determined : (m : ℕ) → Draws (BelowDrawn m) ws xs r us ys → Draws (BelowDrawn m) ws xs r′ vs zs → SameDrawn r r′ us vs ys zs
+  tsorvenk-below-determined m = draws-determined (BelowDrawn m) (λ x y. Draw.one-below-determined (sourceOf ws) xs x y ys zs m)
+
+  pub tsorvenk-permutation-determined : (m : ℕ) → Draws (PermutationDrawn m) ws xs r us ys → Draws (PermutationDrawn m) ws xs r′ vs zs
+      → SameDrawn r r′ us vs ys zs
+  tsorvenk-permutation-determined m = draws-determined (PermutationDrawn m) (λ x y. Draw.one-permutation-determined (sourceOf ws) xs x y ys zs m)
+
+  pub tsorvenk-fill-flips-determined : Draws FlipsFilled ws xs r us ys → Draws FlipsFilled ws xs r′ vs zs → SameDrawn r r′ us vs ys zs
+  tsorvenk-fill-flips-determined = draws-determined FlipsFilled (λ x y. Draw.fill-flips-determined (sourceOf ws) xs x y ys zs)
+
+  pub tsorvenk-fill-below-determined : (m : ℕ) → Draws (BelowFilled m) ws xs r us ys → Draws (BelowFilled m) ws xs r′ vs zs → SameDrawn r r′ us vs ys zs
+  tsorvenk-fill-below-determined m = draws-determined (BelowFilled m) (λ x y. Draw.fill-below-determined (sourceOf ws) xs x y ys zs m)
+
+  pub tsorvenk-fill-bytes-below-determined : (m : ℕ) → Draws (BytesFilled m) ws xs r us ys → Draws (BytesFilled m) ws xs r′ vs zs
+      → SameDrawn r r′ us vs ys zs
+  tsorvenk-fill-bytes-below-determined m = draws-determined (BytesFilled m) (λ x y. Draw.fill-bytes-below-determined (sourceOf ws) xs x y ys zs m)
+
+  pub tsorvenk-fill-permutations-determined : (m : ℕ) → Draws (PermutationsFilled m) ws xs r us ys → Draws (PermutationsFilled m) ws xs r′ vs zs
+      → SameDrawn r r′ us vs ys zs
+  tsorvenk-fill-permutations-determined m = draws-determined (PermutationsFilled m) (λ x y. Draw.fill-permutations-determined (sourceOf ws) xs x y ys zs m)
+
+  pub tsorvenk-wolff-permutation-determined : (m : ℕ) → Draws (WolffFilled m) ws xs r us ys → Draws (WolffFilled m) ws xs r′ vs zs
+      → SameDrawn r r′ us vs ys zs
+  tsorvenk-wolff-permutation-determined m = draws-determined (WolffFilled m) (λ x y. Draw.wolff-permutations-determined (sourceOf ws) xs x y ys zs m)
+
+  pub tsorvenk-wolff-grey-determined : Draws GreysFilled ws xs r us ys → Draws GreysFilled ws xs r′ vs zs → SameDrawn r r′ us vs ys zs
+  tsorvenk-wolff-grey-determined = draws-determined GreysFilled (λ x y. Draw.wolff-greys-determined (sourceOf ws) xs x y ys zs)

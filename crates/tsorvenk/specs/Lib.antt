@@ -6,4 +6,5 @@ pub mod Label
 pub mod Sweep
 pub mod Frames
 pub mod Listed
+pub mod Drawing
 pub mod Determined

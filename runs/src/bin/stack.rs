@@ -67,6 +67,16 @@ fn run(port: &mut dyn Port) {
         sizes: &mut sizes,
     };
     line("labelling", || port.label(call));
+    #[cfg(port)]
+    draws();
+}
+
+#[cfg(port)]
+fn draws() {
+    let mut source = tsorvenk::Source::new([1, 2, 3, 4]).unwrap();
+    let mut rows = vec![0; 8 * N];
+    line("rows drawn", || source.wolff_permutation(8, &mut rows));
+    line("flips drawn", || source.fill_flips(&mut rows));
 }
 
 // The main thread's stack has room for the paint: eight times as much is usual.

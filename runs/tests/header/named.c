@@ -10,13 +10,15 @@ static struct tsorvenk_step_args step;
 static struct tsorvenk_sweep_args sweep;
 static struct tsorvenk_energy_args energy_of;
 static struct tsorvenk_label_args label;
+static struct tsorvenk_draw_args draw;
 
 static int8_t i8[2];
-static uint8_t u8[8];
+static uint8_t u8[16];
 static int32_t i32[2];
 static uint32_t u32[16];
 static float f32[4];
 static int64_t i64[2];
+static uint64_t u64[2];
 
 static void held(int so, const char *call, const char *field) {
     if (!so) {
@@ -80,11 +82,71 @@ uint8_t tsorvenk_label(size_t n, size_t d, const uint32_t *fwd, size_t fwd_len, 
     return 104;
 }
 
+uint8_t tsorvenk_word(uint64_t *source, size_t source_len, uint64_t *word, size_t word_len) {
+    BUFFER(draw, source), BUFFER(draw, word);
+    return 105;
+}
+
+uint8_t tsorvenk_coin(uint64_t *source, size_t source_len, uint8_t *coin, size_t coin_len) {
+    BUFFER(draw, source), BUFFER(draw, coin);
+    return 106;
+}
+
+uint8_t tsorvenk_below(uint32_t m, uint64_t *source, size_t source_len, uint32_t *number, size_t number_len) {
+    NUMBER(draw, m), BUFFER(draw, source), BUFFER(draw, number);
+    return 107;
+}
+
+uint8_t tsorvenk_permutation(size_t members, uint64_t *source, size_t source_len, uint8_t *row, size_t row_len) {
+    NUMBER(draw, members), BUFFER(draw, source), BUFFER(draw, row);
+    return 108;
+}
+
+uint8_t tsorvenk_fill_flips(uint64_t *source, size_t source_len, uint8_t *flips, size_t flips_len) {
+    BUFFER(draw, source), BUFFER(draw, flips);
+    return 109;
+}
+
+uint8_t tsorvenk_fill_below(uint32_t m, uint64_t *source, size_t source_len, uint32_t *numbers, size_t numbers_len) {
+    NUMBER(draw, m), BUFFER(draw, source), BUFFER(draw, numbers);
+    return 110;
+}
+
+uint8_t tsorvenk_fill_bytes_below(uint32_t m, uint64_t *source, size_t source_len, uint8_t *bytes, size_t bytes_len) {
+    NUMBER(draw, m), BUFFER(draw, source), BUFFER(draw, bytes);
+    return 111;
+}
+
+uint8_t tsorvenk_fill_permutations(size_t members, uint64_t *source, size_t source_len, uint8_t *rows, size_t rows_len) {
+    NUMBER(draw, members), BUFFER(draw, source), BUFFER(draw, rows);
+    return 112;
+}
+
+uint8_t tsorvenk_wolff_permutation(size_t members, uint64_t *source, size_t source_len, uint8_t *rows, size_t rows_len) {
+    NUMBER(draw, members), BUFFER(draw, source), BUFFER(draw, rows);
+    return 113;
+}
+
+uint8_t tsorvenk_wolff_grey(uint64_t *source, size_t source_len, uint8_t *greys, size_t greys_len) {
+    BUFFER(draw, source), BUFFER(draw, greys);
+    return 114;
+}
+
 static void call_all(void) {
     held(tsorvenk_step_with(&step) == 101, "step", "the answer");
     held(tsorvenk_sweep_with(&sweep) == 102, "sweep", "the answer");
     held(tsorvenk_energy_with(&energy_of) == 103, "energy", "the answer");
     held(tsorvenk_label_with(&label) == 104, "label", "the answer");
+    held(tsorvenk_word_with(&draw) == 105, "word", "the answer");
+    held(tsorvenk_coin_with(&draw) == 106, "coin", "the answer");
+    held(tsorvenk_below_with(&draw) == 107, "below", "the answer");
+    held(tsorvenk_permutation_with(&draw) == 108, "permutation", "the answer");
+    held(tsorvenk_fill_flips_with(&draw) == 109, "fill_flips", "the answer");
+    held(tsorvenk_fill_below_with(&draw) == 110, "fill_below", "the answer");
+    held(tsorvenk_fill_bytes_below_with(&draw) == 111, "fill_bytes_below", "the answer");
+    held(tsorvenk_fill_permutations_with(&draw) == 112, "fill_permutations", "the answer");
+    held(tsorvenk_wolff_permutation_with(&draw) == 113, "wolff_permutation", "the answer");
+    held(tsorvenk_wolff_grey_with(&draw) == 114, "wolff_grey", "the answer");
 }
 
 int main(void) {
@@ -116,8 +178,14 @@ int main(void) {
         .n = 1, .d = 2, .fwd = u32, .fwd_len = 11, .holds = u8, .holds_len = 12,
         .labels = u32 + 1, .labels_len = 13, .counts = u32 + 2, .counts_len = 14, .sizes = u32 + 3, .sizes_len = 15,
     };
+    draw = (struct tsorvenk_draw_args){
+        .m = 1, .members = 2, .source = u64, .source_len = 10, .word = u64 + 1, .word_len = 11,
+        .coin = u8, .coin_len = 12, .number = u32, .number_len = 13, .row = u8 + 1, .row_len = 14,
+        .flips = u8 + 2, .flips_len = 15, .numbers = u32 + 1, .numbers_len = 16, .bytes = u8 + 3, .bytes_len = 17,
+        .rows = u8 + 4, .rows_len = 18, .greys = u8 + 5, .greys_len = 19,
+    };
     call_all(); /* everything is lent */
-    step.flips = NULL, sweep.seeds = NULL, energy_of.energy = NULL, label.holds = NULL;
+    step.flips = NULL, sweep.seeds = NULL, energy_of.energy = NULL, label.holds = NULL, draw.source = NULL;
     call_all(); /* null, and a length beside it */
     printf("room %d\n", TSORVENK_FRAMES_ROOM);
     for (int number = -1; number <= 256; number++)

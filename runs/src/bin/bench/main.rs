@@ -6,6 +6,7 @@
 //! the tables, and the standard error each case with all that was measured. Where the port is not linked the model
 //! stands in for it, so that the run itself can be tried.
 mod clusters;
+mod draws;
 mod labelling;
 mod moves;
 mod parts;
@@ -165,4 +166,6 @@ fn main() {
     println!("\nparts");
     bench.spin_test_line();
     bench.meter_line();
+    println!("\ndraws");
+    bench.draws();
 }
