@@ -13,8 +13,9 @@ use lib.Seq.{drop-cons, getD-drop}
 use lib.IntN.{ℤ, pos, negsuc}
 use Rattle.edge_text.specs.declared.Number.{Number}
 use Rattle.edge_text.specs.declared.Number.the-variants.{At, Bad}
+use Rattle.edge_text.specs.declared.Edge.{Edge}
 use Rattle.edge_text.specs.Decimal.{isDigit, limit, decimal, Held, decimal-started}
-use Rattle.edge_text.specs.Form.{Edge, lineOf, headOf, signed}
+use Rattle.edge_text.specs.Form.{lineOf, headOf, signed}
 use Rattle.edge_text.specs.Numbers.{Begins, begins, Signed, SameNumber, same-number, same-signed, started-first, line-split, head-split}
 use Rattle.edge_text.specs.Reading.{NumberAt, ExactAt, ExactAs, SiteAt, SiteAs, MinusAt, MinusAs, CouplingAt, CouplingAs, LineAt, HeadAs, HasMinus}
 use Rattle.edge_text.specs.Reading.{plusCode, minusCode, codeOf}

@@ -3,20 +3,15 @@ use Prim.Native.Nat.{ℕ, suc}
 use mathlib.Core.List.{List, [], _∷_, _++_}
 use lib.ListN.{length}
 use lib.IntN.{ℤ, pos, negsuc}
+use Rattle.edge_text.specs.declared.Edge.{Edge}
 use Rattle.edge_text.specs.Decimal.{decimal}
-
--- an edge joins two sites, which are counted from 0 here and from 1 in the text, and has a coupling
-pub record Edge : Type 0 where
-  pub from : ℕ
-  pub to : ℕ
-  pub coupling : ℤ
 
 -- a coupling: a minus stands only before a number that is not 0
 abbrev pub signed : ℤ → List ℕ
 signed (pos v) = decimal v
 signed (negsuc v) = 45 ∷ decimal (suc v)
 
--- "i j J" with a line feed
+-- "i j J" with a line feed; sites are counted from 0 in an edge and from 1 in its line
 abbrev pub lineOf : Edge → List ℕ
 lineOf e = decimal (suc (e .from)) ++ (32 ∷ (decimal (suc (e .to)) ++ (32 ∷ (signed (e .coupling) ++ (10 ∷ [])))))
 

@@ -3,3 +3,5 @@ pub mod Decimal
 pub mod Form
 pub mod Numbers
 pub mod Reading
+pub mod Writing
+pub mod Determined

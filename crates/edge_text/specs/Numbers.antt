@@ -6,9 +6,10 @@ use mathlib.Core.List.{List, [], _∷_, _++_, append-assoc}
 use native.Mathlib.Omega.{arith}
 use lib.ListN.{length}
 use lib.IntN.{ℤ, pos, negsuc}
+use Rattle.edge_text.specs.declared.Edge.{Edge}
 use Rattle.edge_text.specs.Decimal.{decimal, lead, rest, valueFrom, isDigit, Started, value-decimal, decimal-digits, decimal-started, lead-of, rest-of}
 use Rattle.edge_text.specs.Decimal.Started.{digit}
-use Rattle.edge_text.specs.Form.{Edge, signed, lineOf, headOf}
+use Rattle.edge_text.specs.Form.{signed, lineOf, headOf}
 
 -- the text s is the number w, the character c and then r
 pub record Begins (s : List ℕ) (w c : ℕ) (r : List ℕ) : Type 0 where

@@ -11,8 +11,9 @@ use Rattle.edge_text.specs.declared.Number.{Number}
 use Rattle.edge_text.specs.declared.Number.the-variants.{At, Bad}
 use Rattle.edge_text.specs.declared.Line.{Line}
 use Rattle.edge_text.specs.declared.Line.the-variants.{Good, None}
+use Rattle.edge_text.specs.declared.Edge.{Edge}
 use Rattle.edge_text.specs.Decimal.{decimal, lead, rest, gather, Held, isDigit}
-use Rattle.edge_text.specs.Form.{Edge, signed, lineOf, headOf}
+use Rattle.edge_text.specs.Form.{signed, lineOf, headOf}
 use Rattle.edge_text.specs.Numbers.{Begins, Signed}
 
 -- the digits from the place a on end at e
