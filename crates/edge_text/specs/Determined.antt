@@ -1,14 +1,16 @@
 -- What each public function's promise allows for one input is one answer and one content of the lent buffer.
 use Prim.Native.Nat.{ℕ, suc, _-_, _≤_}
 use mathlib.Core.Path.{_≡_, refl, sym, _∙_, ap}
-use mathlib.Core.List.{List, _++_}
+use mathlib.Core.List.{List, _∷_, _++_}
 use native.Mathlib.Omega.{arith}
 use lib.ListN.{length, drop, length-drop}
+use lib.IntN.{ℤ}
 use Rattle.edge_text.specs.declared.Edge.{Edge}
 use Rattle.edge_text.specs.declared.Number.{Number}
 use Rattle.edge_text.specs.declared.Number.the-variants.{At, Bad}
 use Rattle.edge_text.specs.declared.Line.{Line}
 use Rattle.edge_text.specs.declared.Line.the-variants.{Good, None}
+use Rattle.edge_text.specs.Decimal.{decimal}
 use Rattle.edge_text.specs.Form.{lineOf, headOf}
 use Rattle.edge_text.specs.Numbers.{begins, SameNumber, same-number, SameLine, same-line, head-split}
 use Rattle.edge_text.specs.Reading.{LineAs, HeadAs, codeOf}
@@ -18,12 +20,12 @@ use Rattle.edge_text.specs.Writing.{Put, Long}
 same-place : (t : List ℕ) (e f : ℕ) → e ≤ length t → f ≤ length t → drop e t ≡ drop f t → e ≡ f
 same-place t e f p q s = omega (arith, ap (length {A = ℕ}) s, length-drop e t, length-drop f t)
 
+abbrev edge : ℕ → ℕ → ℤ → Edge
+edge u v z = record { from = u; to = v; coupling = z }
+
 pub line-determined : (t : List ℕ) (a n : ℕ) (r r′ : Line) → LineAs t a n r → LineAs t a n r′ → r ≡ r′
 line-determined t a n (Good i j x e) (Good k l y f) p q = go (same-line _ _ (drop a t) _ _ (p .is) (q .is))
   where
-    abbrev edge : ℕ → ℕ → _ → Edge
-    edge u v z = record { from = u; to = v; coupling = z }
-
     go : SameLine (edge i j (p .coupling)) (edge k l (q .coupling)) (drop e t) (drop f t) → Good i j x e ≡ Good k l y f
     go s = λ m. Good (s .edge m .from) (s .edge m .to) (code m) (place m)
       where
@@ -32,14 +34,14 @@ line-determined t a n (Good i j x e) (Good k l y f) p q = go (same-line _ _ (dro
 
         place : e ≡ f
         place = same-place t e f (p .within) (q .within) (s .behind)
-line-determined t a n (Good i j x e) None p q = absurd (q _ _ (p .from-small) (p .to-small) (p .is))
-line-determined t a n None (Good k l y f) p q = absurd (p _ _ (q .from-small) (q .to-small) (q .is))
+line-determined t a n (Good i j x e) None p q = absurd (q (edge i j (p .coupling)) (drop e t) (p .from-small) (p .to-small) (p .is))
+line-determined t a n None (Good k l y f) p q = absurd (p (edge k l (q .coupling)) (drop f t) (q .from-small) (q .to-small) (q .is))
 line-determined t a n None None p q = refl
 
 pub head-determined : (t : List ℕ) (n most : ℕ) (r r′ : Number) → HeadAs t n most r → HeadAs t n most r′ → r ≡ r′
-head-determined t n most (At m e) (At k f) p q = go (same-number refl (begins m 10 _ refl) (begins k 10 _ behind))
+head-determined t n most (At m e) (At k f) p q = go (same-number refl (begins m 10 (drop e t) refl) (begins k 10 (drop f t) behind))
   where
-    behind : _ ≡ _
+    behind : decimal m ++ (10 ∷ drop e t) ≡ decimal k ++ (10 ∷ drop f t)
     behind = same-number refl (begins n 32 _ (p .is ∙ head-split n m (drop e t))) (begins n 32 _ (q .is ∙ head-split n k (drop f t))) .behind
 
     go : SameNumber m k (drop e t) (drop f t) → At m e ≡ At k f

@@ -1,1 +1,6 @@
--- x
+-- Which bond a line belongs to, what a list makes of a table and a table of a list, what both functions answer, and the laws of these.
+pub mod Bonds
+pub mod Listed
+pub mod Answer
+pub mod Fills
+pub mod Determined
