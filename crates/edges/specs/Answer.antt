@@ -38,18 +38,18 @@ Exact g js = ExactLengths (bonds g) (length (g .fwd)) (length (g .bwd)) (length 
 
 -- ---- reading
 -- the text is this list, and every line of it has a bond: so no site of it lies outside, and no bond is named too often
-pub record ListedAs (g : Net) (text : List ℕ) (list : List Edge) (cells : ℕ → Cell) : Type 0 where
-  pub is : text ≡ textOf (g .n) list
-  pub fills : Fills (g .n) (g .d) (g .fwd) (λ b. free) list cells
+pub record ListedAs (n d : ℕ) (fwd text : List ℕ) (list : List Edge) (cells : ℕ → Cell) : Type 0 where
+  pub is : text ≡ textOf n list
+  pub fills : Fills n d fwd (λ b. free) list cells
 
-pub record IsList (g : Net) (text : List ℕ) : Type 0 where
+pub record IsList (n d : ℕ) (fwd text : List ℕ) : Type 0 where
   pub list : List Edge
   pub cells : ℕ → Cell
-  pub made : ListedAs g text list cells
+  pub made : ListedAs n d fwd text list cells
 
 -- the couplings that the text names are small
-abbrev pub SmallList : Net → List ℕ → Type 0
-SmallList g text = (list : List Edge) (cells : ℕ → Cell) → ListedAs g text list cells → SmallCouplings (tableOf (bonds g) cells)
+abbrev pub SmallList : ℕ → ℕ → List ℕ → List ℕ → Type 0
+SmallList n d fwd text = (list : List Edge) (cells : ℕ → Cell) → ListedAs n d fwd text list cells → SmallCouplings (tableOf (n * d) cells)
 
 -- the refusals in their order. Sizes are those of a panel with one system
 abbrev pub readRules : Net → List ℕ → List ℤ → List Rule
@@ -57,14 +57,14 @@ readRules g text js =
     rule 1 (Sizes (g .n) (g .d) 1)
     ∷ rule 2 (Exact g js)
     ∷ rule 4 (Inverse (g .n) (g .d) (g .fwd) (g .bwd))
-    ∷ rule 13 (IsList g text)
-    ∷ rule 6 (SmallList g text)
+    ∷ rule 13 (IsList (g .n) (g .d) (g .fwd) text)
+    ∷ rule 6 (SmallList (g .n) (g .d) (g .fwd) text)
     ∷ []
 
 -- the couplings js become js′
 pub record Loads (g : Net) (text : List ℕ) (js js′ : List ℤ) : Type 0 where
   pub valid : Verdict (readRules g text js) 0
-  pub read : IsList g text
+  pub read : IsList (g .n) (g .d) (g .fwd) text
   pub table : js′ ≡ tableOf (bonds g) (read .cells)
 
 -- refused with the number c: nothing is written

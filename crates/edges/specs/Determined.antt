@@ -13,41 +13,41 @@ use Rattle.edges.specs.declared.Listing.{Listing}
 use Rattle.edges.specs.declared.Listing.the-variants.{Unlisted, Wrote}
 use Rattle.edges.specs.Bonds.{Cell, free, tableOf}
 use Rattle.edges.specs.Fills.{fills-unique}
-use Rattle.edges.specs.Answer.{Net, netOf, bonds, ListedAs, IsList, readRules, ReadAnswers, writeRules, WriteAnswers}
+use Rattle.edges.specs.Answer.{netOf, IsList, readRules, ReadAnswers, writeRules, WriteAnswers}
 
 pub record Same {A B : Type 0} (a a′ : A) (y z : B) : Type 0 where
   pub answer : a ≡ a′
   pub buffers : y ≡ z
 
 -- a text is one list
-pub lines-unique : (as bs : List Edge) → linesOf as ≡ linesOf bs → length as ≡ length bs → as ≡ bs
+pub lines-unique : (xs ys : List Edge) → linesOf xs ≡ linesOf ys → length xs ≡ length ys → xs ≡ ys
 unfolding linesOf
 lines-unique [] [] e l = refl
-lines-unique [] (b ∷ bs) e l = absurd (omega arith)
-lines-unique (a ∷ as) [] e l = absurd (omega arith)
-lines-unique (a ∷ as) (b ∷ bs) e l =
-    let s = same-line a b (lineOf a ++ linesOf as) (linesOf as) (linesOf bs) refl e in
-    let r = lines-unique as bs (s .behind) (omega arith) in
+lines-unique [] (b ∷ ys) e l = absurd (omega arith)
+lines-unique (a ∷ xs) [] e l = absurd (omega arith)
+lines-unique (a ∷ xs) (b ∷ ys) e l =
+    let s = same-line a b (lineOf a ++ linesOf xs) (linesOf xs) (linesOf ys) refl e in
+    let r = lines-unique xs ys (s .behind) (omega arith) in
     λ i. s .edge i ∷ r i
 
-pub text-unique : (n : ℕ) (as bs : List Edge) → textOf n as ≡ textOf n bs → as ≡ bs
-text-unique n as bs e =
-    let h = same-number refl (begins n 32 _ (head-split n (length as) (linesOf as))) (begins n 32 _ (e ∙ head-split n (length bs) (linesOf bs))) in
-    let k = same-number refl (begins (length as) 10 (linesOf as) refl) (begins (length bs) 10 (linesOf bs) (h .behind)) in
-    lines-unique as bs (k .behind) (k .number)
+pub text-unique : (n : ℕ) (xs ys : List Edge) → textOf n xs ≡ textOf n ys → xs ≡ ys
+text-unique n xs ys e =
+    let h = same-number refl (begins n 32 _ (head-split n (length xs) (linesOf xs))) (begins n 32 _ (e ∙ head-split n (length ys) (linesOf ys))) in
+    let k = same-number refl (begins (length xs) 10 (linesOf xs) refl) (begins (length ys) 10 (linesOf ys) (h .behind)) in
+    lines-unique xs ys (k .behind) (k .number)
 
-pub cells-unique : (g : Net) (text : List ℕ) (u v : IsList g text) → u .cells ≡ v .cells
-cells-unique g text u v =
-    fills-unique (g .n) (g .d) (g .fwd) (u .list) (λ b. free) (u .cells) (v .cells) (u .made .fills) (rw (← same) at (v .made .fills))
+pub cells-unique : (n d : ℕ) (fwd text : List ℕ) (u v : IsList n d fwd text) → u .cells ≡ v .cells
+cells-unique n d fwd text u v =
+    fills-unique n d fwd (u .list) (λ b. free) (u .cells) (v .cells) (u .made .fills) (rw (← same) at (v .made .fills))
   where
     same : u .list ≡ v .list
-    same = text-unique (g .n) (u .list) (v .list) (sym (u .made .is) ∙ v .made .is)
+    same = text-unique n (u .list) (v .list) (sym (u .made .is) ∙ v .made .is)
 
 module _ (n d : ℕ) (fwd bwd text : List ℕ) (js y z : List ℤ) where
   pub read-edges-determined : (r r′ : ℕ) → ReadAnswers (netOf n d fwd bwd) text js r y → ReadAnswers (netOf n d fwd bwd) text js r′ z → Same r r′ y z
   read-edges-determined zero zero p q = record {
     answer = refl;
-    buffers = p .table ∙ (ap (tableOf (n * d)) (cells-unique (netOf n d fwd bwd) text (p .read) (q .read)) ∙ sym (q .table));
+    buffers = p .table ∙ (ap (tableOf (n * d)) (cells-unique n d fwd text (p .read) (q .read)) ∙ sym (q .table));
   }
   read-edges-determined zero (suc c) p q = absurd (broken-not-kept (readRules (netOf n d fwd bwd) text js) (suc c) (q .why) (p .valid))
   read-edges-determined (suc c) zero p q = absurd (broken-not-kept (readRules (netOf n d fwd bwd) text js) (suc c) (p .why) (q .valid))

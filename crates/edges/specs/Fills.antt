@@ -31,9 +31,9 @@ module _ (n d : ℕ) (fwd : List ℕ) where
       (subst (λ (b : ℕ). Fills n d fwd (put cells b (e .coupling)) es end′) (lowest-unique cells (e .from) (e .to) (q .0) (p .0) (q .1) (p .1)) (q .2))
 
   -- a list's lines one behind another
-  pub fills-behind : (as bs : List Edge) (cells mid end : ℕ → Cell) → Fills n d fwd cells as mid → Fills n d fwd mid bs end → Fills n d fwd cells (as ++ bs) end
-  fills-behind [] bs cells mid end p q = subst (λ (c : ℕ → Cell). Fills n d fwd c bs end) p q
-  fills-behind (a ∷ as) bs cells mid end p q = (p .0, p .1, fills-behind as bs (put cells (p .0) (a .coupling)) mid end (p .2) q)
+  pub fills-behind : (xs ys : List Edge) (cells mid end : ℕ → Cell) → Fills n d fwd cells xs mid → Fills n d fwd mid ys end → Fills n d fwd cells (xs ++ ys) end
+  fills-behind [] ys cells mid end p q = subst (λ (c : ℕ → Cell). Fills n d fwd c ys end) p q
+  fills-behind (a ∷ xs) ys cells mid end p q = (p .0, p .1, fills-behind xs ys (put cells (p .0) (a .coupling)) mid end (p .2) q)
 
   -- a bond that is among n * d joins two of n sites
   ahead-below : (i j b : ℕ) → b < n * d → Ahead d fwd i j b → i < n
@@ -97,12 +97,15 @@ filled-put (suc m) b cells z l f = at (ℕ-discrete m b) (λ h. filled-put m b c
         let s = ih (omega arith) in
         rw (ne-eqb m b e, s) (omega arith)
 
-pub fills-few : (n d : ℕ) (fwd : List ℕ) (list : List Edge) (cells end : ℕ → Cell) → Fills n d fwd cells list end → length list + filled (n * d) cells ≤ n * d
-fills-few n d fwd [] cells end p = filled-few (n * d) cells
-fills-few n d fwd (e ∷ es) cells end p =
-    let h = fills-few n d fwd es (put cells (p .0) (e .coupling)) end (p .2) in
+fills-room : (n d : ℕ) (fwd : List ℕ) (list : List Edge) (cells end : ℕ → Cell) → Fills n d fwd cells list end → length list + filled (n * d) cells ≤ n * d
+fills-room n d fwd [] cells end p = let h = filled-few (n * d) cells in omega arith
+fills-room n d fwd (e ∷ es) cells end p =
+    let h = fills-room n d fwd es (put cells (p .0) (e .coupling)) end (p .2) in
     let s = filled-put (n * d) (p .0) cells (e .coupling) (p .1 .below) (p .1 .is-free) in
     omega arith
+
+pub fills-few : (n d : ℕ) (fwd : List ℕ) (list : List Edge) (cells end : ℕ → Cell) → Fills n d fwd cells list end → length list ≤ n * d
+fills-few n d fwd list cells end p = let h = fills-room n d fwd list cells end p in omega arith
 
 -- ---- the table
 pub table-long : (m : ℕ) (cells : ℕ → Cell) → length (tableOf m cells) ≡ m

@@ -3,4 +3,5 @@ pub mod Bonds
 pub mod Listed
 pub mod Answer
 pub mod Fills
+pub mod Filling
 pub mod Determined

@@ -1,4 +1,5 @@
 // Couplings from an edge list, and an edge list from couplings.
+mod fill;
 
 // What becomes of a list: refused, or so many bytes are written.
 pub enum Listing {

@@ -1,0 +1,3 @@
+-- What the proofs of the functions share.
+pub mod Find
+pub mod Codes
