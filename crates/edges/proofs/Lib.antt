@@ -1,3 +1,4 @@
 -- What the proofs of the functions share.
 pub mod Find
 pub mod Codes
+pub mod Going

@@ -1,6 +1,6 @@
 -- `edges::fill::copy` meets its contract: what was passed is decoded.
 use Prim.Native.Nat.{_-_, _<_}
-use mathlib.Core.Path.{_≡_}
+use mathlib.Core.Path.{_∙_}
 use native.Mathlib.Omega.{arith}
 use borrow.Author.Needs.{needs}
 use lib.ListN.{length}
@@ -48,7 +48,9 @@ loop-less : tie.Need-loop-less Inv-loop μ-loop
 loop-less c = omega (arith, below (c .before .before))
 
 loop-again : tie.Need-loop-again Inv-loop μ-loop
-loop-again c = ?
+loop-again c =
+    let i = c .before .before in
+    decoding-more _ _ _ _ _ (i .before .loop .inv) (below i) (toZ-ofZ {w = w32} (record { sfits = c .decode .ok }) ∙ c .decode .ensures)
 
 same-length : tie.Need-same-length Inv-loop μ-loop
 same-length c = c .before .loop .inv .long

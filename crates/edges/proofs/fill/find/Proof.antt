@@ -1,25 +1,22 @@
-use borrow.Author.Needs.{needs}
+-- `edges::fill::find` meets its contract.
+use native.Mathlib.Omega.{arith}
+use Rattle.edges.proofs.Find.{found-swap}
 use Rattle.edges.proofs.fill.find.Statement.{statement}
 use Rattle.edges.proofs.fill.find.Tie as tie
-use Rattle.edges.proofs.fill.find.Reads as reads
-use Rattle.edges.proofs.fill.find.Lts as lts
-use Rattle.edges.proofs.fill.find_rising.Reads as find-rising-reads
 
--- src/fill.rt:56:9
 find-rising-requires : tie.Need-find-rising-requires
-find-rising-requires c κs = search needs
+find-rising-requires c κs = let s = c .before .before .before in record { pair = s .pre; rising = c .if1 .taken }
 
--- src/fill.rt:56:9
 returns : tie.Need-returns
-returns c = search needs
+returns c = c .find-rising .ensures
 
--- src/fill.rt:58:5
 find-rising-requires-2 : tie.Need-find-rising-requires-2
-find-rising-requires-2 c κs = search needs
+find-rising-requires-2 c κs =
+    let s = c .before .before .before in
+    record { pair = record { celled = s .pre .celled; first = s .pre .second; second = s .pre .first }; rising = omega arith }
 
--- src/fill.rt:51:1
 returns-2 : tie.Need-returns-2
-returns-2 c = search needs
+returns-2 c = found-swap (c .find-rising2 .ensures)
 
 pub find-spec : {M : Type 1} → statement M
 find-spec = tie.close (tie.spec find-rising-requires returns find-rising-requires-2 returns-2)
