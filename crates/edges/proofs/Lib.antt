@@ -2,3 +2,4 @@
 pub mod Find
 pub mod Codes
 pub mod Going
+pub mod Loading

@@ -1,8 +1,53 @@
 // Couplings from an edge list, and an edge list from couplings.
 mod fill;
 
+ghost use Rattle.paper.specs.Component.Marks.{Tells};
+ghost use Rattle.edges.specs.Answer.{ExactLengths, netOf, ReadAnswers};
+
 // What becomes of a list: refused, or so many bytes are written.
 pub enum Listing {
     Unlisted(u8),
     Wrote(usize),
+}
+
+fn exact(m: usize, fwd: usize, bwd: usize, couplings: usize) -> bool
+    ensures { λ r. ⌜ Tells r (ExactLengths m fwd bwd couplings) ⌝ }
+{
+    (fwd == m) & (bwd == m) & (couplings == m)
+}
+
+// Fills the couplings from the text. All of it is read before anything is written.
+pub fn read_edges(
+    n: usize,
+    d: usize,
+    fwd: &[u32],
+    bwd: &[u32],
+    text: &[u8],
+    couplings: &mut [i32],
+) -> u8
+    ensures { λ r. ⌜ ReadAnswers
+        (netOf n d (now (fwd .entry)) (now (bwd .entry)))
+        (now (text .entry))
+        (now (couplings .entry))
+        r
+        (now (couplings .exit)) ⌝ }
+{
+    if !lattice::sizes_ok(n, d, 1) {
+        return 1;
+    }
+    if !exact(n * d, fwd.len(), bwd.len(), couplings.len()) {
+        return 2;
+    }
+    if !lattice::tables_ok(n, d, fwd, bwd) {
+        return 4;
+    }
+    let mut cells = [0u32; 16384];
+    if !fill::load(n, d, fwd, text, &mut cells) {
+        return 13;
+    }
+    if !fill::all_small(&cells, n * d) {
+        return 6;
+    }
+    fill::copy(&cells, couplings);
+    0
 }
