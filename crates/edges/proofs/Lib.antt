@@ -3,3 +3,5 @@ pub mod Find
 pub mod Codes
 pub mod Going
 pub mod Loading
+pub mod Lists
+pub mod Writing

@@ -4,4 +4,5 @@ pub mod Listed
 pub mod Answer
 pub mod Fills
 pub mod Filling
+pub mod Listing
 pub mod Determined

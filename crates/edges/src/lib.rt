@@ -1,8 +1,11 @@
 // Couplings from an edge list, and an edge list from couplings.
 mod fill;
+mod list;
 
+use edge_text::writing::head_length;
+use edge_text::writing::put_head;
 ghost use Rattle.paper.specs.Component.Marks.{Tells};
-ghost use Rattle.edges.specs.Answer.{ExactLengths, netOf, ReadAnswers};
+ghost use Rattle.edges.specs.Answer.{ExactLengths, netOf, ReadAnswers, WriteAnswers};
 
 // What becomes of a list: refused, or so many bytes are written.
 pub enum Listing {
@@ -50,4 +53,41 @@ pub fn read_edges(
     }
     fill::copy(&cells, couplings);
     0
+}
+
+// Writes the list of the nonzero couplings to the front of the text. Its length is known before anything is written.
+pub fn write_edges(
+    n: usize,
+    d: usize,
+    fwd: &[u32],
+    bwd: &[u32],
+    couplings: &[i32],
+    text: &mut [u8],
+) -> Listing
+    ensures { λ r. ⌜ WriteAnswers
+        (netOf n d (now (fwd .entry)) (now (bwd .entry)))
+        (now (couplings .entry))
+        (now (text .entry))
+        r
+        (now (text .exit)) ⌝ }
+{
+    if !lattice::sizes_ok(n, d, 1) {
+        return Listing::Unlisted(1);
+    }
+    if !exact(n * d, fwd.len(), bwd.len(), couplings.len()) {
+        return Listing::Unlisted(2);
+    }
+    if !lattice::tables_ok(n, d, fwd, bwd) {
+        return Listing::Unlisted(4);
+    }
+    if !lattice::couplings_ok(couplings) {
+        return Listing::Unlisted(6);
+    }
+    let m = list::count(n, d, fwd, couplings);
+    let size = head_length(n, m) + list::bytes(n, d, fwd, couplings);
+    if text.len() < size {
+        return Listing::Unlisted(2);
+    }
+    let at = put_head(n, m, text);
+    Listing::Wrote(list::put_all(n, d, fwd, couplings, text, at))
 }
