@@ -6,3 +6,4 @@ pub mod Fills
 pub mod Filling
 pub mod Listing
 pub mod Determined
+pub mod RoundTrip
