@@ -5,7 +5,7 @@ ghost use mathlib.Core.Path.{_≡_};
 ghost use mathlib.Core.Bool.{true};
 ghost use Prim.Native.Nat.{_≤_};
 ghost use lib.ListN.{length};
-ghost use Rattle.paper.specs.Component.Marks.{Tells};
+ghost use Rattle.lemmas.specs.Tells.{Tells};
 ghost use Rattle.edge_text.specs.Decimal.{isDigit, stepTo};
 ghost use Rattle.edge_text.specs.Reading.{Place, Ended, Bounded, RunAs, NumberAs, ExactAs, SiteAs, MinusAs, CouplingAs, LineAs, HeadAs};
 ghost use Rattle.edge_text.specs.Reading.{Counts, HasMinus, plusCode, minusCode};

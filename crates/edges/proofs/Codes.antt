@@ -11,7 +11,7 @@ use lib.ListN.{length, getD, set, length-set}
 use lib.Seq.{getD-set-same, getD-set-other, ext-getD}
 use lib.IntN.{ℤ, pos, negsuc, natAbs, _+ℤ_, _-ℤ_, +ℤ-negℤ-cancel}
 use Rattle.paper.specs.Refusal.Rules.{SmallCouplings}
-use Rattle.lattice.specs.Ints.{abs-add}
+use Rattle.lemmas.specs.Ints.{abs-add}
 use Rattle.edge_text.specs.Reading.{plusCode, minusCode, codeOf}
 use Rattle.edges.specs.Bonds.{Cell, free, holds, valueOf, tableOf}
 use Rattle.edges.specs.Fills.{table-long, table-at}

@@ -10,8 +10,8 @@ use native.Mathlib.Decide.{decLt, ℕ-discrete}
 use borrow.Author.Tests.{eqb-true, eq-eqb}
 use lib.Dec.{eqb}
 use lib.ListN.{length, getD}
-use Rattle.paper.specs.Law.ByTest.{and-left, and-right, never}
-use Rattle.lattice.specs.Tables.{cell-lt}
+use Rattle.lemmas.specs.Bools.{and-left, and-right, never}
+use Rattle.lemmas.specs.Cells.{cell-lt}
 use Rattle.edges.specs.Bonds.{Ahead, Joins}
 use Rattle.edges.specs.Filling.{Open, Ways, ScanAs, Celled, Pair, Ordered, FoundAs}
 

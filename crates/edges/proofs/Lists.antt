@@ -8,7 +8,7 @@ use lib.ListN.{length, getD, length-append}
 use lib.IntN.{ℤ, pos}
 use mir.Syntax.{w32}
 use mir.Val.{SFits, ofZ}
-use Rattle.lattice.specs.Held.{given, held-same, held-differ, small-fits}
+use Rattle.lemmas.specs.Held.{given, held-same, held-differ, small-fits}
 use Rattle.edge_text.specs.declared.Edge.{Edge}
 use Rattle.edge_text.specs.Form.{lineOf, linesOf}
 use Rattle.edge_text.specs.Writing.{Put, Long, put-none, put-both, put-long}

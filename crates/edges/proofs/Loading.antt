@@ -7,7 +7,7 @@ use mathlib.Core.List.{List, _++_}
 use lib.ListN.{length, drop}
 use lib.IntN.{ℤ}
 use Rattle.paper.specs.Refusal.Rules.{Sizes, Inverse, SmallCouplings}
-use Rattle.paper.specs.Law.ByTest.{never}
+use Rattle.lemmas.specs.Bools.{never}
 use Rattle.edge_text.specs.declared.Number.the-variants.{Bad}
 use Rattle.edge_text.specs.Form.{headOf, linesOf}
 use Rattle.edge_text.specs.Numbers.{begins, same-number, head-split}

@@ -4,7 +4,7 @@ use mathlib.Core.Bool.{cond}
 use mathlib.Core.List.{List, [], _∷_, _++_}
 use lib.ListN.{getD}
 use lib.IntN.{ℤ, pos}
-use Rattle.paper.specs.Site.Acting.{eqZ}
+use Rattle.lemmas.specs.Ints.{eqZ}
 use Rattle.edge_text.specs.declared.Edge.{Edge}
 
 -- bond b is one of site b / d

@@ -11,9 +11,9 @@ use lib.Dec.{eqb, ltb}
 use lib.ListN.{length, getD, take}
 use lib.Seq.{ext-getD, take-at}
 use lib.IntN.{ℤ, pos}
-use Rattle.paper.specs.Site.Acting.{eqZ}
+use Rattle.lemmas.specs.Ints.{eqZ}
 use Rattle.paper.specs.Refusal.Rules.{Sizes, Inverse, SmallCouplings}
-use Rattle.paper.specs.Law.ByTest.{is-same}
+use Rattle.lemmas.specs.Ints.{is-same}
 use Rattle.edge_text.specs.declared.Edge.{Edge}
 use Rattle.edge_text.specs.Form.{textOf}
 use Rattle.edges.specs.declared.Listing.the-variants.{Wrote}

@@ -6,7 +6,7 @@ use edge_text::reading::line;
 ghost use mathlib.Core.Path.{_≡_};
 ghost use Prim.Native.Nat.{_≤_, _<_};
 ghost use lib.ListN.{length, drop};
-ghost use Rattle.paper.specs.Component.Marks.{Tells};
+ghost use Rattle.lemmas.specs.Tells.{Tells};
 ghost use Rattle.edges.specs.Filling.{Ways, ScanAs, Pair, Ordered, FoundAs, Readable, FilledAs, LoadedAs};
 ghost use Rattle.edges.specs.Filling.{decoded, SmallCodes, Decodable, Decoded};
 
@@ -59,7 +59,15 @@ fn find(n: usize, d: usize, fwd: &[u32], cells: &[u32], i: usize, j: usize) -> u
 }
 
 // The m lines from a place on, and no byte behind them.
-fn fill(n: usize, d: usize, fwd: &[u32], text: &[u8], at: usize, m: usize, cells: &mut [u32]) -> bool
+fn fill(
+    n: usize,
+    d: usize,
+    fwd: &[u32],
+    text: &[u8],
+    at: usize,
+    m: usize,
+    cells: &mut [u32],
+) -> bool
     requires { ⌜ Readable n d (now fwd) (now text) at (now cells) ⌝ }
     ensures { λ r. ⌜ FilledAs n d (now (fwd .entry)) (drop at (now (text .entry))) m r (now (cells .exit)) ⌝ }
 {

@@ -4,7 +4,7 @@ mod list;
 
 use edge_text::writing::head_length;
 use edge_text::writing::put_head;
-ghost use Rattle.paper.specs.Component.Marks.{Tells};
+ghost use Rattle.lemmas.specs.Tells.{Tells};
 ghost use Rattle.edges.specs.Answer.{ExactLengths, netOf, ReadAnswers, WriteAnswers};
 
 // What becomes of a list: refused, or so many bytes are written.

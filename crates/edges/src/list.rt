@@ -51,7 +51,15 @@ fn entry_length(n: usize, d: usize, fwd: &[u32], js: &[i32], b: usize) -> usize
     line_length(edge_at(n, d, fwd, js, b))
 }
 
-fn put_entry(n: usize, d: usize, fwd: &[u32], js: &[i32], b: usize, out: &mut [u8], at: usize) -> usize
+fn put_entry(
+    n: usize,
+    d: usize,
+    fwd: &[u32],
+    js: &[i32],
+    b: usize,
+    out: &mut [u8],
+    at: usize,
+) -> usize
     requires { ⌜ BondRoom n d (now fwd) (now js) b at (length (now out)) ⌝ }
     ensures { λ r. ⌜ Put (linesOf (entryAt d (now (fwd .entry)) (now (js .entry)) b)) (now (out .entry)) at r (now (out .exit)) ⌝ }
 {
@@ -89,7 +97,14 @@ pub(crate) fn bytes(n: usize, d: usize, fwd: &[u32], js: &[i32]) -> usize
     total
 }
 
-pub(crate) fn put_all(n: usize, d: usize, fwd: &[u32], js: &[i32], out: &mut [u8], at: usize) -> usize
+pub(crate) fn put_all(
+    n: usize,
+    d: usize,
+    fwd: &[u32],
+    js: &[i32],
+    out: &mut [u8],
+    at: usize,
+) -> usize
     requires { ⌜ ListRoom n d (now fwd) (now js) at (length (now out)) ⌝ }
     ensures { λ r. ⌜ Put (linesOf (listed d (now (fwd .entry)) (now (js .entry)) (n * d))) (now (out .entry)) at r (now (out .exit)) ⌝ }
 {

@@ -244,7 +244,7 @@ module _ (n d : ℕ) (fwd bwd : List ℕ) (js : List ℤ) (l y z : Lists) where
   lists-same (Wrote m) (Wrote k) f g =
       let s = write-edges-determined n d fwd bwd js (l .text) (y .text) (z .text) (Wrote m) (Wrote k) (f .writes) (g .writes) in
       let told : y .written ≡ z .written =
-          f .length-told ∙ (ap (λ (a : Listing). valuesTo (listingValues a) (l .written)) (s .answer) ∙ sym (g .length-told)) in
+      f .length-told ∙ (ap (λ (a : Listing). valuesTo (listingValues a) (l .written)) (s .answer) ∙ sym (g .length-told)) in
       record { answer = s .answer; buffers = λ i. lists (s .buffers i) (told i) }
 
   pub tsorvenk-write-edges-determined : (r r′ : ℕ) → ListNumbers net js l r y → ListNumbers net js l r′ z → Same r r′ y z

@@ -1,5 +1,5 @@
 -- `edges::exact` meets its contract: it compares the lengths one by one.
-use Rattle.lattice.specs.Telling.{same, both, test-eq}
+use Rattle.lemmas.specs.Tells.{same, both, test-eq}
 use Rattle.edges.specs.Answer.{ExactLengths}
 use Rattle.edges.proofs.exact.Statement.{statement}
 use Rattle.edges.proofs.exact.Tie as tie

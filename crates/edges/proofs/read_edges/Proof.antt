@@ -6,7 +6,7 @@ use native.Mathlib.Nat.{mul-le-mul}
 use borrow.Author.Needs.{needs}
 use lib.ListN.{length, getD-replicate, length-replicate}
 use denote.Ref.{now}
-use Rattle.paper.specs.Component.Marks.{passed, refused}
+use Rattle.lemmas.specs.Tells.{passed, refused}
 use Rattle.paper.specs.Refusal.Rules.{Sizes, Inverse}
 use Rattle.edges.specs.Answer.{netOf, Exact}
 use Rattle.edges.specs.Filling.{Loaded, SmallCodes}

@@ -4,7 +4,7 @@ use native.Mathlib.Omega.{arith}
 use native.Mathlib.Nat.{mul-le-mul}
 use borrow.Author.Needs.{needs}
 use denote.Ref.{now}
-use Rattle.paper.specs.Component.Marks.{passed, refused}
+use Rattle.lemmas.specs.Tells.{passed, refused}
 use Rattle.paper.specs.Refusal.Rules.{Sizes, Inverse, SmallCouplings}
 use Rattle.edges.specs.Answer.{netOf, Exact}
 use Rattle.edges.specs.Listing.{Tabled}

@@ -3,7 +3,7 @@ use mathlib.Core.Path.{refl, subst}
 use native.Mathlib.Omega.{arith}
 use denote.Ref.{now}
 use borrow.Author.Needs.{needs}
-use Rattle.paper.specs.Component.Marks.{told, denied}
+use Rattle.lemmas.specs.Tells.{told, denied}
 use Rattle.edge_text.specs.Reading.{NumberAs, NumberAt, HasMinus}
 use Rattle.edge_text.proofs.Lines.{minus-as, plus-none, plus-at}
 use Rattle.edge_text.proofs.reading.coupling.Statement.{statement}

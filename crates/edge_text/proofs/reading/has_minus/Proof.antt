@@ -9,7 +9,7 @@ use borrow.Author.Tests.{eqb-true, eqb-false}
 use lib.Dec.{eqb}
 use denote.Ref.{now}
 use lib.ListN.{length, getD}
-use Rattle.paper.specs.Component.Marks.{Tells}
+use Rattle.lemmas.specs.Tells.{Tells}
 use Rattle.edge_text.specs.Reading.{HasMinus}
 use Rattle.edge_text.proofs.reading.has_minus.Statement.{statement}
 use Rattle.edge_text.proofs.reading.has_minus.Tie as tie

@@ -6,7 +6,7 @@ use native.Mathlib.Numerals.{add-one}
 use lib.ListN.{length}
 use mir.Syntax.{w32}
 use mir.Facts.{toZ-ofZ}
-use Rattle.lattice.specs.Held.{small-fits}
+use Rattle.lemmas.specs.Held.{small-fits}
 use Rattle.edge_text.specs.Decimal.{decimal}
 use Rattle.edge_text.specs.Form.{signed}
 use Rattle.edge_text.specs.Writing.{Long}
@@ -48,7 +48,7 @@ returns c =
     let a = c .before .before .before .before .digits-of .ensures in
     let b = c .before .before .digits-of2 .ensures in
     let d : Long (signed (e .coupling)) 8 (c .signed-length .result) =
-        rw (toZ-ofZ (small-fits w32 (e .coupling) 1000000 (c .before .before .before .before .before .before .pre .coupling-low) tt)) at (c .signed-length .ensures) in
+    rw (toZ-ofZ (small-fits w32 (e .coupling) 1000000 (c .before .before .before .before .before .before .pre .coupling-low) tt)) at (c .signed-length .ensures) in
     record { bytes = omega arith; few = omega arith }
 
 pub line-length-spec : {M : Type 1} → statement M

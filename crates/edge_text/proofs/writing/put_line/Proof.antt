@@ -11,7 +11,7 @@ use denote.Ref.{now}
 use mir.Syntax.{w32}
 use mir.Val.{toZ, ofZ}
 use mir.Facts.{toZ-ofZ}
-use Rattle.lattice.specs.Held.{small-fits}
+use Rattle.lemmas.specs.Held.{small-fits}
 use Rattle.edge_text.specs.declared.Edge.{Edge}
 use Rattle.edge_text.specs.Form.{lineOf}
 use Rattle.edge_text.specs.Writing.{then, signedEnd, Put, Room, put-both}

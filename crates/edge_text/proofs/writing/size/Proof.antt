@@ -9,8 +9,8 @@ use lib.Signed.{ltZ}
 use mir.Syntax.{w32}
 use mir.Val.{SFits, toZ, ofZ}
 use mir.Facts.{toZ-ofZ}
-use Rattle.lattice.specs.Ints.{minus-abs, self-abs}
-use Rattle.lattice.specs.Held.{small-fits}
+use Rattle.lemmas.specs.Ints.{minus-abs, self-abs}
+use Rattle.lemmas.specs.Held.{small-fits}
 use Rattle.edge_text.proofs.writing.size.Statement.{statement}
 use Rattle.edge_text.proofs.writing.size.Tie as tie
 

@@ -3,7 +3,7 @@ use Prim.Native.Nat.{_-_, _<_}
 use native.Mathlib.Omega.{arith}
 use borrow.Author.Needs.{needs}
 use lib.ListN.{getD}
-use Rattle.lattice.specs.Telling.{Flagged, test-lt, flag-start, flag-more, flag-end}
+use Rattle.lemmas.specs.Tells.{Flagged, test-lt, flag-start, flag-more, flag-end}
 use Rattle.edges.proofs.fill.all_small.Statement.{statement}
 use Rattle.edges.proofs.fill.all_small.Tie as tie
 

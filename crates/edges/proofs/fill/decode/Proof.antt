@@ -6,7 +6,7 @@ use lib.IntN.{ℤ, pos, _-ℤ_}
 use mir.Syntax.{w32}
 use mir.Val.{SFits, toZ, ofZ}
 use mir.Facts.{toZ-ofZ}
-use Rattle.lattice.specs.Held.{small-fits}
+use Rattle.lemmas.specs.Held.{small-fits}
 use Rattle.edges.specs.Filling.{decoded}
 use Rattle.edges.proofs.Codes.{decoded-some, decoded-none, decoded-size}
 use Rattle.edges.proofs.fill.decode.Statement.{statement}

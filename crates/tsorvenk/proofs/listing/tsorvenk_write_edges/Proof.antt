@@ -4,7 +4,7 @@ use mathlib.Core.Path.{subst}
 use mathlib.Core.List.{List}
 use Prim.Native.Nat.{ℕ}
 use denote.Ref.{now}
-use Rattle.paper.specs.Component.Marks.{told, denied}
+use Rattle.lemmas.specs.Tells.{told, denied}
 use Rattle.edges.specs.declared.Listing.{Listing}
 use Rattle.edges.specs.Answer.{Net, netOf, WriteAnswers}
 use Rattle.tsorvenk.proofs.Listed.{list-no-sizes, list-no-place, not-listed, list-wrote}
