@@ -13,7 +13,7 @@ fn lattice(n: usize, d: usize, fwd: &[u32]) -> Lattice {
     }
 }
 
-/// L2 of docs/EDGES.md: two sites, each the other's neighbour, and so two bonds.
+/// Two sites, each the other's neighbour, and so two bonds.
 fn two() -> Lattice {
     lattice(2, 1, &[1, 0])
 }
@@ -187,19 +187,12 @@ fn a_double_bond_may_come_back_in_the_other_place() {
     filled(&two(), &list, &[5, 0]);
 }
 
-/// What docs/EDGES.md shows.
+/// The list that docs/EDGES.md shows, and its lines in another order and from the other end.
 #[test]
 fn the_example_of_the_documents() {
-    let ring = lattice(4, 1, &[1, 2, 3, 0]);
-    let list = "4 3\n1 2 7\n2 3 -12\n4 1 1000000\n";
-    filled(&ring, list, &[7, -12, 0, 1_000_000]);
-    assert_eq!(
-        write(&ring, &[7, -12, 0, 1_000_000], 99, 1),
-        (0, list.to_string())
-    );
-    filled(
-        &ring,
-        "4 3\n1 4 1000000\n3 2 -12\n1 2 7\n",
-        &[7, -12, 0, 1_000_000],
-    );
+    let ring = lattice(3, 1, &[1, 2, 0]);
+    let (table, list) = ([1, 0, -3], "3 2\n1 2 1\n3 1 -3\n");
+    filled(&ring, list, &table);
+    filled(&ring, "3 2\n1 3 -3\n2 1 1\n", &table);
+    assert_eq!(write(&ring, &table, 99, 1), (0, list.to_string()));
 }
