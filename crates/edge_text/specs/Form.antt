@@ -1,4 +1,5 @@
--- The form of an edge list, as document 02 has it: the text is the rendering of these numbers and nothing else. 10 is the line feed, 32 the blank, 45 the minus.
+-- The form of an edge list, as document 02 has it: the text is the rendering of these numbers and nothing else.
+-- Of the characters' codes, 10 is the line feed, 32 the blank and 45 the minus.
 use Prim.Native.Nat.{ℕ, suc}
 use mathlib.Core.List.{List, [], _∷_, _++_}
 use lib.ListN.{length}

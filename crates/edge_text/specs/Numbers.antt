@@ -58,7 +58,9 @@ pub record SameSigned (y z : ℤ) (r q : List ℕ) : Type 0 where
 
 pub same-signed : {s r q : List ℕ} {c : ℕ} (y z : ℤ) → isDigit c ≡ false → Signed s y c r → Signed s z c q → SameSigned y z r q
 unfolding tail
-same-signed (pos v) (pos w) n f g = let h = same-number n (begins v _ _ (f .spelt)) (begins w _ _ (g .spelt)) in record { number = ap pos (h .number); behind = h .behind }
+same-signed (pos v) (pos w) n f g =
+    let h = same-number n (begins v _ _ (f .spelt)) (begins w _ _ (g .spelt)) in
+    record { number = ap pos (h .number); behind = h .behind }
 same-signed (pos v) (negsuc w) n f g = absurd (started-first _ _ (decimal-started v) (sym (f .spelt) ∙ g .spelt))
 same-signed (negsuc v) (pos w) n f g = absurd (started-first _ _ (decimal-started w) (sym (g .spelt) ∙ f .spelt))
 same-signed (negsuc v) (negsuc w) n f g =

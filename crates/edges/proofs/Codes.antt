@@ -59,7 +59,12 @@ fits : (z : ℤ) (x : ℕ) → natAbs z ≤ 1000000 → 0 < x → x < 2000002 �
 fits z x l p h e = record { back = λ _. e; small = λ _. l; code = λ _. h; some = zero-not x p }
 
 too-large : (z : ℤ) → 1000000 < natAbs z → CodeOf z 2000002
-too-large z l = record { back = λ k. absurd (omega arith); small = λ k. absurd (omega arith); code = λ k. absurd (omega arith); some = zero-not 2000002 (omega arith) }
+too-large z l = record {
+  back = λ k. absurd (omega arith);
+  small = λ k. absurd (omega arith);
+  code = λ k. absurd (omega arith);
+  some = zero-not 2000002 (omega arith);
+}
 
 pub code-of : (z : ℤ) → CodeOf z (codeOf z)
 code-of (pos v) = at (decLe v 1000000)

@@ -42,7 +42,10 @@ module _ (d : ℕ) (fwd cells : List ℕ) (from to : ℕ) where
     scanning-found h = record {
       within = s .within;
       before = s .before;
-      found = λ _. record { leads = sym ef ∙ eqb-true f to (and-left (eqb f to) (eqb x 0) h); is-free = sym ex ∙ eqb-true x 0 (and-right (eqb f to) (eqb x 0) h) };
+      found = λ _. record {
+        leads = sym ef ∙ eqb-true f to (and-left (eqb f to) (eqb x 0) h);
+        is-free = sym ex ∙ eqb-true x 0 (and-right (eqb f to) (eqb x 0) h);
+      };
     }
 
   pub scanning-end : (e : ℕ) → Scanning d fwd cells from to e → d ≤ e → ScanAs d fwd cells from to e
@@ -58,7 +61,10 @@ module _ {n d : ℕ} {fwd cells : List ℕ} {i j : ℕ} (o : Ordered n d fwd cel
   -- a free bond from a to b is one that the scan of a for b passes or finds
   ahead-open : (a b c e : ℕ) → ScanAs d fwd cells a b e → (w : Ahead d fwd a b c) → w .way < e → getD cells c 0 ≡ 0 → ⊥
   ahead-open a b c e s w l f =
-      s .before (w .way) l (record { leads = ap (λ (x : ℕ). getD fwd x 0) (sym (w .is)) ∙ w .leads; is-free = ap (λ (x : ℕ). getD cells x 0) (sym (w .is)) ∙ f })
+      s .before (w .way) l (record {
+        leads = ap (λ (x : ℕ). getD fwd x 0) (sym (w .is)) ∙ w .leads;
+        is-free = ap (λ (x : ℕ). getD cells x 0) (sym (w .is)) ∙ f;
+      })
 
   rows : i < j → i * d + d ≤ j * d
   rows l = rw suc-mul at (mul-le-mul-right d l)

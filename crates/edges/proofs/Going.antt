@@ -101,7 +101,8 @@ module _ {n d : ℕ} {fwd text : List ℕ} {a : ℕ} {before : List ℕ} (m : �
             at [] c t f = let h = positive in omega arith
             at (e ∷ es) c t f =
                 let s = same-line edge e (drop p text) (drop q text) (linesOf es) (line .is) t in
-                none-of (g .state) (g .coded) found full (f .0) (subst (λ (y : Edge). Lowest n d fwd (g .state) (y .from) (y .to) (f .0)) (sym (s .edge)) (f .1))
+                let mine = subst (λ (y : Edge). Lowest n d fwd (g .state) (y .from) (y .to) (f .0)) (sym (s .edge)) (f .1) in
+                none-of (g .state) (g .coded) found full (f .0) mine
 
         module _ (l : b < n * d) where
           abbrev next : ℕ → Cell

@@ -140,5 +140,6 @@ module _ (n d : ℕ) (fwd : List ℕ) (js : List ℤ) where
         let e : b ≡ n * d = let q = c .within in let s = c .bonds in omega arith in
         record { is = rw (← e) (c .is); few = omega (arith, c .few) }
 
-  pub all-put : {before after : List ℕ} {a m r b : ℕ} → m ≤ b → Putting n d fwd js before a m after r b → Put (linesOf (some d fwd js (n * d))) before a r after
+  pub all-put : {before after : List ℕ} {a m r b : ℕ} → m ≤ b → Putting n d fwd js before a m after r b
+      → Put (linesOf (some d fwd js (n * d))) before a r after
   all-put {b = b} l c = let e : b ≡ n * d = let q = c .within in let s = c .bonds in omega arith in rw (← e) (c .put)

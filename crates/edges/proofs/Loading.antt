@@ -34,7 +34,8 @@ module _ (n d : ℕ) (fwd text : List ℕ) where
   }
   load-as {m} {e} cells h false f =
       λ u.
-      let a = same-number refl (begins n 32 _ (h .is ∙ head-split n m (drop e text))) (begins n 32 _ (u .made .is ∙ head-split n (length (u .list)) (linesOf (u .list)))) in
+      let whole = u .made .is ∙ head-split n (length (u .list)) (linesOf (u .list)) in
+      let a = same-number refl (begins n 32 _ (h .is ∙ head-split n m (drop e text))) (begins n 32 _ whole) in
       let b = same-number refl (begins m 10 (drop e text) refl) (begins (length (u .list)) 10 (linesOf (u .list)) (a .behind)) in
       f (u .cells) (record { list = u .list; count = sym (b .number); text = b .behind; fills = u .made .fills })
 
@@ -80,5 +81,6 @@ module _ (n d : ℕ) (fwd bwd text : List ℕ) (js : List ℤ) where
             where
               small : SmallList n d fwd text
               small list other made =
-                  subst (λ (e : ℕ → Cell). SmallCouplings (tableOf (n * d) e)) (cells-unique n d fwd text (l .read) (record { list = list; cells = other; made = made }))
+                  subst (λ (e : ℕ → Cell). SmallCouplings (tableOf (n * d) e))
+                  (cells-unique n d fwd text (l .read) (record { list = list; cells = other; made = made }))
                   (small-table (n * d) (l .read .cells) cells (l .coded) h)

@@ -31,7 +31,8 @@ module _ (n d : ℕ) (fwd : List ℕ) where
       (subst (λ (b : ℕ). Fills n d fwd (put cells b (e .coupling)) es end′) (lowest-unique cells (e .from) (e .to) (q .0) (p .0) (q .1) (p .1)) (q .2))
 
   -- a list's lines one behind another
-  pub fills-behind : (xs ys : List Edge) (cells mid end : ℕ → Cell) → Fills n d fwd cells xs mid → Fills n d fwd mid ys end → Fills n d fwd cells (xs ++ ys) end
+  pub fills-behind : (xs ys : List Edge) (cells mid end : ℕ → Cell) → Fills n d fwd cells xs mid
+      → Fills n d fwd mid ys end → Fills n d fwd cells (xs ++ ys) end
   fills-behind [] ys cells mid end p q = subst (λ (c : ℕ → Cell). Fills n d fwd c ys end) p q
   fills-behind (a ∷ xs) ys cells mid end p q = (p .0, p .1, fills-behind xs ys (put cells (p .0) (a .coupling)) mid end (p .2) q)
 

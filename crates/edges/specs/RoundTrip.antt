@@ -106,7 +106,11 @@ module _ (n d : ℕ) (fwd bwd : List ℕ) (js lent : List ℤ) (one : Simple n d
   text = textOf n (listOf (netOf n d fwd bwd) js)
 
   is-list : IsList n d fwd text
-  is-list = record { list = listed d fwd js (n * d); cells = after js (n * d); made = record { is = refl; fills = fills n d fwd js (s .d-low) one (n * d) (omega arith) } }
+  is-list = record {
+    list = listed d fwd js (n * d);
+    cells = after js (n * d);
+    made = record { is = refl; fills = fills n d fwd js (s .d-low) one (n * d) (omega arith) };
+  }
 
   table : tableOf (n * d) (is-list .cells) ≡ js
   unfolding is-list
@@ -129,7 +133,8 @@ module _ (n d : ℕ) (fwd bwd : List ℕ) (js lent : List ℤ) (one : Simple n d
 
 -- what `write_edges` wrote, `read_edges` reads as the same table, into any couplings of the right length
 pub round-trip : (n d : ℕ) (fwd bwd : List ℕ) (js : List ℤ) (out out′ : List ℕ) (m : ℕ) → WriteAnswers (netOf n d fwd bwd) js out (Wrote m) out′
-    → Simple n d fwd → (lent : List ℤ) → length lent ≡ n * d → (r : ℕ) (js′ : List ℤ) → ReadAnswers (netOf n d fwd bwd) (take m out′) lent r js′ → Same r 0 js′ js
+    → Simple n d fwd → (lent : List ℤ) → length lent ≡ n * d → (r : ℕ) (js′ : List ℤ)
+    → ReadAnswers (netOf n d fwd bwd) (take m out′) lent r js′ → Same r 0 js′ js
 round-trip n d fwd bwd js out out′ m w one lent room r js′ p =
     let k = w .valid in
     read-back n d fwd bwd js lent one (k .0) (k .1 .0) (k .1 .1 .0) (k .1 .1 .1 .0) room r js′

@@ -26,5 +26,6 @@ module _ (g : Net) (js : List ℤ) (text ws : List ℕ) where
   pub not-listed : (c : ℕ) (text′ : List ℕ) → length ws ≡ 1 → WriteAnswers g js text (Unlisted c) text′ → ListNumbers g js (lists text ws) c (lists text′ ws)
   not-listed c text′ l w = record { answer = Unlisted c; allowed = record { why = placed c l (w .why); kept = λ i. lists (w .kept i) ws }; number = refl }
 
-  pub list-wrote : (m : ℕ) (text′ : List ℕ) → length ws ≡ 1 → WriteAnswers g js text (Wrote m) text′ → ListNumbers g js (lists text ws) 0 (lists text′ (set ws 0 m))
+  pub list-wrote : (m : ℕ) (text′ : List ℕ) → length ws ≡ 1 → WriteAnswers g js text (Wrote m) text′
+      → ListNumbers g js (lists text ws) 0 (lists text′ (set ws 0 m))
   list-wrote m text′ l w = record { answer = Wrote m; allowed = record { room = l; writes = w; length-told = one-set ws m l }; number = refl }

@@ -124,7 +124,8 @@ returns-5 c =
     let f = c .before .before .before in
     let e = E3 f in
     let x = e .before .before in
-    too-large _ _ _ _ _ _ (k1 (x .before .before)) (k2 x) (k3 e) _ (k4 f) (refused (c .before .all-small .result) (c .if5 .taken) (c .before .all-small .ensures))
+    too-large _ _ _ _ _ _ (k1 (x .before .before)) (k2 x) (k3 e) _ (k4 f)
+    (refused (c .before .all-small .result) (c .if5 .taken) (c .before .all-small .ensures))
 
 slice-aggregate-copy : tie.Need-slice-aggregate-copy
 slice-aggregate-copy c = search needs

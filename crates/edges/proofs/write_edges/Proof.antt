@@ -112,7 +112,8 @@ put-head-requires c κs =
     let e = m .before in
     record {
       fits =
-          head-fits _ _ _ _ _ (now (S4 e .args .text)) (k1 (E1 e)) (k2 (E2 e)) (k3 (E3 e)) (k4 e) _ _ _ (m .count .ensures) (h .head-length .ensures) (b .bytes .ensures)
+          head-fits _ _ _ _ _ (now (S4 e .args .text)) (k1 (E1 e)) (k2 (E2 e)) (k3 (E3 e)) (k4 e) _ _ _
+          (m .count .ensures) (h .head-length .ensures) (b .bytes .ensures)
           (t .if5 .left);
     }
 

@@ -37,7 +37,8 @@ returns-2 : tie.Need-returns-2
 returns-2 c =
     let e = c .before .before .before in
     let a = e .before .before .before .args in
-    plus-none (now (a .text)) (a .at) (denied (e .if1 .left) (e .before .has-minus .ensures)) (subst (NumberAs _ _ _) (c .enum-told .given .1) (c .before .before .number .ensures))
+    plus-none (now (a .text)) (a .at) (denied (e .if1 .left) (e .before .has-minus .ensures))
+    (subst (NumberAs _ _ _) (c .enum-told .given .1) (c .before .before .number .ensures))
 
 plus-code-requires : tie.Need-plus-code-requires
 plus-code-requires c κs = search needs

@@ -42,13 +42,14 @@ add-result-3 c = search needs
 returns : tie.Need-returns
 returns c =
     let e = c .before .before .before .before .before .before .args .edge in
+    let small = c .before .before .before .before .before .before .pre .coupling-low in
     let l = line-long e in
     let p : length (decimal (e .from + 1)) ≡ length (decimal (suc (e .from))) = rw (add-one (e .from)) refl in
     let q : length (decimal (e .to + 1)) ≡ length (decimal (suc (e .to))) = rw (add-one (e .to)) refl in
     let a = c .before .before .before .before .digits-of .ensures in
     let b = c .before .before .digits-of2 .ensures in
     let d : Long (signed (e .coupling)) 8 (c .signed-length .result) =
-    rw (toZ-ofZ (small-fits w32 (e .coupling) 1000000 (c .before .before .before .before .before .before .pre .coupling-low) tt)) at (c .signed-length .ensures) in
+    rw (toZ-ofZ (small-fits w32 (e .coupling) 1000000 small tt)) at (c .signed-length .ensures) in
     record { bytes = omega arith; few = omega arith }
 
 pub line-length-spec : {M : Type 1} → statement M

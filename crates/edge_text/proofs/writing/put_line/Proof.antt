@@ -28,7 +28,8 @@ second e = then (e .to + 1) 32
 parts : (e : Edge) → lineOf e ≡ first e ++ (second e ++ signedEnd (e .coupling))
 parts e = rw (add-one (e .from), add-one (e .to)) (line-parts e)
 
-fits : (s : tie.Start) → s .args .at + length (first (s .args .edge) ++ (second (s .args .edge) ++ signedEnd (s .args .edge .coupling))) ≤ length (now (s .args .out))
+fits : (s : tie.Start)
+    → s .args .at + length (first (s .args .edge) ++ (second (s .args .edge) ++ signedEnd (s .args .edge .coupling))) ≤ length (now (s .args .out))
 fits s = rw parts at (s .pre .fits)
 
 abbrev S1 : tie.After-put-then → tie.Start
@@ -37,10 +38,12 @@ S1 p = p .before .before .before .before
 abbrev P1 : tie.After-put-then2 → tie.After-put-then
 P1 q = q .before .before .before .before .before
 
-rest-room : (p : tie.After-put-then) → Room (second (S1 p .args .edge) ++ signedEnd (S1 p .args .edge .coupling)) (p .put-then .result) (length (p .put-then .last .1 .1 .0))
+rest-room : (p : tie.After-put-then)
+    → Room (second (S1 p .args .edge) ++ signedEnd (S1 p .args .edge .coupling)) (p .put-then .result) (length (p .put-then .last .1 .1 .0))
 rest-room p = room-second (first (S1 p .args .edge)) _ (S1 p .args .at) _ (fits (S1 p)) refl (p .put-then .ensures)
 
-read : (c : tie.After-struct-told) → toZ w32 (ofZ w32 (S1 (P1 (c .before .before .before .before)) .args .edge .coupling)) ≡ S1 (P1 (c .before .before .before .before)) .args .edge .coupling
+read : (c : tie.After-struct-told)
+    → toZ w32 (ofZ w32 (S1 (P1 (c .before .before .before .before)) .args .edge .coupling)) ≡ S1 (P1 (c .before .before .before .before)) .args .edge .coupling
 read c = toZ-ofZ (small-fits w32 _ 1000000 (S1 (P1 (c .before .before .before .before)) .pre .small .coupling-low) tt)
 
 add-put-then : tie.Need-add-put-then
@@ -62,7 +65,8 @@ put-signed-requires c κs =
     let q = c .before .before .before .before in
     let p = P1 q in
     let e = S1 p .args .edge in
-    rw (read c) (record { small = S1 p .pre .small .coupling-low; fits = room-second (second e) (signedEnd (e .coupling)) _ _ (rest-room p .fits) refl (q .put-then2 .ensures) .fits })
+    let room = room-second (second e) (signedEnd (e .coupling)) _ _ (rest-room p .fits) refl (q .put-then2 .ensures) in
+    rw (read c) (record { small = S1 p .pre .small .coupling-low; fits = room .fits })
 
 same-length : tie.Need-same-length
 same-length c = search needs

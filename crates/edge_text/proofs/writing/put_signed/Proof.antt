@@ -39,12 +39,14 @@ put-then-requires : tie.Need-put-then-requires
 put-then-requires c κs =
     let t = c .before in
     let s = t .before .before .before in
-    record {
-      fits = omega (arith, minus-room (s .args .j) _ (sized (t .before)) (below t) (s .args .at) _ (s .pre .fits) .fits, length-set (now (s .args .out)) (s .args .at) 45);
-    }
+    let room = minus-room (s .args .j) _ (sized (t .before)) (below t) (s .args .at) _ (s .pre .fits) in
+    record { fits = omega (arith, room .fits, length-set (now (s .args .out)) (s .args .at) 45) }
 
 same-length : tie.Need-same-length
-same-length c = let p = c .before .before in let s = p .before .before .before .before .before in p .put-then .kept .1 .1 .0 ∙ length-set (now (s .args .out)) (s .args .at) 45
+same-length c =
+    let p = c .before .before in
+    let s = p .before .before .before .before .before in
+    p .put-then .kept .1 .1 .0 ∙ length-set (now (s .args .out)) (s .args .at) 45
 
 returns : tie.Need-returns
 returns c =

@@ -27,7 +27,8 @@ abbrev I : tie.After-known-told Inv-loop μ-loop → tie.In-loop Inv-loop μ-loo
 I c = c .before .before .before .before
 
 there : (c : tie.After-known-told Inv-loop μ-loop)
-    → LineAt (now (S (I c) .args .text)) (I c .before .loop .p) (S (I c) .args .n) (c .before .i .given .0 .0) (c .before .i .given .0 .1 .0) (c .before .i .given .0 .1 .1 .0) (c .before .i .given .0 .1 .1 .1 .0)
+    → LineAt (now (S (I c) .args .text)) (I c .before .loop .p) (S (I c) .args .n)
+    (c .before .i .given .0 .0) (c .before .i .given .0 .1 .0) (c .before .i .given .0 .1 .1 .0) (c .before .i .given .0 .1 .1 .1 .0)
 there c = subst (LineAs _ _ _) (c .before .i .given .1) (c .before .before .before .line .ensures)
 
 loop-holds : tie.Need-loop-holds Inv-loop μ-loop
