@@ -51,6 +51,10 @@ module _ {t : List ℕ} {a n : ℕ} where
     pub site-at : 1 ≤ v → SiteAt t a n (v - 1) e
     site-at p = let s : suc (v - 1) ≡ v = omega arith in record { is = rw s (h .is); small = let k = h .small in omega arith; within = h .within }
 
+pub some-site : (v : ℕ) → (v ≡ 0 → ⊥) → 1 ≤ v
+some-site zero n = absurd (n refl)
+some-site (suc v) n = omega arith
+
 -- ---- a coupling's code
 held-over : {v w : ℕ} → Held v w → 1000000 < v → 1000000 < w
 held-over {v} {w} h l = at (decLt v limit)

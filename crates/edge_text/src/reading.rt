@@ -104,7 +104,7 @@ fn site(text: &[u8], at: usize, n: usize) -> Number
     let Number::At(v, e) = exact(text, at, b' ', n) else {
         return Number::Bad;
     };
-    if v < 1 {
+    if v == 0 {
         return Number::Bad;
     }
     Number::At(v - 1, e)

@@ -1,14 +1,17 @@
 -- One bond's line, and the bonds one by one.
 use Prim.Native.Nat.{ℕ, _+_, _*_, _≤_, _<_}
-use mathlib.Core.Path.{_≡_, refl, _∙_, ap, subst}
+use mathlib.Core.Path.{_≡_, refl, sym, _∙_, ap, subst}
+use mathlib.Core.Bool.{Bool, true, false}
 use mathlib.Core.List.{List, [], _∷_, _++_}
 use native.Mathlib.Omega.{arith}
 use native.Mathlib.Numerals.{add-one}
 use lib.ListN.{length, getD, length-append}
 use lib.IntN.{ℤ, pos}
 use mir.Syntax.{w32}
-use mir.Val.{SFits, ofZ}
-use Rattle.lemmas.specs.Held.{given, held-same, held-differ, small-fits}
+use mir.Val.{SFits, toZ, ofZ}
+use mir.Facts.{toZ-ofZ}
+use Rattle.lemmas.specs.Ints.{eqZ}
+use Rattle.lemmas.specs.Held.{small-fits}
 use Rattle.edge_text.specs.declared.Edge.{Edge}
 use Rattle.edge_text.specs.Form.{lineOf, linesOf}
 use Rattle.edge_text.specs.Writing.{Put, Long, put-none, put-both, put-long}
@@ -22,13 +25,17 @@ module _ {n d : ℕ} {fwd : List ℕ} {js : List ℤ} {b : ℕ} (h : Bond n d fw
   pub coupling-fits : SFits w32 z
   coupling-fits = small-fits w32 z 1000000 (h .tabled .small b (omega (arith, h .below, h .tabled .js-long))) tt
 
-  no-entry : ofZ w32 z ≡ 0 → entryAt d fwd js b ≡ []
-  no-entry e = rw (held-same (given coupling-fits) (given {z = pos 0} (small-fits w32 (pos 0) 0 (omega arith) tt)) e) refl
+  -- of the coupling that is read, as its bits are read back
+  abbrev zero : Bool
+  zero = eqZ (toZ w32 (ofZ w32 z)) (pos 0)
 
-  an-entry : (ofZ w32 z ≡ 0 → ⊥) → entryAt d fwd js b ≡ edgeAt d fwd js b ∷ []
-  an-entry e = rw (held-differ (given coupling-fits) (given {z = pos 0} (small-fits w32 (pos 0) 0 (omega arith) tt)) e) refl
+  no-entry : zero ≡ true → entryAt d fwd js b ≡ []
+  no-entry e = rw (sym (ap (λ (y : ℤ). eqZ y (pos 0)) (toZ-ofZ coupling-fits)) ∙ e) refl
 
-  module _ (e : ofZ w32 z ≡ 0) where
+  an-entry : zero ≡ false → entryAt d fwd js b ≡ edgeAt d fwd js b ∷ []
+  an-entry e = rw (sym (ap (λ (y : ℤ). eqZ y (pos 0)) (toZ-ofZ coupling-fits)) ∙ e) refl
+
+  module _ (e : zero ≡ true) where
     pub none-told : Told (entryAt d fwd js b) 0
     none-told = record { is = rw (no-entry e) refl; few = omega arith }
 
@@ -40,7 +47,7 @@ module _ {n d : ℕ} {fwd : List ℕ} {js : List ℤ} {b : ℕ} (h : Bond n d fw
     unfolding linesOf
     none-put before a = rw (no-entry e) (put-none before a)
 
-  module _ (e : ofZ w32 z ≡ 0 → ⊥) where
+  module _ (e : zero ≡ false) where
     pub one-told : Told (entryAt d fwd js b) 1
     one-told = record { is = rw (an-entry e) refl; few = omega arith }
 

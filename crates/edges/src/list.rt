@@ -5,6 +5,8 @@ use edge_text::writing::put_line;
 ghost use mathlib.Core.Path.{_≡_};
 ghost use Prim.Native.Nat.{_*_};
 ghost use lib.ListN.{length};
+ghost use lib.IntN.{pos};
+ghost use Rattle.lemmas.specs.Ints.{eqZ};
 ghost use Rattle.edge_text.specs.Form.{linesOf};
 ghost use Rattle.edge_text.specs.Writing.{Put, Long};
 ghost use Rattle.edges.specs.Listed.{edgeAt, entryAt, listed};
@@ -14,6 +16,13 @@ fn wide(x: u32) -> usize
     ensures { λ r. ⌜ r ≡ x ⌝ }
 {
     x as usize
+}
+
+// A coupling that is 0 has no line.
+fn is_zero(j: i32) -> bool
+    ensures { λ r. ⌜ r ≡ eqZ j (pos 0) ⌝ }
+{
+    j == 0
 }
 
 fn edge_at(n: usize, d: usize, fwd: &[u32], js: &[i32], b: usize) -> Edge
@@ -34,7 +43,7 @@ fn entry_count(n: usize, d: usize, fwd: &[u32], js: &[i32], b: usize) -> usize
     requires { ⌜ Bond n d (now fwd) (now js) b ⌝ }
     ensures { λ r. ⌜ Told (entryAt d (now (fwd .entry)) (now (js .entry)) b) r ⌝ }
 {
-    if js[b] == 0 {
+    if is_zero(js[b]) {
         return 0;
     }
     1
@@ -45,7 +54,7 @@ fn entry_length(n: usize, d: usize, fwd: &[u32], js: &[i32], b: usize) -> usize
     requires { ⌜ Bond n d (now fwd) (now js) b ⌝ }
     ensures { λ r. ⌜ Long (linesOf (entryAt d (now (fwd .entry)) (now (js .entry)) b)) 25 r ⌝ }
 {
-    if js[b] == 0 {
+    if is_zero(js[b]) {
         return 0;
     }
     line_length(edge_at(n, d, fwd, js, b))
@@ -63,7 +72,7 @@ fn put_entry(
     requires { ⌜ BondRoom n d (now fwd) (now js) b at (length (now out)) ⌝ }
     ensures { λ r. ⌜ Put (linesOf (entryAt d (now (fwd .entry)) (now (js .entry)) b)) (now (out .entry)) at r (now (out .exit)) ⌝ }
 {
-    if js[b] == 0 {
+    if is_zero(js[b]) {
         return at;
     }
     put_line(edge_at(n, d, fwd, js, b), out, at)

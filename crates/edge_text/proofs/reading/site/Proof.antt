@@ -1,9 +1,10 @@
 -- `edge_text::reading::site` meets its contract.
 use mathlib.Core.Path.{refl, subst}
+use native.Mathlib.Omega.{arith}
 use denote.Ref.{now}
 use borrow.Author.Needs.{needs}
 use Rattle.edge_text.specs.Reading.{ExactAs, ExactAt}
-use Rattle.edge_text.proofs.Lines.{site-none, site-zero, site-at}
+use Rattle.edge_text.proofs.Lines.{site-none, site-zero, site-at, some-site}
 use Rattle.edge_text.proofs.reading.site.Statement.{statement}
 use Rattle.edge_text.proofs.reading.site.Tie as tie
 
@@ -29,10 +30,13 @@ returns c =
     site-none (now (a .text)) (a .at) (a .n) (subst (ExactAs _ _ _ _) (c .enum-told .given .1) (c .before .before .exact .ensures))
 
 returns-2 : tie.Need-returns-2
-returns-2 c = site-zero (there (c .before)) (c .if1 .taken)
+returns-2 c = site-zero (there (c .before)) (omega (arith, c .if1 .taken))
+
+sub-t8 : tie.Need-sub-t8
+sub-t8 c = some-site _ (c .if1 .left)
 
 returns-3 : tie.Need-returns-3
-returns-3 c = site-at (there (c .before)) (c .if1 .left)
+returns-3 c = site-at (there (c .before)) (some-site _ (c .if1 .left))
 
 pub site-spec : {M : Type 1} → statement M
-site-spec = tie.close (tie.spec exact-requires enum-known-v enum-told returns returns-2 returns-3)
+site-spec = tie.close (tie.spec exact-requires enum-known-v enum-told returns returns-2 sub-t8 returns-3)
