@@ -1,7 +1,7 @@
 -- From a number to a site, a coupling, a line and the first line: what each test adds, and what its failure shows.
 use Prim.Native.Nat.{ℕ, zero, suc, _+_, _-_, _≤_, _<_}
 use mathlib.Core.Path.{_≡_, refl, sym, _∙_, ap}
-use mathlib.Core.Bool.{Bool, true, false, cond}
+use mathlib.Core.Bool.{false, cond}
 use mathlib.Core.List.{List, [], _∷_, _++_}
 use native.Mathlib.Omega.{arith}
 use native.Mathlib.Numerals.{add-one}
@@ -16,7 +16,7 @@ use Rattle.edge_text.specs.declared.Number.the-variants.{At, Bad}
 use Rattle.edge_text.specs.declared.Edge.{Edge}
 use Rattle.edge_text.specs.Decimal.{isDigit, limit, decimal, Held, decimal-started}
 use Rattle.edge_text.specs.Form.{lineOf, headOf, signed}
-use Rattle.edge_text.specs.Numbers.{Begins, begins, Signed, SameNumber, same-number, same-signed, started-first, line-split, head-split}
+use Rattle.edge_text.specs.Numbers.{Begins, begins, Signed, same-number, started-first, line-split, head-split}
 use Rattle.edge_text.specs.Reading.{NumberAt, ExactAt, ExactAs, SiteAt, SiteAs, MinusAt, MinusAs, CouplingAt, CouplingAs, LineAt, HeadAs, HasMinus}
 use Rattle.edge_text.specs.Reading.{plusCode, minusCode, codeOf}
 

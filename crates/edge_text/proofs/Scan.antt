@@ -1,7 +1,6 @@
 -- How digits are passed one by one, and what a number that ends well or badly says of the text.
 use Prim.Native.Nat.{ℕ, zero, suc, _+_, _≤_, _<_}
 use mathlib.Core.Path.{_≡_, refl, sym, _∙_, ap}
-use mathlib.Core.Logic.{_⊎_, inl, inr}
 use mathlib.Core.Bool.{Bool, true, false, _&&_}
 use mathlib.Core.List.{List, [], _∷_, _++_}
 use native.Mathlib.Omega.{arith}
@@ -9,8 +8,8 @@ use native.Mathlib.Numerals.{add-one}
 use native.Mathlib.Decide.{ℕ-discrete}
 use lib.ListN.{length, getD, drop, drop-of-length-le, length-drop, List·getD-append}
 use lib.Seq.{drop-cons, getD-drop}
-use Rattle.edge_text.specs.Decimal.{isDigit, lead, rest, gather, stepTo, Held, limit, valueFrom, decimal, Digits, Led, Started}
-use Rattle.edge_text.specs.Decimal.{gather-held, lead-digits, lead-rest, decimal-back, decimal-zero, decimal-led, decimal-started, value-decimal}
+use Rattle.edge_text.specs.Decimal.{isDigit, lead, rest, gather, stepTo, valueFrom, decimal, Digits, Led, Started}
+use Rattle.edge_text.specs.Decimal.{gather-held, lead-digits, lead-rest, decimal-back, decimal-zero, decimal-led, decimal-started}
 use Rattle.edge_text.specs.Decimal.Led.{by}
 use Rattle.edge_text.specs.Decimal.Started.{digit}
 use Rattle.edge_text.specs.Reading.{RunAs, NumberAt}

@@ -7,7 +7,6 @@ use native.Mathlib.Omega.{arith}
 use native.Mathlib.Decide.{decLt}
 use borrow.Author.Tests.{lt-ltb, le-ltb, le-leb, ltb-true, leb-true}
 use lib.Dec.{ltb, leb}
-use lib.ListN.{length, length-append}
 
 -- ---- writing: the digits of v, highest first. The first number only bounds the steps: there are no more digits than v + 1
 unfoldable pub digitsIn : ℕ → ℕ → List ℕ

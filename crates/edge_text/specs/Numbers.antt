@@ -1,10 +1,9 @@
 -- A text that begins with a number: the number and what stands behind it are determined.
-use Prim.Native.Nat.{ℕ, zero, suc, _+_, _≤_, _<_}
+use Prim.Native.Nat.{ℕ, suc, _+_}
 use mathlib.Core.Path.{_≡_, refl, sym, _∙_, ap}
 use mathlib.Core.Bool.{Bool, true, false}
 use mathlib.Core.List.{List, [], _∷_, _++_, append-assoc}
 use native.Mathlib.Omega.{arith}
-use lib.ListN.{length}
 use lib.IntN.{ℤ, pos, negsuc}
 use Rattle.edge_text.specs.declared.Edge.{Edge}
 use Rattle.edge_text.specs.Decimal.{decimal, lead, rest, valueFrom, isDigit, Started, value-decimal, decimal-digits, decimal-started, lead-of, rest-of}

@@ -1,10 +1,9 @@
 -- What each reading function promises: a number, a site, a coupling, a line and the first line, at a place of the text.
-use Prim.Native.Nat.{ℕ, zero, suc, _+_, _-_, _≤_, _<_}
-use mathlib.Core.Path.{_≡_, refl, sym, _∙_, ap}
-use mathlib.Core.Bool.{Bool, true, false, cond, _&&_}
-use mathlib.Core.List.{List, [], _∷_, _++_}
-use native.Mathlib.Omega.{arith}
-use lib.Dec.{ltb, leb}
+use Prim.Native.Nat.{ℕ, suc, _+_, _-_, _≤_, _<_}
+use mathlib.Core.Path.{_≡_}
+use mathlib.Core.Bool.{false, cond}
+use mathlib.Core.List.{List, _++_}
+use lib.Dec.{leb}
 use lib.ListN.{length, getD, drop}
 use lib.IntN.{ℤ, pos, negsuc}
 use Rattle.edge_text.specs.declared.Number.{Number}
@@ -12,8 +11,8 @@ use Rattle.edge_text.specs.declared.Number.the-variants.{At, Bad}
 use Rattle.edge_text.specs.declared.Line.{Line}
 use Rattle.edge_text.specs.declared.Line.the-variants.{Good, None}
 use Rattle.edge_text.specs.declared.Edge.{Edge}
-use Rattle.edge_text.specs.Decimal.{decimal, lead, rest, gather, Held, isDigit}
-use Rattle.edge_text.specs.Form.{signed, lineOf, headOf}
+use Rattle.edge_text.specs.Decimal.{lead, rest, gather, Held, isDigit}
+use Rattle.edge_text.specs.Form.{lineOf, headOf}
 use Rattle.edge_text.specs.Numbers.{Begins, Signed}
 
 -- the digits from the place a on end at e

@@ -1,19 +1,19 @@
 -- The look-up of a bond: what a scan of one site's bonds, and then of the other's, tells.
-use Prim.Native.Nat.{ℕ, zero, suc, _+_, _*_, _≤_, _<_}
+use Prim.Native.Nat.{ℕ, _+_, _*_, _≤_, _<_}
 use mathlib.Core.Path.{_≡_, refl, sym, _∙_, ap, subst}
-use mathlib.Core.Logic.{_⊎_, inl, inr}
-use mathlib.Core.Bool.{Bool, true, false, _&&_}
+use mathlib.Core.Logic.{inl, inr}
+use mathlib.Core.Bool.{true, false, _&&_}
 use mathlib.Core.List.{List}
 use native.Mathlib.Omega.{arith}
 use native.Mathlib.Nat.{mul-le-mul-right, suc-mul}
 use native.Mathlib.Decide.{decLt, ℕ-discrete}
 use borrow.Author.Tests.{eqb-true, eq-eqb}
 use lib.Dec.{eqb}
-use lib.ListN.{length, getD}
+use lib.ListN.{getD}
 use Rattle.lemmas.specs.Bools.{and-left, and-right, never}
 use Rattle.lemmas.specs.Cells.{cell-lt}
 use Rattle.edges.specs.Bonds.{Ahead, Joins}
-use Rattle.edges.specs.Filling.{Open, Ways, ScanAs, Celled, Pair, Ordered, FoundAs}
+use Rattle.edges.specs.Filling.{Open, Ways, ScanAs, Celled, Ordered, FoundAs}
 
 -- ---- one site
 pub record Scanning (d : ℕ) (fwd cells : List ℕ) (from to e : ℕ) : Type 0 where

@@ -1,5 +1,5 @@
 -- Line by line: what is still to be read makes a list just if the whole does, and with the same end.
-use Prim.Native.Nat.{ℕ, zero, suc, _+_, _-_, _*_, _≤_, _<_}
+use Prim.Native.Nat.{ℕ, _+_, _-_, _*_, _≤_, _<_}
 use mathlib.Core.Path.{_≡_, refl, sym, _∙_, ap, subst}
 use mathlib.Core.Bool.{Bool, true, false}
 use mathlib.Core.List.{List, [], _∷_, _++_}
@@ -13,10 +13,10 @@ use lib.IntN.{ℤ}
 use Rattle.edge_text.specs.declared.Edge.{Edge}
 use Rattle.edge_text.specs.declared.Line.the-variants.{None}
 use Rattle.edge_text.specs.Form.{linesOf, lineOf}
-use Rattle.edge_text.specs.Numbers.{SameLine, same-line}
+use Rattle.edge_text.specs.Numbers.{same-line}
 use Rattle.edge_text.specs.Reading.{LineAt, LineAs, codeOf}
-use Rattle.edges.specs.Bonds.{Cell, free, holds, Joins, Lowest, put, Fills}
-use Rattle.edges.specs.Fills.{lowest-unique, Sites, joins-sites}
+use Rattle.edges.specs.Bonds.{Cell, free, Lowest, put, Fills}
+use Rattle.edges.specs.Fills.{lowest-unique, joins-sites}
 use Rattle.edges.specs.Filling.{Celled, FoundAs, cellCode, Coded, LinesFrom, Readable, Filled, FilledAs}
 use Rattle.edges.proofs.Codes.{cell-free}
 

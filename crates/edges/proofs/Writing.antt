@@ -1,11 +1,11 @@
 -- The answer of writing: what each test adds, and which rule its failure breaks.
-use Prim.Native.Nat.{ℕ, _+_, _*_, _≤_, _<_}
-use mathlib.Core.Path.{_≡_, refl, sym, _∙_, ap, subst}
+use Prim.Native.Nat.{ℕ, _+_, _≤_, _<_}
+use mathlib.Core.Path.{_≡_, refl, _∙_, ap, subst}
 use mathlib.Core.Logic.{inl, inr}
 use mathlib.Core.List.{List, [], _∷_, _++_}
 use native.Mathlib.Omega.{arith}
 use lib.ListN.{length, drop, length-append}
-use lib.Seq.{sets, sets-eq}
+use lib.Seq.{sets-eq}
 use lib.IntN.{ℤ}
 use Rattle.paper.specs.Refusal.Rules.{Sizes, Inverse, SmallCouplings}
 use Rattle.edge_text.specs.declared.Edge.{Edge}

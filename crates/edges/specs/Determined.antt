@@ -1,17 +1,17 @@
 -- What each function's promise allows for one input is one answer and one content of every lent buffer.
 use Prim.Native.Nat.{ℕ, zero, suc, _*_}
-use mathlib.Core.Path.{_≡_, refl, sym, _∙_, ap, subst}
+use mathlib.Core.Path.{_≡_, refl, sym, _∙_, ap}
 use mathlib.Core.List.{List, [], _∷_, _++_}
 use native.Mathlib.Omega.{arith}
 use lib.ListN.{length, getD}
 use lib.IntN.{ℤ}
 use Rattle.paper.specs.Refusal.Rule.{broken-unique, broken-not-kept}
 use Rattle.edge_text.specs.declared.Edge.{Edge}
-use Rattle.edge_text.specs.Form.{textOf, linesOf, lineOf, headOf}
+use Rattle.edge_text.specs.Form.{textOf, linesOf, lineOf}
 use Rattle.edge_text.specs.Numbers.{same-line, same-number, begins, head-split}
 use Rattle.edges.specs.declared.Listing.{Listing}
 use Rattle.edges.specs.declared.Listing.the-variants.{Unlisted, Wrote}
-use Rattle.edges.specs.Bonds.{Cell, free, tableOf}
+use Rattle.edges.specs.Bonds.{free, tableOf}
 use Rattle.edges.specs.Fills.{fills-unique}
 use Rattle.edges.specs.Answer.{netOf, IsList, readRules, ReadAnswers, writeRules, WriteAnswers}
 

@@ -1,7 +1,7 @@
 -- Reading what was written gives the same table, wherever no two bonds join the same pair of sites.
 use Prim.Native.Nat.{ℕ, zero, suc, _+_, _*_, _/_, _%_, _≤_, _<_}
 use mathlib.Core.Path.{_≡_, refl, sym, _∙_, ap, subst}
-use mathlib.Core.Logic.{inl, inr}
+use mathlib.Core.Logic.{inl}
 use mathlib.Core.Bool.{Bool, true, false, cond}
 use mathlib.Core.List.{List, [], _∷_, _++_, append-nil}
 use native.Mathlib.Omega.{arith}
@@ -14,14 +14,13 @@ use lib.IntN.{ℤ, pos}
 use Rattle.lemmas.specs.Ints.{eqZ}
 use Rattle.paper.specs.Refusal.Rules.{Sizes, Inverse, SmallCouplings}
 use Rattle.lemmas.specs.Ints.{is-same}
-use Rattle.edge_text.specs.declared.Edge.{Edge}
 use Rattle.edge_text.specs.Form.{textOf}
 use Rattle.edges.specs.declared.Listing.the-variants.{Wrote}
-use Rattle.edges.specs.Bonds.{Ahead, Joins, Cell, free, holds, Lowest, put, Fills, valueOf, tableOf}
-use Rattle.edges.specs.Listed.{edgeAt, entryAt, listed}
+use Rattle.edges.specs.Bonds.{Joins, Cell, free, holds, Lowest, Fills, valueOf, tableOf}
+use Rattle.edges.specs.Listed.{edgeAt, listed}
 use Rattle.edges.specs.Fills.{fills-behind, table-long, table-at}
 use Rattle.edges.specs.Listing.{way-of}
-use Rattle.edges.specs.Answer.{Net, netOf, Exact, listOf, IsList, SmallList, ReadAnswers, WriteAnswers}
+use Rattle.edges.specs.Answer.{netOf, Exact, listOf, IsList, SmallList, ReadAnswers, WriteAnswers}
 use Rattle.edges.specs.Determined.{Same, cells-unique, read-edges-determined}
 
 -- no two bonds join the same pair

@@ -1,5 +1,4 @@
 -- `write_edges` meets its contract: each place past a test knows that test's rule, and each refusal that the next is broken.
-use Prim.Native.Nat.{_*_, _≤_}
 use native.Mathlib.Omega.{arith}
 use native.Mathlib.Nat.{mul-le-mul}
 use borrow.Author.Needs.{needs}

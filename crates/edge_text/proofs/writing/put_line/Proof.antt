@@ -1,12 +1,10 @@
 -- `edge_text::writing::put_line` meets its contract: a site, a site and a coupling, one behind another.
-use Prim.Native.Nat.{ℕ, suc, _+_, _≤_}
-use mathlib.Core.Path.{_≡_, refl, sym}
+use Prim.Native.Nat.{ℕ, _+_, _≤_}
+use mathlib.Core.Path.{_≡_, refl}
 use mathlib.Core.List.{List, _++_}
-use native.Mathlib.Omega.{arith}
 use native.Mathlib.Numerals.{add-one}
 use borrow.Author.Needs.{needs}
 use lib.ListN.{length}
-use lib.IntN.{ℤ}
 use denote.Ref.{now}
 use mir.Syntax.{w32}
 use mir.Val.{toZ, ofZ}
@@ -14,7 +12,7 @@ use mir.Facts.{toZ-ofZ}
 use Rattle.lemmas.specs.Held.{small-fits}
 use Rattle.edge_text.specs.declared.Edge.{Edge}
 use Rattle.edge_text.specs.Form.{lineOf}
-use Rattle.edge_text.specs.Writing.{then, signedEnd, Put, Room, put-both}
+use Rattle.edge_text.specs.Writing.{then, signedEnd, Room, put-both}
 use Rattle.edge_text.proofs.Puts.{line-parts, room-first, room-second}
 use Rattle.edge_text.proofs.writing.put_line.Statement.{statement}
 use Rattle.edge_text.proofs.writing.put_line.Tie as tie

@@ -1,6 +1,5 @@
 -- `edges::fill::all_small` meets its contract: after k turns the flag tells of the cells below k.
 use Prim.Native.Nat.{_-_, _<_}
-use native.Mathlib.Omega.{arith}
 use borrow.Author.Needs.{needs}
 use lib.ListN.{getD}
 use Rattle.lemmas.specs.Tells.{Flagged, test-lt, flag-start, flag-more, flag-end}

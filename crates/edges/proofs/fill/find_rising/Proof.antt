@@ -2,7 +2,6 @@
 use Prim.Native.Nat.{_+_, _*_, _<_, _≤_}
 use native.Mathlib.Omega.{arith}
 use native.Mathlib.Nat.{mul-le-mul}
-use borrow.Author.Needs.{needs}
 use Rattle.lemmas.specs.Cells.{cell-lt}
 use Rattle.edges.proofs.Find.{ways-of, found-first, found-second, found-none}
 use Rattle.edges.proofs.fill.find_rising.Statement.{statement}

@@ -1,9 +1,7 @@
 -- `edges::fill::scan` meets its contract: no way that was passed leads there by a free bond.
-use Prim.Native.Nat.{_+_, _-_, _*_, _<_}
+use Prim.Native.Nat.{_-_}
 use native.Mathlib.Omega.{arith}
 use borrow.Author.Needs.{needs}
-use lib.ListN.{length}
-use denote.Ref.{now}
 use Rattle.edges.proofs.Find.{Scanning, scanning-none, scanning-more, scanning-found, scanning-end}
 use Rattle.edges.proofs.fill.scan.Statement.{statement}
 use Rattle.edges.proofs.fill.scan.Tie as tie

@@ -1,5 +1,4 @@
 -- `edges::list::is_zero` meets its contract: the bits are those of 0 just if the number is 0.
-use Prim.Native.Nat.{ℕ}
 use mathlib.Core.Path.{_≡_, sym}
 use native.Mathlib.Omega.{arith}
 use native.Mathlib.Decide.{ℕ-discrete}
