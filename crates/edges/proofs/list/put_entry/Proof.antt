@@ -27,7 +27,8 @@ put-line-requires c κs =
     let e = c .before in
     let t = e .before in
     let s = t .before .before .before .before .before in
-    rw (e .edge-at .ensures) (record { small = small-edge (s .pre .bond); fits = one-room (s .pre .bond) (sym (t .before .is-zero .ensures) ∙ t .if1 .left) _ _ (s .pre .fits) })
+    let room = one-room (s .pre .bond) (sym (t .before .is-zero .ensures) ∙ t .if1 .left) _ _ (s .pre .fits) in
+    rw (e .edge-at .ensures) (record { small = small-edge (s .pre .bond); fits = room })
 
 same-length : tie.Need-same-length
 same-length c = search needs
