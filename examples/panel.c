@@ -1,5 +1,6 @@
 /* A small panel through the C interface: a torus of 4 by 4 sites, four systems at two temperatures, one sweep of each
- * mode in the all-clusters form, and a sweep that is refused. Every choice is drawn from one seed, so that each run is the
+ * mode in the all-clusters form, and a sweep that is refused. Its couplings come from an edge list, in the file that is
+ * named behind the program, or else in examples/panel.edges; every choice is drawn from one seed, so that each run is the
  * same. panel.rs is the same program in Rust; both print panel.out. */
 #include "tsorvenk.h"
 #include <stdio.h>
@@ -42,7 +43,28 @@ static void drawn(uint8_t code) {
     }
 }
 
-static void make_panel(struct outputs *o) {
+/* the couplings of the list in a file; then they are written back as a list */
+static void read_couplings(const char *path) {
+    static uint8_t text[TSORVENK_EDGES_ROOM + 1], back[TSORVENK_EDGES_ROOM];
+    FILE *file = fopen(path, "rb");
+    size_t length = file ? fread(text, 1, sizeof text, file) : 0, written = 0;
+    uint8_t code;
+    if (!file || ferror(file)) {
+        fprintf(stderr, "%s cannot be read\n", path);
+        exit(1);
+    }
+    fclose(file);
+    code = tsorvenk_read_edges(N, D, fwd, N * D, bwd, N * D, text, length, couplings, N * D);
+    if (code) {
+        fprintf(stderr, "%s is refused with %d: %s\n", path, code, tsorvenk_refusal_words(code));
+        exit(1);
+    }
+    tsorvenk_write_edges(N, D, fwd, N * D, bwd, N * D, couplings, N * D, back, sizeof back, &written, 1);
+    printf("edge list\n  %u bytes, %s\n", (unsigned)length,
+        written == length && !memcmp(text, back, length) ? "written back as they were" : "written back otherwise");
+}
+
+static void make_panel(const char *path, struct outputs *o) {
     uint8_t coins[S * N];
     for (uint32_t i = 0; i < N; i++) {
         uint32_t x = i % SIDE, y = i / SIDE;
@@ -51,9 +73,7 @@ static void make_panel(struct outputs *o) {
         bwd[i * D] = y * SIDE + (x + SIDE - 1) % SIDE;
         bwd[i * D + 1] = (y + SIDE - 1) % SIDE * SIDE + x;
     }
-    drawn(tsorvenk_fill_flips(source, 4, coins, N * D));
-    for (int k = 0; k < N * D; k++)
-        couplings[k] = coins[k] ? 1 : -1;
+    read_couplings(path);
     memset(o, 0, sizeof *o);
     drawn(tsorvenk_fill_flips(source, 4, coins, S * N));
     for (int k = 0; k < S * N; k++)
@@ -127,10 +147,10 @@ static void print_sweep(uint8_t mode, uint8_t code, const struct outputs *o) {
     printf("\n");
 }
 
-int main(void) {
+int main(int argc, char **argv) {
     struct outputs o, before;
     struct choices c;
-    make_panel(&o);
+    make_panel(argc > 1 ? argv[1] : "examples/panel.edges", &o);
     printf("start\n");
     print_energies(&o);
     for (uint8_t mode = TSORVENK_HOUD; mode <= TSORVENK_CMR; mode++) {

@@ -1,7 +1,11 @@
 //! A small panel through the safe crate: a torus of 4 by 4 sites, four systems at two temperatures, one sweep of each mode
-//! in the all-clusters form, and a sweep that is refused. Every choice is drawn from one seed, so that each run is the same.
+//! in the all-clusters form, and a sweep that is refused. Its couplings come from an edge list, in the file that is named
+//! behind the program, or else in examples/panel.edges; every choice is drawn from one seed, so that each run is the same.
 //! panel.c is the same program in C; both print panel.out.
-use tsorvenk::{Energy, Form, Mode, Refusal, Source, Sweep, Swept};
+use std::error::Error;
+use tsorvenk::{
+    Energy, Form, Mode, ReadEdges, Refusal, Source, Sweep, Swept, WriteEdges, EDGES_ROOM,
+};
 
 const SIDE: usize = 4;
 const N: usize = SIDE * SIDE;
@@ -52,7 +56,7 @@ struct Panel {
     couplings: [i32; N * D],
 }
 
-/// A coin as a spin or a coupling.
+/// A coin as a spin.
 fn sign(coin: u8) -> i8 {
     if coin == 1 {
         1
@@ -61,7 +65,31 @@ fn sign(coin: u8) -> i8 {
     }
 }
 
-fn make_panel(source: &mut Source) -> Result<(Panel, Outputs), Refusal> {
+/// The couplings of the list in a file; then they are written back as a list.
+fn read_couplings(path: &str, panel: &mut Panel) -> Result<(), Box<dyn Error>> {
+    let text = std::fs::read(path).map_err(|_| format!("{path} cannot be read"))?;
+    tsorvenk::read_edges(ReadEdges {
+        n: N,
+        d: D,
+        fwd: &panel.fwd,
+        bwd: &panel.bwd,
+        text: &text,
+        couplings: &mut panel.couplings,
+    })?;
+    let back = tsorvenk::write_edges(WriteEdges {
+        n: N,
+        d: D,
+        fwd: &panel.fwd,
+        bwd: &panel.bwd,
+        couplings: &panel.couplings,
+        text: &mut vec![0; EDGES_ROOM],
+    })? == text;
+    let how = if back { "as they were" } else { "otherwise" };
+    println!("edge list\n  {} bytes, written back {how}", text.len());
+    Ok(())
+}
+
+fn make_panel(path: &str, source: &mut Source) -> Result<(Panel, Outputs), Box<dyn Error>> {
     let mut panel = Panel {
         fwd: [0; N * D],
         bwd: [0; N * D],
@@ -74,9 +102,7 @@ fn make_panel(source: &mut Source) -> Result<(Panel, Outputs), Refusal> {
         panel.bwd[i * D] = (y * SIDE + (x + SIDE - 1) % SIDE) as u32;
         panel.bwd[i * D + 1] = ((y + SIDE - 1) % SIDE * SIDE + x) as u32;
     }
-    let mut coins = [0; N * D];
-    source.fill_flips(&mut coins)?;
-    panel.couplings = coins.map(|coin| sign(coin).into());
+    read_couplings(path, &mut panel)?;
     let mut outputs = Outputs {
         spins: [0; S * N],
         labels: [0; TASKS * N],
@@ -177,9 +203,11 @@ fn print_sweep(mode: Mode, answer: Result<Swept, Refusal>, sizes: &[u32]) {
     }
 }
 
-fn main() -> Result<(), Refusal> {
+fn main() -> Result<(), Box<dyn Error>> {
+    let path = std::env::args().nth(1);
+    let path = path.unwrap_or("examples/panel.edges".to_string());
     let mut source = Source::new(SEED)?;
-    let (panel, mut o) = make_panel(&mut source)?;
+    let (panel, mut o) = make_panel(&path, &mut source)?;
     println!("start");
     print_energies(&panel, &o.spins);
     for mode in Mode::ALL {

@@ -28,8 +28,10 @@
  *  10  a seed is n or more; or, outside CMR, some site acts and the seed does not
  *  12  of the draws alone: the four words of a source are all 0, m is not 1 to 4096 (for bytes not 1 to 256), the members
  *      are not 2 to 8, or 64 words in a row are taken again
+ *  13  of the edge list alone, between 4 and 6: a text that is none, another n or m, a site outside 1 to n, or a line for
+ *      which no bond is left
  *
- * The draws say their order themselves, further down.
+ * The draws and the edge list say their order themselves, further down.
  *
  * A test is made only of what the mode and form take.
  *
@@ -213,6 +215,33 @@ uint8_t tsorvenk_fill_permutations(size_t members, uint64_t *source, size_t sour
 uint8_t tsorvenk_wolff_permutation(size_t members, uint64_t *source, size_t source_len, uint8_t *rows, size_t rows_len);
 uint8_t tsorvenk_wolff_grey(uint64_t *source, size_t source_len, uint8_t *greys, size_t greys_len);
 
+/* The couplings from an edge list, and back. docs/EDGES.md has the form, an example and what becomes of double bonds.
+ *
+ * The list is a text: a first line "n m", then m lines "i j J", sites counted from 1. Numbers are decimal without leading
+ * zeros, a minus only before a J that is not 0; one space between, a line feed after every line, and nothing else.
+ *
+ *   n, d, fwd, bwd                                                 as in a step
+ *   text         of any length
+ *   couplings    n * d: written unless refused. A line belongs to the lowest bond, by its entry i * d + e, that joins its
+ *                two sites in either sense and that no earlier line has; J may be 0. Bonds without a line get 0
+ *
+ * Returns 0, or the refusal 1 (n or d), 2, 4, 13, 6: 6 is given only where nothing in the text gives 13. */
+uint8_t tsorvenk_read_edges(size_t n, size_t d, const uint32_t *fwd, size_t fwd_len, const uint32_t *bwd, size_t bwd_len,
+    const uint8_t *text, size_t text_len, int32_t *couplings, size_t couplings_len);
+
+/* The couplings that are not 0 as such a list, in the order of their entries, each from its site to its forward neighbour.
+ *
+ *   n, d, fwd, bwd, couplings                                      as in a step, all of them taken
+ *   text         the list is written to its front, and the rest of it is kept. TSORVENK_EDGES_ROOM bytes are enough
+ *   written      1: the number of bytes of the list
+ *
+ * Returns 0, or the refusal 1 (n or d), 2, 4, 6, and last 2 if text is shorter than the list. */
+uint8_t tsorvenk_write_edges(size_t n, size_t d, const uint32_t *fwd, size_t fwd_len, const uint32_t *bwd, size_t bwd_len,
+    const int32_t *couplings, size_t couplings_len, uint8_t *text, size_t text_len, size_t *written, size_t written_len);
+
+/* Bytes that are room for every list: 16,384 lines and the first one. */
+enum { TSORVENK_EDGES_ROOM = 302451 };
+
 /* Calls with named fields.
  *
  * Each function NAME_with below is the function NAME above, with the inputs of the same names and lengths as fields of a
@@ -227,7 +256,7 @@ uint8_t tsorvenk_wolff_grey(uint64_t *source, size_t source_len, uint8_t *greys,
  *     uint8_t number = tsorvenk_step_with(&args);
  *
  * A buffer whose pointer is null has length 0, whatever its _len is: where the mode and form do not take it it is ignored,
- * and where they do it is refused with 2, but in a fill, which may have no entry. A struct that is
+ * and where they do it is refused with 2, but in a fill, which may have no entry, and as a text to read. A struct that is
  * initialised by name, or to 0 and then field by field, needs no change where a field is added. The functions are inline:
  * the struct is no part of what is linked. */
 struct tsorvenk_step_args {
@@ -358,6 +387,32 @@ struct tsorvenk_draw_args {
     size_t greys_len;
 };
 
+struct tsorvenk_read_edges_args {
+    size_t n, d;
+    const uint32_t *fwd;
+    size_t fwd_len;
+    const uint32_t *bwd;
+    size_t bwd_len;
+    const uint8_t *text;
+    size_t text_len;
+    int32_t *couplings;
+    size_t couplings_len;
+};
+
+struct tsorvenk_write_edges_args {
+    size_t n, d;
+    const uint32_t *fwd;
+    size_t fwd_len;
+    const uint32_t *bwd;
+    size_t bwd_len;
+    const int32_t *couplings;
+    size_t couplings_len;
+    uint8_t *text;
+    size_t text_len;
+    size_t *written;
+    size_t written_len;
+};
+
 /* A buffer of args as the two arguments that the functions above take. Where it is left out they get a pointer to the
  * local NONE, of the buffer's type, since they ask for one that is not null. */
 #define TSORVENK_LENT(buffer, none) args->buffer ? args->buffer : &none, args->buffer ? args->buffer##_len : 0
@@ -466,6 +521,23 @@ static inline uint8_t tsorvenk_wolff_grey_with(const struct tsorvenk_draw_args *
     return tsorvenk_wolff_grey(TSORVENK_LENT(source, no_u64), TSORVENK_LENT(greys, no_u8));
 }
 
+static inline uint8_t tsorvenk_read_edges_with(const struct tsorvenk_read_edges_args *args) {
+    uint8_t no_u8 = 0;
+    int32_t no_i32 = 0;
+    uint32_t no_u32 = 0;
+    return tsorvenk_read_edges(args->n, args->d, TSORVENK_LENT(fwd, no_u32), TSORVENK_LENT(bwd, no_u32),
+        TSORVENK_LENT(text, no_u8), TSORVENK_LENT(couplings, no_i32));
+}
+
+static inline uint8_t tsorvenk_write_edges_with(const struct tsorvenk_write_edges_args *args) {
+    uint8_t no_u8 = 0;
+    int32_t no_i32 = 0;
+    uint32_t no_u32 = 0;
+    size_t no_size = 0;
+    return tsorvenk_write_edges(args->n, args->d, TSORVENK_LENT(fwd, no_u32), TSORVENK_LENT(bwd, no_u32),
+        TSORVENK_LENT(couplings, no_i32), TSORVENK_LENT(text, no_u8), TSORVENK_LENT(written, no_size));
+}
+
 #undef TSORVENK_LENT
 
 /* Words for each number that comes back, and for 11, which a text of frames may be answered with. */
@@ -484,6 +556,7 @@ static inline const char *tsorvenk_refusal_words(int number) {
     case 10: return "a seed is n or more, or does not act although some site does";
     case 11: return "a frame is missing, misplaced, misspelt or of the wrong length, or there is one too many";
     case 12: return "a source of draws is all 0, m or the members are out of range, or 64 words in a row were taken again";
+    case 13: return "a text is no edge list of this lattice: its form, n, m, a site, or a line for which no bond is left";
     case TSORVENK_IDLE: return "not refused: no site acts";
     case TSORVENK_NO_ROOM: return "there is no room for the answer";
     default: return "a number that no call gives";

@@ -3,6 +3,7 @@ pub mod case;
 pub mod compare;
 pub mod damage;
 pub mod draws;
+pub mod edges;
 pub mod exhaustive;
 pub mod lattices;
 pub mod make;

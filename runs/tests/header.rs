@@ -37,7 +37,8 @@ fn named_fields_arrive_and_words_are_those_of_the_crate() {
     let ended = Command::new(&program).output().unwrap();
     let text = String::from_utf8(ended.stdout).unwrap();
     assert!(ended.status.success(), "{text}");
-    let mut expected = format!("room {}\n", tsorvenk::FRAMES_ROOM);
+    let (frames, edges) = (tsorvenk::FRAMES_ROOM, tsorvenk::EDGES_ROOM);
+    let mut expected = format!("room {frames} and {edges}\n");
     for number in -1..=256 {
         // what is no byte comes back from no call, like 255
         let words = tsorvenk::refusal_words(u8::try_from(number).unwrap_or(255));

@@ -25,11 +25,11 @@ pub struct Swept {
 /// Why a call is refused. Every buffer that it was lent is as it was.
 ///
 /// The numbers are tested in their order, each only on what the mode and form take: the call is refused with the first
-/// that fits. A draw tests 12 before the length of what it fills, 2. [`refusal_words`] has words for each, which `Display`
-/// writes behind the number.
+/// that fits. A draw tests 12 before the length of what it fills, 2; an edge list is tested for 13 between 4 and 6, and its
+/// writer last of all for 2, room in `text`. [`refusal_words`] has words for each, which `Display` writes behind the number.
 #[derive(Clone, Copy, Debug, PartialEq, Eq, Hash)]
 pub struct Refusal {
-    /// 1 to 10, or 12 of a draw.
+    /// 1 to 10, 12 of a draw, or 13 of an edge list.
     pub number: u8,
 }
 
@@ -60,8 +60,8 @@ impl fmt::Display for NoRoom {
 
 impl Error for NoRoom {}
 
-/// Words for each number of the C interface, whose `tsorvenk_refusal_words` has the same: the refusals 1 to 10 and 12, 11 of
-/// a text of frames, and 0, 64 and 65, which are none.
+/// Words for each number of the C interface, whose `tsorvenk_refusal_words` has the same: the refusals 1 to 10, 12 and 13,
+/// 11 of a text of frames, and 0, 64 and 65, which are none.
 pub fn refusal_words(number: u8) -> &'static str {
     match number {
         0 => "not refused",
@@ -77,6 +77,7 @@ pub fn refusal_words(number: u8) -> &'static str {
         10 => "a seed is n or more, or does not act although some site does",
         11 => "a frame is missing, misplaced, misspelt or of the wrong length, or there is one too many",
         12 => "a source of draws is all 0, m or the members are out of range, or 64 words in a row were taken again",
+        13 => "a text is no edge list of this lattice: its form, n, m, a site, or a line for which no bond is left",
         64 => "not refused: no site acts",
         65 => "there is no room for the answer",
         _ => "a number that no call gives",

@@ -209,6 +209,48 @@ pub struct Label<'a> {
     pub sizes: &'a mut [u32],
 }
 
+/// Couplings from an edge list, as docs/EDGES.md has it: every field is taken.
+///
+/// The list is a text: a first line "n m", then m lines "i j J", sites counted from 1. Numbers are decimal without leading
+/// zeros, a minus only before a J that is not 0; one space between, a line feed after every line, and nothing else.
+#[derive(Debug, Default)]
+pub struct ReadEdges<'a> {
+    /// Sites, 1 to 4096.
+    pub n: usize,
+    /// Directions, 1 to 4.
+    pub d: usize,
+    /// n * d, as in a step.
+    pub fwd: &'a [u32],
+    /// n * d, as in a step.
+    pub bwd: &'a [u32],
+    /// Of any length.
+    pub text: &'a [u8],
+    /// n * d. Written: a line's J at the lowest bond, by its entry i * d + e, that joins its two sites in either sense and that
+    /// no earlier line has; 0 at bonds without a line.
+    pub couplings: &'a mut [i32],
+}
+
+/// Couplings as an edge list, those that are not 0, in the order of their entries, each from its site to its forward
+/// neighbour: every field is taken.
+#[derive(Debug, Default)]
+pub struct WriteEdges<'a> {
+    /// Sites, 1 to 4096.
+    pub n: usize,
+    /// Directions, 1 to 4.
+    pub d: usize,
+    /// n * d, as in a step.
+    pub fwd: &'a [u32],
+    /// n * d, as in a step.
+    pub bwd: &'a [u32],
+    /// n * d, each from -1,000,000 to 1,000,000.
+    pub couplings: &'a [i32],
+    /// The list is written to its front, and the rest of it is kept. [`EDGES_ROOM`] bytes are room for every list.
+    pub text: &'a mut [u8],
+}
+
+/// The longest edge list, in bytes: 16,384 lines and the first one.
+pub const EDGES_ROOM: usize = 302451;
+
 /// A text of frames, as docs/FRAMES.md has them, and where its answer goes.
 #[derive(Debug, Default)]
 pub struct Frames<'a> {

@@ -64,4 +64,13 @@ extern "C" {
     pub fn tsorvenk_wolff_grey(
         source: *mut u64, source_len: usize, greys: *mut u8, greys_len: usize,
     ) -> u8;
+    pub fn tsorvenk_read_edges(
+        n: usize, d: usize, fwd: *const u32, fwd_len: usize, bwd: *const u32, bwd_len: usize,
+        text: *const u8, text_len: usize, couplings: *mut i32, couplings_len: usize,
+    ) -> u8;
+    pub fn tsorvenk_write_edges(
+        n: usize, d: usize, fwd: *const u32, fwd_len: usize, bwd: *const u32, bwd_len: usize,
+        couplings: *const i32, couplings_len: usize, text: *mut u8, text_len: usize,
+        written: *mut usize, written_len: usize,
+    ) -> u8;
 }

@@ -55,8 +55,10 @@ mod foreign;
 mod safe;
 
 pub use answers::{refusal_words, NoRoom, Refusal, Stepped, Swept};
-pub use calls::{Energy, Form, Frames, Label, Mode, Step, Sweep, FRAMES_ROOM};
+pub use calls::{
+    Energy, Form, Frames, Label, Mode, ReadEdges, Step, Sweep, WriteEdges, EDGES_ROOM, FRAMES_ROOM,
+};
 #[cfg(linked)]
 pub use draws::Source;
 #[cfg(linked)]
-pub use safe::{energy, frames, label, step, sweep};
+pub use safe::{energy, frames, label, read_edges, step, sweep, write_edges};

@@ -1,7 +1,7 @@
 //! Safe calls. Each pointer goes with the length of the slice that it was taken from, slices that are written overlap no
 //! other, and the library is proved to stay inside.
 use crate::answers::{NoRoom, Refusal, Stepped, Swept};
-use crate::calls::{Energy, Frames, Label, Step, Sweep};
+use crate::calls::{Energy, Frames, Label, ReadEdges, Step, Sweep, WriteEdges};
 use crate::foreign::*;
 
 /// One move or observation of one group. The example of the [crate] is one.
@@ -155,6 +155,72 @@ pub fn label(call: Label) -> Result<(), Refusal> {
     };
     match number {
         0 => Ok(()),
+        number => Err(Refusal { number }),
+    }
+}
+
+/// Fills the couplings from an edge list.
+///
+/// ```
+/// use tsorvenk::{read_edges, ReadEdges, Refusal};
+///
+/// // a ring of three: the bonds are 1 to 2, 2 to 3 and 3 to 1, and the second has no line
+/// let mut couplings = [9; 3];
+/// let mut read = |text: &str| {
+///     read_edges(ReadEdges {
+///         n: 3,
+///         d: 1,
+///         fwd: &[1, 2, 0],
+///         bwd: &[2, 0, 1],
+///         text: text.as_bytes(),
+///         couplings: &mut couplings,
+///     })
+/// };
+/// assert_eq!(read("3 2\n1 3 -7\n1 2 5\n"), Ok(()));
+/// assert_eq!(read("3 2\n1 3 -7\n1 2 +5\n"), Err(Refusal { number: 13 }));
+/// assert_eq!(couplings, [5, 0, -7]);
+/// ```
+#[inline]
+#[rustfmt::skip]
+pub fn read_edges(call: ReadEdges) -> Result<(), Refusal> {
+    let number = unsafe {
+        tsorvenk_read_edges(
+            call.n, call.d, call.fwd.as_ptr(), call.fwd.len(), call.bwd.as_ptr(), call.bwd.len(),
+            call.text.as_ptr(), call.text.len(), call.couplings.as_mut_ptr(), call.couplings.len(),
+        )
+    };
+    match number {
+        0 => Ok(()),
+        number => Err(Refusal { number }),
+    }
+}
+
+/// The couplings as an edge list: the front of `text`, where it is written.
+///
+/// ```
+/// use tsorvenk::{write_edges, Refusal, WriteEdges};
+///
+/// let mut text = [0; 20];
+/// let mut write = |couplings: &[i32]| {
+///     let (fwd, bwd) = (&[1, 2, 0], &[2, 0, 1]);
+///     write_edges(WriteEdges { n: 3, d: 1, fwd, bwd, couplings, text: &mut text }).map(<[u8]>::to_vec)
+/// };
+/// assert_eq!(write(&[5, 0, -7]), Ok(b"3 2\n1 2 5\n3 1 -7\n".to_vec()));
+/// assert_eq!(write(&[5, 1000, -7]), Err(Refusal { number: 2 }), "this list has 24 bytes");
+/// ```
+#[inline]
+#[rustfmt::skip]
+pub fn write_edges(call: WriteEdges<'_>) -> Result<&[u8], Refusal> {
+    let WriteEdges { n, d, fwd, bwd, couplings, text } = call;
+    let mut written = [0usize];
+    let number = unsafe {
+        tsorvenk_write_edges(
+            n, d, fwd.as_ptr(), fwd.len(), bwd.as_ptr(), bwd.len(), couplings.as_ptr(), couplings.len(),
+            text.as_mut_ptr(), text.len(), written.as_mut_ptr(), written.len(),
+        )
+    };
+    match number {
+        0 => Ok(&text[..written[0]]),
         number => Err(Refusal { number }),
     }
 }

@@ -103,7 +103,10 @@ fn a_refusal_is_an_error_with_words() {
     let known: Vec<u8> = (0..=255)
         .filter(|&number| refusal_words(number) != refusal_words(255))
         .collect();
-    assert_eq!(known, [0, 1, 2, 3, 4, 5, 6, 7, 8, 9, 10, 11, 12, 64, 65]);
+    assert_eq!(
+        known,
+        [0, 1, 2, 3, 4, 5, 6, 7, 8, 9, 10, 11, 12, 13, 64, 65]
+    );
     let mut words: Vec<&str> = known.iter().map(|&number| refusal_words(number)).collect();
     words.sort_unstable();
     words.dedup();

@@ -2,3 +2,4 @@
 mod Told
 mod Swept
 mod Written
+mod Listed

@@ -27,12 +27,17 @@ use Rattle.draws.specs.declared.Left.{Left}
 use Rattle.draws.specs.Promise.{WordDrawn, CoinDrawn, BelowDrawn, PermutationDrawn, FlipsFilled, BelowFilled, BytesFilled}
 use Rattle.draws.specs.Promise.{PermutationsFilled, WolffFilled, GreysFilled}
 use Rattle.draws.specs.Determined as Draw
+use Rattle.edges.specs.declared.Listing.{Listing}
+use Rattle.edges.specs.declared.Listing.the-variants.{Unlisted, Wrote}
+use Rattle.edges.specs.Answer.{Net, netOf, ReadAnswers, listingValues}
+use Rattle.edges.specs.Determined.{read-edges-determined, write-edges-determined}
 use Rattle.tsorvenk.specs.Number.{Coded, coded, Returned, valuesTo}
 use Rattle.tsorvenk.specs.Step.{StepAnswers}
 use Rattle.tsorvenk.specs.Energy.{energyRules, Metered, EnergyAs, EnergyAnswers}
 use Rattle.tsorvenk.specs.Label.{LabelAnswers}
 use Rattle.tsorvenk.specs.Sweep.{WithOutcomes, withOutcomes, outcomeRules, Sweeping, OutcomeAnswers, SweepNumbers}
 use Rattle.tsorvenk.specs.Drawing.{sourceOf, wordsOf, Draws}
+use Rattle.tsorvenk.specs.Edges.{Lists, lists, listRules, Listed, ListAs, ListNumbers}
 use Rattle.tsorvenk.specs.Frames.{Framed, framed, Ran, FramesNumbers}
 
 -- one answer, and one content of what was lent
@@ -214,3 +219,33 @@ module _ (ws xs : List ℕ) (r r′ : ℕ) (us vs ys zs : List ℕ) where
 
   pub tsorvenk-wolff-grey-determined : Draws GreysFilled ws xs r us ys → Draws GreysFilled ws xs r′ vs zs → SameDrawn r r′ us vs ys zs
   tsorvenk-wolff-grey-determined = draws-determined GreysFilled (λ x y. Draw.wolff-greys-determined (sourceOf ws) xs x y ys zs)
+
+-- ---- edge lists
+pub tsorvenk-read-edges-determined : (n d : ℕ) (fwd bwd text : List ℕ) (js y z : List ℤ) (r r′ : ℕ) → ReadAnswers (netOf n d fwd bwd) text js r y
+    → ReadAnswers (netOf n d fwd bwd) text js r′ z → Same r r′ y z
+tsorvenk-read-edges-determined n d fwd bwd text js y z r r′ f g =
+    let s = read-edges-determined n d fwd bwd text js y z r r′ f g in
+    record { answer = s .answer; buffers = s .buffers }
+
+module _ (n d : ℕ) (fwd bwd : List ℕ) (js : List ℤ) (l y z : Lists) where
+  abbrev net : Net
+  net = netOf n d fwd bwd
+
+  list-kept : (m : ℕ) (x : Lists) → Listed net js l m x → Kept (listRules net js l)
+  list-kept m x w = let v = w .writes .valid in (v .0, (w .room, v))
+
+  lists-same : (a a′ : Listing) → ListAs net js l a y → ListAs net js l a′ z → Same a a′ y z
+  lists-same (Unlisted c) (Unlisted e) f g = record {
+    answer = ap Unlisted (broken-unique (listRules net js l) c e (f .why) (g .why));
+    buffers = f .kept ∙ sym (g .kept);
+  }
+  lists-same (Unlisted c) (Wrote m) f g = absurd (broken-not-kept (listRules net js l) c (f .why) (list-kept m z g))
+  lists-same (Wrote m) (Unlisted e) f g = absurd (broken-not-kept (listRules net js l) e (g .why) (list-kept m y f))
+  lists-same (Wrote m) (Wrote k) f g =
+      let s = write-edges-determined n d fwd bwd js (l .text) (y .text) (z .text) (Wrote m) (Wrote k) (f .writes) (g .writes) in
+      let told : y .written ≡ z .written =
+      f .length-told ∙ (ap (λ (a : Listing). valuesTo (listingValues a) (l .written)) (s .answer) ∙ sym (g .length-told)) in
+      record { answer = s .answer; buffers = λ i. lists (s .buffers i) (told i) }
+
+  pub tsorvenk-write-edges-determined : (r r′ : ℕ) → ListNumbers net js l r y → ListNumbers net js l r′ z → Same r r′ y z
+  tsorvenk-write-edges-determined r r′ f g = same-returned f g (lists-same (f .answer) (g .answer) (f .allowed) (g .allowed))

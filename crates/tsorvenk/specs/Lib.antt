@@ -5,6 +5,7 @@ pub mod Energy
 pub mod Label
 pub mod Sweep
 pub mod Frames
+pub mod Edges
 pub mod Listed
 pub mod Drawing
 pub mod Determined

@@ -1,6 +1,7 @@
 // The library as C and Rust call it. Each function is a shell over a proved one: numbers in, a number out, and no caller is trusted.
 mod drawing;
 mod framing;
+mod listing;
 mod sweeping;
 
 use label::Labelling;

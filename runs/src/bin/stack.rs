@@ -68,7 +68,10 @@ fn run(port: &mut dyn Port) {
     };
     line("labelling", || port.label(call));
     #[cfg(port)]
-    draws();
+    {
+        draws();
+        edges();
+    }
 }
 
 #[cfg(port)]
@@ -77,6 +80,34 @@ fn draws() {
     let mut rows = vec![0; 8 * N];
     line("rows drawn", || source.wolff_permutation(8, &mut rows));
     line("flips drawn", || source.fill_flips(&mut rows));
+}
+
+/// The largest list, written and read.
+#[cfg(port)]
+fn edges() {
+    let (n, d, fwd) = (N, 4, torus(4));
+    let bwd = tsorvenk_runs::lattices::backward(n, d, &fwd);
+    let (mut couplings, mut text) = (vec![-1_000_000; n * d], vec![0; tsorvenk::EDGES_ROOM]);
+    let call = tsorvenk::WriteEdges {
+        n,
+        d,
+        fwd: &fwd,
+        bwd: &bwd,
+        couplings: &couplings,
+        text: &mut text,
+    };
+    line("list written", || {
+        tsorvenk::write_edges(call).unwrap().len()
+    });
+    let call = tsorvenk::ReadEdges {
+        n,
+        d,
+        fwd: &fwd,
+        bwd: &bwd,
+        text: &text,
+        couplings: &mut couplings,
+    };
+    line("list read", || tsorvenk::read_edges(call).unwrap());
 }
 
 // The main thread's stack has room for the paint: eight times as much is usual.

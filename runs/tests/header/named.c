@@ -11,6 +11,8 @@ static struct tsorvenk_sweep_args sweep;
 static struct tsorvenk_energy_args energy_of;
 static struct tsorvenk_label_args label;
 static struct tsorvenk_draw_args draw;
+static struct tsorvenk_read_edges_args reading;
+static struct tsorvenk_write_edges_args writing;
 
 static int8_t i8[2];
 static uint8_t u8[16];
@@ -19,6 +21,7 @@ static uint32_t u32[16];
 static float f32[4];
 static int64_t i64[2];
 static uint64_t u64[2];
+static size_t sizes_of[1];
 
 static void held(int so, const char *call, const char *field) {
     if (!so) {
@@ -132,6 +135,21 @@ uint8_t tsorvenk_wolff_grey(uint64_t *source, size_t source_len, uint8_t *greys,
     return 114;
 }
 
+uint8_t tsorvenk_read_edges(size_t n, size_t d, const uint32_t *fwd, size_t fwd_len, const uint32_t *bwd, size_t bwd_len,
+    const uint8_t *text, size_t text_len, int32_t *couplings, size_t couplings_len) {
+    NUMBER(reading, n), NUMBER(reading, d);
+    BUFFER(reading, fwd), BUFFER(reading, bwd), BUFFER(reading, text), BUFFER(reading, couplings);
+    return 115;
+}
+
+uint8_t tsorvenk_write_edges(size_t n, size_t d, const uint32_t *fwd, size_t fwd_len, const uint32_t *bwd, size_t bwd_len,
+    const int32_t *couplings, size_t couplings_len, uint8_t *text, size_t text_len, size_t *written, size_t written_len) {
+    NUMBER(writing, n), NUMBER(writing, d);
+    BUFFER(writing, fwd), BUFFER(writing, bwd), BUFFER(writing, couplings), BUFFER(writing, text);
+    BUFFER(writing, written);
+    return 116;
+}
+
 static void call_all(void) {
     held(tsorvenk_step_with(&step) == 101, "step", "the answer");
     held(tsorvenk_sweep_with(&sweep) == 102, "sweep", "the answer");
@@ -147,6 +165,8 @@ static void call_all(void) {
     held(tsorvenk_fill_permutations_with(&draw) == 112, "fill_permutations", "the answer");
     held(tsorvenk_wolff_permutation_with(&draw) == 113, "wolff_permutation", "the answer");
     held(tsorvenk_wolff_grey_with(&draw) == 114, "wolff_grey", "the answer");
+    held(tsorvenk_read_edges_with(&reading) == 115, "read_edges", "the answer");
+    held(tsorvenk_write_edges_with(&writing) == 116, "write_edges", "the answer");
 }
 
 int main(void) {
@@ -184,10 +204,19 @@ int main(void) {
         .flips = u8 + 2, .flips_len = 15, .numbers = u32 + 1, .numbers_len = 16, .bytes = u8 + 3, .bytes_len = 17,
         .rows = u8 + 4, .rows_len = 18, .greys = u8 + 5, .greys_len = 19,
     };
+    reading = (struct tsorvenk_read_edges_args){
+        .n = 1, .d = 2, .fwd = u32, .fwd_len = 11, .bwd = u32 + 1, .bwd_len = 12, .text = u8, .text_len = 13,
+        .couplings = i32, .couplings_len = 14,
+    };
+    writing = (struct tsorvenk_write_edges_args){
+        .n = 1, .d = 2, .fwd = u32, .fwd_len = 11, .bwd = u32 + 1, .bwd_len = 12, .couplings = i32, .couplings_len = 13,
+        .text = u8, .text_len = 14, .written = sizes_of, .written_len = 15,
+    };
     call_all(); /* everything is lent */
     step.flips = NULL, sweep.seeds = NULL, energy_of.energy = NULL, label.holds = NULL, draw.source = NULL;
+    reading.text = NULL, writing.written = NULL;
     call_all(); /* null, and a length beside it */
-    printf("room %d\n", TSORVENK_FRAMES_ROOM);
+    printf("room %d and %d\n", TSORVENK_FRAMES_ROOM, TSORVENK_EDGES_ROOM);
     for (int number = -1; number <= 256; number++)
         printf("%d %s\n", number, tsorvenk_refusal_words(number));
     return 0;

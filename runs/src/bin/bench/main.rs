@@ -7,6 +7,7 @@
 //! stands in for it, so that the run itself can be tried.
 mod clusters;
 mod draws;
+mod edges;
 mod labelling;
 mod moves;
 mod parts;
@@ -168,4 +169,6 @@ fn main() {
     bench.meter_line();
     println!("\ndraws");
     bench.draws();
+    println!("\nedge lists");
+    bench.edges();
 }
