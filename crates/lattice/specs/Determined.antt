@@ -9,7 +9,8 @@ use lib.Ieee.{Float, nan}
 use Rattle.lemmas.specs.Tells.{Tells, tells-determined}
 use Rattle.paper.specs.declared.Group.{Group}
 use Rattle.paper.specs.declared.Mode.{Mode}
-use Rattle.paper.specs.Refusal.Rules.{When, Sizes, Ranged, AllSystems, Spins, Inverse, Grouped, SmallCouplings, Warm, Cuts, Permutes, NotIdentity}
+use Rattle.paper.specs.Refusal.Rules.{When, Sizes, Ranged, Inverse, Grouped, SmallCouplings, Warm, Cuts, Permutes, NotIdentity}
+use Rattle.lattice.specs.Spinning.{AllSpins}
 
 -- any two answers r and r′ that tell of P are equal
 abbrev pub OneAnswer : Type 0 → Type 0
@@ -24,8 +25,8 @@ ranged-determined n d s mode m = tells-determined _
 pub fits-determined : (taken : Bool) (len want : ℕ) → OneAnswer (When taken (len ≡ want))
 fits-determined taken len want = tells-determined _
 
-pub spins-ok-determined : (n s : ℕ) (spins : List ℤ) → OneAnswer (Spins n (AllSystems s) spins)
-spins-ok-determined n s spins = tells-determined _
+pub spins-ok-determined : (spins : List ℤ) → OneAnswer (AllSpins spins)
+spins-ok-determined spins = tells-determined _
 
 pub couplings-ok-determined : (js : List ℤ) → OneAnswer (SmallCouplings js)
 couplings-ok-determined js = tells-determined _

@@ -7,11 +7,12 @@ ghost use lib.IntN.{natAbs};
 ghost use lib.Ieee.{nan};
 ghost use Rattle.lemmas.specs.Tells.{Tells, Each};
 ghost use Rattle.paper.specs.Panel.Input.{member};
-ghost use Rattle.paper.specs.Refusal.Rules.{When, Sizes, Ranged, Spin, AllSystems, Spins, SmallCouplings, Warm, isCut, Cuts, Back, Inverse, Grouped};
+ghost use Rattle.paper.specs.Refusal.Rules.{When, Sizes, Ranged, Spin, SmallCouplings, Warm, isCut, Cuts, Back, Inverse, Grouped};
 ghost use Rattle.paper.specs.Refusal.Rules.{Permutes, NotIdentity};
 ghost use Rattle.lattice.specs.Backward.{Turnable, Turned, Led, Filling, FillingSite, FillingBond};
 ghost use Rattle.lattice.specs.Groups.{Fresh, Alone};
 ghost use Rattle.lattice.specs.Marking.{Marked, MarkedBelow, RowIn, Rows, RowsBelow, rowAt, OrderOf};
+ghost use Rattle.lattice.specs.Spinning.{AllSpins};
 ghost use Rattle.lattice.specs.Tables.{Tabled, TabledSite, TabledBond};
 use lemmas::wide;
 use lemmas::words::clear;
@@ -55,10 +56,9 @@ fn spin_ok(x: i8) -> bool
     (x == 1) | (x == -1)
 }
 
-// The rows of all s systems: one pass without an exit, which the compiler makes vector code of.
-pub fn spins_ok(n: usize, s: usize, spins: &[i8]) -> bool
-    requires { ⌜ length (now spins) ≡ s * n ⌝ }
-    ensures { λ r. ⌜ Tells r (Spins n (AllSystems s) (now (spins .entry))) ⌝ }
+// One pass without an exit, which the compiler makes vector code of.
+pub fn spins_ok(spins: &[i8]) -> bool
+    ensures { λ r. ⌜ Tells r (AllSpins (now (spins .entry))) ⌝ }
 {
     let mut ok = true;
     let mut i = 0;

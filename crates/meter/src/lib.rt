@@ -85,7 +85,7 @@ pub fn energy(
     if !exact(n, d, s, spins.len(), fwd.len(), bwd.len(), couplings.len()) {
         return MeterAnswer::Unmetered(2);
     }
-    if !lattice::spins_ok(n, s, spins) {
+    if !lattice::spins_ok(spins) {
         return MeterAnswer::Unmetered(3);
     }
     if !lattice::tables_ok(n, d, fwd, bwd) {

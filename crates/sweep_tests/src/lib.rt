@@ -67,7 +67,7 @@ fn test_panel(plan: Plan, spins: &[i8], fwd: &[u32], bwd: &[u32], order: &[u32])
     ensures { λ r. ⌜ Verdict
         (panelRules plan (now (spins .entry)) (now (fwd .entry)) (now (bwd .entry)) (now (order .entry))) r ⌝ }
 {
-    if !lattice::spins_ok(plan.n, plan.s, spins) {
+    if !lattice::spins_ok(spins) {
         return 3;
     }
     if !lattice::tables_ok(plan.n, plan.d, fwd, bwd) {

@@ -65,7 +65,7 @@ pub fn test_panel(
     if !lengths_ok(mode, form, t.n, t.d, t.s, m, 1, l) {
         return 2;
     }
-    if !lattice::spins_ok(t.n, t.s, spins) {
+    if !lattice::spins_ok(spins) {
         return 3;
     }
     if !lattice::tables_ok(t.n, t.d, fwd, bwd) {

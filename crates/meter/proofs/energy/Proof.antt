@@ -9,12 +9,13 @@ use lib.ListN.{length}
 use lib.IntN.{ℤ, pos, negℤ, _-ℤ_, +ℤ-idl}
 use mir.Syntax.{w64}
 use mir.Val.{toZ, ofZ}
-use Rattle.lemmas.specs.Tells.{passed, refused}
+use Rattle.lemmas.specs.Tells.{Tells, passed, refused}
 use Rattle.lemmas.specs.Held.{Value, reads, stored, asks, bounded, small-fits}
 use Rattle.lemmas.specs.Ints.{abs-neg}
 use Rattle.paper.specs.Panel.Input.{Lattice}
 use Rattle.paper.specs.Refusal.Rules.{Sizes, AllSystems, Spins, Inverse}
 use Rattle.paper.specs.Answer.Meter.{MeterExact}
+use Rattle.lattice.specs.Spinning.{all-rows}
 use Rattle.meter.specs.Part.{latticeOf, exact-of, exact-lengths, Accepted, accepted-kept, row-end, row-of, energy-of}
 use Rattle.meter.proofs.energy.Statement.{statement}
 use Rattle.meter.proofs.energy.Tie as tie
@@ -48,8 +49,11 @@ sized c = passed (c .before .sizes-ok .result) (c .if1 .left) (c .before .sizes-
 exactly : (c : tie.Else2) → MeterExact (lent (s2 c)) (s2 c .args .spins .now)
 exactly c = exact-of (lent (s2 c)) (s2 c .args .spins .now) (passed (c .before .exact .result) (c .if2 .left) (c .before .exact .ensures))
 
+rows-tell : (c : tie.After-spins-ok) → let a = s2 (c .before) .args in Tells (c .spins-ok .result) (Spins (a .n) (AllSystems (a .s)) (a .spins .now))
+rows-tell c = let a = s2 (c .before) .args in all-rows (a .n) (a .s) (a .spins .now) (exactly (c .before) .spins) (c .spins-ok .result) (c .spins-ok .ensures)
+
 spinning : (c : tie.Else3) → let a = s3 c .args in Spins (a .n) (AllSystems (a .s)) (a .spins .now)
-spinning c = passed (c .before .spins-ok .result) (c .if3 .left) (c .before .spins-ok .ensures)
+spinning c = passed (c .before .spins-ok .result) (c .if3 .left) (rows-tell (c .before))
 
 inverse : (c : tie.Else4) → Inverse (s4 c .args .n) (s4 c .args .d) (s4 c .args .fwd .now) (s4 c .args .bwd .now)
 inverse c = passed (c .before .tables-ok .result) (c .if4 .left) (c .before .tables-ok .ensures)
@@ -83,12 +87,12 @@ returns-2 c =
     inr (sized (c .before .before), inl ((λ h. wrong (exact-lengths (lent s) (s .args .spins .now) h)), refl))
 
 spins-ok-requires : tie.Need-spins-ok-requires
-spins-ok-requires c κs = exactly c .spins
+spins-ok-requires c κs = search needs
 
 returns-3 : tie.Need-returns-3
 returns-3 c =
     let e2 = c .before .before in
-    let wrong = refused (c .before .spins-ok .result) (c .if3 .taken) (c .before .spins-ok .ensures) in
+    let wrong = refused (c .before .spins-ok .result) (c .if3 .taken) (rows-tell (c .before)) in
     inr (sized (e2 .before .before), inr (exactly e2, inl (wrong, refl)))
 
 tables-ok-requires : tie.Need-tables-ok-requires

@@ -3,16 +3,25 @@ use borrow.Author.Needs.{needs}
 use mathlib.Core.Path.{refl}
 use mathlib.Core.Logic.{inl, inr}
 use denote.Ref.{now}
-use Rattle.lemmas.specs.Tells.{told, denied, passed, refused}
+use Rattle.lemmas.specs.Tells.{Tells, told, denied, passed, refused}
 use Rattle.paper.specs.Refusal.Rules.{AllSystems, Spins, Inverse}
+use Rattle.lattice.specs.Spinning.{all-rows}
 use Rattle.sweep_tests.proofs.test_panel.Statement.{statement}
 use Rattle.sweep_tests.proofs.test_panel.Tie as tie
 
+abbrev R : tie.After-spins-ok → tie.Start
+R e = e .before .before .before .before
+
 abbrev S : tie.Else1 → tie.Start
-S e = e .before .before .before .before .before
+S e = R (e .before)
+
+rows-tell : (e : tie.After-spins-ok) → let a = R e .args in Tells (e .spins-ok .result) (Spins (a .plan .n) (AllSystems (a .plan .s)) (now (a .spins)))
+rows-tell e =
+    let s = R e in
+    all-rows (s .args .plan .n) (s .args .plan .s) (now (s .args .spins)) (s .pre .spins-long) (e .spins-ok .result) (e .spins-ok .ensures)
 
 k3 : (e : tie.Else1) → let a = S e .args in Spins (a .plan .n) (AllSystems (a .plan .s)) (now (a .spins))
-k3 e = passed (e .before .spins-ok .result) (e .if1 .left) (e .before .spins-ok .ensures)
+k3 e = passed (e .before .spins-ok .result) (e .if1 .left) (rows-tell (e .before))
 
 k4 : (e : tie.Else2) → let a = S (e .before .before) .args in Inverse (a .plan .n) (a .plan .d) (now (a .fwd)) (now (a .bwd))
 k4 e = passed (e .before .tables-ok .result) (e .if2 .left) (e .before .tables-ok .ensures)
@@ -21,7 +30,7 @@ spins-ok-requires : tie.Need-spins-ok-requires
 spins-ok-requires c κs = search needs
 
 returns : tie.Need-returns
-returns c = inl (refused (c .before .spins-ok .result) (c .if1 .taken) (c .before .spins-ok .ensures), refl)
+returns c = inl (refused (c .before .spins-ok .result) (c .if1 .taken) (rows-tell (c .before)), refl)
 
 tables-ok-requires : tie.Need-tables-ok-requires
 tables-ok-requires c κs = record { fwd-long = S c .pre .fwd-long; bwd-long = S c .pre .bwd-long }

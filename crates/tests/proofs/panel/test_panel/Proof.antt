@@ -5,9 +5,10 @@ use mathlib.Core.Bool.{not, _||_}
 use native.Mathlib.Omega.{arith}
 use mathlib.Core.Logic.{inl, inr}
 use denote.Ref.{now}
-use Rattle.lemmas.specs.Tells.{passed, refused, Test, said, implies, test-is}
+use Rattle.lemmas.specs.Tells.{Tells, passed, refused, Test, said, implies, test-is}
 use Rattle.paper.specs.Panel.Takes.{drawsBonds}
 use Rattle.paper.specs.Refusal.Rules.{When, Ranged, Fits, AllSystems, Spins, Inverse, Grouped, SmallCouplings, Warm}
+use Rattle.lattice.specs.Spinning.{all-rows}
 use Rattle.tests.specs.Lengths.{one-fits, fits-one}
 use Rattle.tests.proofs.panel.test_panel.Statement.{statement}
 use Rattle.tests.proofs.panel.test_panel.Tie as tie
@@ -32,8 +33,15 @@ k2 e =
 abbrev E2 : tie.Else3 → tie.Else2
 E2 e = e .before .before
 
+rows-tell : (e : tie.After-spins-ok) → let a = S1 (E1 (e .before)) .args in
+    Tells (e .spins-ok .result) (Spins (a .t .n) (AllSystems (a .t .s)) (now (a .spins)))
+rows-tell e =
+    let s = S1 (E1 (e .before)) in
+    let long = sym (s .pre .spins-is) ∙ k2 (e .before) .spins in
+    all-rows (s .args .t .n) (s .args .t .s) (now (s .args .spins)) long (e .spins-ok .result) (e .spins-ok .ensures)
+
 k3 : (e : tie.Else3) → let a = S1 (E1 (E2 e)) .args in Spins (a .t .n) (AllSystems (a .t .s)) (now (a .spins))
-k3 e = passed (e .before .spins-ok .result) (e .if3 .left) (e .before .spins-ok .ensures)
+k3 e = passed (e .before .spins-ok .result) (e .if3 .left) (rows-tell (e .before))
 
 abbrev E3 : tie.Else4 → tie.Else3
 E3 e = e .before .before
@@ -91,13 +99,13 @@ returns-2 c =
     inr (k1 e, inl ((λ f. short (fits-one (t .mode) (t .form) (t .n) (t .d) (t .s) (t .group .len) (a .l) f)), refl))
 
 spins-ok-requires : tie.Need-spins-ok-requires
-spins-ok-requires c κs = sym (S1 (E1 c) .pre .spins-is) ∙ k2 c .spins
+spins-ok-requires c κs = search needs
 
 returns-3 : tie.Need-returns-3
 returns-3 c =
     let t = c .before in
     let e = t .before in
-    inr (k1 (E1 e), inr (k2 e, inl (refused (t .spins-ok .result) (c .if3 .taken) (t .spins-ok .ensures), refl)))
+    inr (k1 (E1 e), inr (k2 e, inl (refused (t .spins-ok .result) (c .if3 .taken) (rows-tell t), refl)))
 
 tables-ok-requires : tie.Need-tables-ok-requires
 tables-ok-requires c κs =
