@@ -1,13 +1,14 @@
--- `tables_ok` meets its contract: after i turns the flag tells of the sites below i, in both senses.
+-- `tables_ok` meets its contract: after i turns the flag tells of the sites below i, in one sense, and that gives both.
 use Prim.Native.Nat.{_-_}
 use borrow.Author.Needs.{needs}
-use Rattle.lemmas.specs.Tells.{Each, Flagged, same, said, flag-start, flag-more, flag-end, both}
+use Rattle.lemmas.specs.Tells.{Each, Flagged, same, said, flag-start, flag-more, flag-end}
 use Rattle.paper.specs.Refusal.Rules.{Back, Inverse}
+use Rattle.lattice.specs.Tables.{inverse-of}
 use Rattle.lattice.proofs.tables_ok.Statement.{statement}
 use Rattle.lattice.proofs.tables_ok.Tie as tie
 
 abbrev Inv-loop : tie.InvT-loop
-Inv-loop n d fwd bwd ok₀ i₀ ok i = Flagged n (λ i. Each d (λ e. Back n d fwd bwd i e) × Each d (λ e. Back n d bwd fwd i e)) i ok
+Inv-loop n d fwd bwd ok₀ i₀ ok i = Flagged n (λ i. Each d (λ e. Back n d fwd bwd i e)) i ok
 
 abbrev μ-loop : tie.MeasureT-loop
 μ-loop n d fwd bwd ok₀ i₀ ok i = n - i
@@ -18,9 +19,6 @@ loop-holds c = flag-start _ _
 site-ok-requires : tie.Need-site-ok-requires Inv-loop μ-loop
 site-ok-requires c κs = search needs
 
-site-ok-requires-2 : tie.Need-site-ok-requires-2 Inv-loop μ-loop
-site-ok-requires-2 c κs = search needs
-
 add-i : tie.Need-add-i Inv-loop μ-loop
 add-i c = search needs
 
@@ -28,17 +26,15 @@ loop-less : tie.Need-loop-less Inv-loop μ-loop
 loop-less c = search needs
 
 loop-again : tie.Need-loop-again Inv-loop μ-loop
-loop-again c =
-    flag-more (c .before .before .before .loop .inv) (search needs)
-    (both (said (c .before .site-ok .result) _ (c .before .site-ok .ensures)) (said (c .site-ok2 .result) _ (c .site-ok2 .ensures)))
+loop-again c = flag-more (c .before .before .loop .inv) (search needs) (said (c .site-ok .result) _ (c .site-ok .ensures))
 
 returns : tie.Need-returns Inv-loop μ-loop
 returns c =
     let a = c .before .before .before .before .args in
     let all = said (c .before .loop .ok) _ (flag-end (c .before .loop .inv) (c .loop-test .left)) in
     same (Inverse (a .n) (a .d) (a .fwd .now) (a .bwd .now))
-    (λ h. record { there = λ i e l he. h i l .0 e he; here = λ i e l he. h i l .1 e he })
-    (λ v i l. ((λ e he. v .there i e l he), (λ e he. v .here i e l he))) all .says
+    (λ h. inverse-of (a .n) (a .d) (a .fwd .now) (a .bwd .now) (λ i e l he. h i l e he))
+    (λ v i l e he. v .there i e l he) all .says
 
 pub tables-ok-spec : {M : Type 1} → statement M
-tables-ok-spec = tie.close (tie.spec Inv-loop μ-loop loop-holds site-ok-requires site-ok-requires-2 add-i loop-less loop-again returns)
+tables-ok-spec = tie.close (tie.spec Inv-loop μ-loop loop-holds site-ok-requires add-i loop-less loop-again returns)

@@ -11,6 +11,7 @@ mod edges;
 mod labelling;
 mod moves;
 mod parts;
+mod tables;
 
 use calls::{Form, Mode, Port};
 use tsorvenk_runs::model::Model;
@@ -163,6 +164,7 @@ fn main() {
     );
     one_cluster(&mut bench);
     small_panels(&mut bench);
+    bench.tables();
     bench.labelling();
     println!("\nparts");
     bench.spin_test_line();

@@ -59,7 +59,7 @@ fn rust(repetitions: usize, batch: usize, case: &Sweep, spins: &[i8]) -> Rust {
 }
 
 impl Bench {
-    fn step(&mut self, case: &Single, batch: usize) -> (f64, Answer) {
+    pub fn step(&mut self, case: &Single, batch: usize) -> (f64, Answer) {
         let mut lent = case.lent.clone();
         let mut answer = Answer::Refused(0);
         let ready = |lent: &mut Lent| lent.spins.copy_from_slice(&case.lent.spins);
