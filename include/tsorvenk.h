@@ -77,8 +77,9 @@ enum { TSORVENK_IDLE = 64, TSORVENK_NO_ROOM = 65 };
  *
  *   labels       n: the smallest site of each site's component (CMR: blue components)
  *   grey_labels  n: the same of grey components                    SW and Wolff of CMR
- *   counts       n + 1: count k is the number of components of size k, count 0 is 0 (CMR: blue)
- *   sizes        4: the largest sizes in falling order, filled with 0 (CMR: blue)
+ *   counts       n + 1: count k is the number of acting components of size k, count 0 is 0 (CMR: blue, all of them). A site
+ *                that does not act is labelled as a component of its own and not counted
+ *   sizes        4: the largest sizes of what is counted, in falling order, filled with 0
  *   spins        the group's rows after the move; idle and observe leave them as they are
  *
  * Returns 0 if some site acts (CMR: always), TSORVENK_IDLE if none does, else the refusal 1 to 10. */
@@ -145,11 +146,13 @@ uint8_t tsorvenk_energy(size_t n, size_t d, size_t s,
  *
  *   fwd          n * d, each below n; a backward table is not needed
  *   holds        n * d, at the bond's entry, each 0 or 1
+ *   counted      n, each 0 or 1: a component counts where the byte at its smallest site is 1
  *   labels n, counts n + 1, sizes 4                                written as by a step, unless refused
  *
- * Returns 0, or the refusal 1 (n or d out of range), 2, 4 (a neighbour is n or more) or 9 (a byte of holds). */
+ * Returns 0, or the refusal 1 (n or d out of range), 2, 4 (a neighbour is n or more) or 9 (a byte of holds or counted). */
 uint8_t tsorvenk_label(size_t n, size_t d, const uint32_t *fwd, size_t fwd_len, const uint8_t *holds, size_t holds_len,
-    uint32_t *labels, size_t labels_len, uint32_t *counts, size_t counts_len, uint32_t *sizes, size_t sizes_len);
+    const uint8_t *counted, size_t counted_len, uint32_t *labels, size_t labels_len, uint32_t *counts, size_t counts_len,
+    uint32_t *sizes, size_t sizes_len);
 
 /* Bytes that are room for the answer to every text of frames. */
 enum { TSORVENK_FRAMES_ROOM = 6157 };
@@ -354,6 +357,8 @@ struct tsorvenk_label_args {
     size_t fwd_len;
     const uint8_t *holds;
     size_t holds_len;
+    const uint8_t *counted;
+    size_t counted_len;
     uint32_t *labels;
     size_t labels_len;
     uint32_t *counts;
@@ -459,7 +464,8 @@ static inline uint8_t tsorvenk_label_with(const struct tsorvenk_label_args *args
     uint8_t no_u8 = 0;
     uint32_t no_u32 = 0;
     return tsorvenk_label(args->n, args->d, TSORVENK_LENT(fwd, no_u32), TSORVENK_LENT(holds, no_u8),
-        TSORVENK_LENT(labels, no_u32), TSORVENK_LENT(counts, no_u32), TSORVENK_LENT(sizes, no_u32));
+        TSORVENK_LENT(counted, no_u8), TSORVENK_LENT(labels, no_u32), TSORVENK_LENT(counts, no_u32),
+        TSORVENK_LENT(sizes, no_u32));
 }
 
 static inline uint8_t tsorvenk_word_with(const struct tsorvenk_draw_args *args) {
@@ -552,7 +558,7 @@ static inline const char *tsorvenk_refusal_words(int number) {
     case 6: return "a coupling's size is above 1,000,000";
     case 7: return "a temperature is not from 1/1024 to 1,048,576";
     case 8: return "a cut is below 0, infinite or not a number";
-    case 9: return "a permutation, flip, grey number, reference site, mask byte or byte of holds is out of its set";
+    case 9: return "a permutation, flip, grey number, reference site, mask byte, or byte of holds or counted is out of its set";
     case 10: return "a seed is n or more, or does not act although some site does";
     case 11: return "a frame is missing, misplaced, misspelt or of the wrong length, or there is one too many";
     case 12: return "a source of draws is all 0, m or the members are out of range, or 64 words in a row were taken again";

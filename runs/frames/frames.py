@@ -1,5 +1,5 @@
 #!/usr/bin/env python3
-"""The frame program as document 01 has it, in plain Python, and texts to compare it with the proved program on.
+"""The frame program as document 01 has it, with the counts of request 4/14, in plain Python, and texts to compare it with the proved program on.
 
     frames.py answer < TEXT            what the program must write
     frames.py stored > CASES           every kind of answer once or more, named in this file
@@ -101,7 +101,7 @@ def move(n, d, s, spins, ahead, group, perms):
     label = components(n, d, ahead, acts)
     counts = [0] * (n + 1)
     for i in range(n):
-        if label[i] == i:
+        if label[i] == i and acts[i]:
             counts[label.count(i)] += 1
     new = [row[:] for row in old]
     for i in range(n):
@@ -258,7 +258,7 @@ def one_less(text, number, cut):
 
 
 def stored():
-    yield "document 01's case", CASE, b"20000000010002\n210000000300000000\n2201ffff0101ff\n"
+    yield "document 01's case", CASE, b"20000000010002\n210000000100000000\n2201ffff0101ff\n"
     # the traps that were worked by hand
     zero = line_of(2, b"110001ff01ffff\n")
     twice = line_of(3, b"12000100010000\n")

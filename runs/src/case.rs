@@ -1,5 +1,5 @@
 //! Calls with buffers of their own.
-use calls::{Answer, Form, Meter, Mode, Port, Step, Sweep, SweepAnswer};
+use calls::{Answer, Form, Label, Meter, Mode, Port, Step, Sweep, SweepAnswer};
 
 /// The buffers that a call may write.
 #[derive(Clone, Debug, Default, PartialEq, Eq)]
@@ -56,6 +56,34 @@ pub struct Swept {
     pub seeds: Vec<u32>,
     pub choices: Choices,
     pub lent: Lent,
+}
+
+/// A table of holding bonds to label, and which components count.
+#[derive(Clone, Debug)]
+pub struct Bonds {
+    pub n: usize,
+    pub d: usize,
+    pub fwd: Vec<u32>,
+    pub holds: Vec<u8>,
+    pub counted: Vec<u8>,
+    pub lent: Lent,
+}
+
+impl Bonds {
+    pub fn run(&self, side: &mut dyn Port) -> (u8, Lent) {
+        let mut lent = self.lent.clone();
+        let code = side.label(Label {
+            n: self.n,
+            d: self.d,
+            fwd: &self.fwd,
+            holds: &self.holds,
+            counted: &self.counted,
+            labels: &mut lent.labels,
+            counts: &mut lent.counts,
+            sizes: &mut lent.sizes,
+        });
+        (code, lent)
+    }
 }
 
 impl Single {

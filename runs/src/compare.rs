@@ -1,7 +1,8 @@
 //! One case, every side: what differs, as text.
-use crate::case::{Lent, Single, Swept};
+use crate::case::{Bonds, Lent, Single, Swept};
+use crate::idle;
 use crate::model::{self, Model};
-use calls::{Answer, Form, Label, Mode, Port, SweepAnswer};
+use calls::{Answer, Form, Mode, Port, SweepAnswer};
 use published_patched::Branch;
 use std::fmt::{Debug, Write};
 use std::panic::{catch_unwind, AssertUnwindSafe};
@@ -82,7 +83,13 @@ fn single_rust(case: &Single, answer: Answer, lent: &Lent, line: &mut Line) -> S
     }
     for branch in branches {
         let mut rust_lent = case.lent.clone();
-        let run = || published_patched::step(case.step(&mut rust_lent), branch);
+        let run = || {
+            let none_acts = published_patched::step(case.step(&mut rust_lent), branch);
+            if branch == Branch::UnionFind {
+                idle::take_out_of_single(case, &mut rust_lent);
+            }
+            none_acts
+        };
         let Some(none_acts) = rust(&mut text, run) else {
             continue;
         };
@@ -182,7 +189,14 @@ fn sweep_rust(case: &Swept, answer: SweepAnswer, lent: &Lent, line: &mut Line) -
     }
     for (branch, sequential) in runs {
         let mut rust_lent = case.lent.clone();
-        let run = || published_patched::sweep(case.sweep(&mut rust_lent), branch, sequential);
+        let run = || {
+            let call = case.sweep(&mut rust_lent);
+            let none_acts = published_patched::sweep(call, branch, sequential);
+            if branch == Branch::UnionFind {
+                idle::take_out_of_swept(case, &mut rust_lent);
+            }
+            none_acts
+        };
         let Some(none_acts) = rust(&mut text, run) else {
             continue;
         };
@@ -284,38 +298,31 @@ pub fn damaged_sweep(
     found(text, case.lent.spins.len() + case.panel.fwd.len(), line)
 }
 
-/// The port's labelling of a table of bonds against the model's.
-pub fn labelling(
-    case: &Single,
-    holds: &[u8],
-    port: &mut dyn Port,
+/// The port's labelling of a table of bonds against the model's; a refusal leaves every buffer alone.
+pub fn labelling(case: &Bonds, port: Option<&mut Box<dyn Port>>, line: &mut Line) -> Option<Found> {
+    let (code, lent) = case.run(&mut Model);
+    let mut text = String::new();
+    if code != 0 {
+        differ_lent(&mut text, &case.lent, &lent);
+    }
+    if let Some(port) = port {
+        let (port_code, port_lent) = case.run(port.as_mut());
+        differ(&mut text, "code", code, port_code);
+        differ_lent(&mut text, &lent, &port_lent);
+    }
+    if !text.is_empty() {
+        text = report("labelling", case, &text);
+    }
+    found(text, case.fwd.len(), line)
+}
+
+/// The same of a damaged one.
+pub fn damaged_labelling(
+    case: &Bonds,
+    port: Option<&mut Box<dyn Port>>,
     line: &mut Line,
 ) -> Option<Found> {
-    let (n, d) = (case.panel.n, case.panel.d);
-    let run = |side: &mut dyn Port| {
-        let mut lent = Lent {
-            labels: vec![0; n],
-            counts: vec![0; n + 1],
-            sizes: vec![0; 4],
-            ..Lent::default()
-        };
-        let code = side.label(Label {
-            n,
-            d,
-            fwd: &case.panel.fwd,
-            holds,
-            labels: &mut lent.labels,
-            counts: &mut lent.counts,
-            sizes: &mut lent.sizes,
-        });
-        (code, lent)
-    };
-    let ((code, lent), (port_code, port_lent)) = (run(&mut Model), run(port));
-    let mut text = String::new();
-    differ(&mut text, "code", code, port_code);
-    differ_lent(&mut text, &lent, &port_lent);
-    if !text.is_empty() {
-        text = report("labelling", &(&case.panel, holds), &text);
-    }
-    found(text, n * d, line)
+    line.damaged += 1;
+    line.refused[usize::from(case.run(&mut Model).0)] += 1;
+    labelling(case, port, line)
 }

@@ -1,5 +1,5 @@
 //! Damaged copies of good calls: one to three faults each, so that the first number in the table's order must win.
-use crate::case::{Choices, Lent, Panel, Single, Swept};
+use crate::case::{Bonds, Choices, Lent, Panel, Single, Swept};
 use crate::rand::Rand;
 
 fn longer_or_shorter<T: Copy + Default>(rand: &mut Rand, buffer: &mut Vec<T>) {
@@ -172,6 +172,24 @@ pub fn swept(rand: &mut Rand, case: &mut Swept) {
             3 | 4 => choices(rand, &mut case.choices),
             5 => sweep_sizes(rand, case),
             _ => sweep_lists(rand, case),
+        }
+    }
+}
+
+pub fn bonds(rand: &mut Rand, case: &mut Bonds) {
+    for _ in 0..rand.pick(&[1, 1, 2, 3]) {
+        match rand.range(0, 11) {
+            0 => size(rand, &mut case.n, 4096),
+            1 => size(rand, &mut case.d, 4),
+            2 => longer_or_shorter(rand, &mut case.fwd),
+            3 => longer_or_shorter(rand, &mut case.holds),
+            4 => longer_or_shorter(rand, &mut case.counted),
+            5 => longer_or_shorter(rand, &mut case.lent.labels),
+            6 => longer_or_shorter(rand, &mut case.lent.counts),
+            7 => longer_or_shorter(rand, &mut case.lent.sizes),
+            8 => set(rand, &mut case.fwd, &[case.n as u32, u32::MAX, 0]),
+            9 => set(rand, &mut case.holds, &[2, 255, 128, 1]),
+            _ => set(rand, &mut case.counted, &[2, 255, 128, 1]),
         }
     }
 }

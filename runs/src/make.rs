@@ -1,5 +1,5 @@
 //! Random calls that document 01 accepts.
-use crate::case::{Choices, Lent, Panel, Single, Swept};
+use crate::case::{Bonds, Choices, Lent, Panel, Single, Swept};
 pub use crate::lattices::Size;
 use crate::lattices::{self, backward};
 use crate::model::{self, lengths, Lengths};
@@ -309,4 +309,25 @@ pub fn swept(rand: &mut Rand, mode: Mode, form: Form, size: Size) -> Swept {
         spoil_masked(&mut case);
     }
     case
+}
+
+/// A table of holding bonds on a panel's lattice. All components count, or none, or some.
+pub fn bonds(rand: &mut Rand, panel: &Panel) -> Bonds {
+    let (n, d) = (panel.n, panel.d);
+    let all = rand.pick(&[None, None, None, None, Some(1), Some(1), Some(1), Some(0)]);
+    Bonds {
+        n,
+        d,
+        fwd: panel.fwd.clone(),
+        holds: flips(rand, n * d),
+        counted: (0..n)
+            .map(|_| all.unwrap_or_else(|| rand.range(0, 1) as u8))
+            .collect(),
+        lent: Lent {
+            labels: vec![UNTOUCHED; n],
+            counts: vec![UNTOUCHED; n + 1],
+            sizes: vec![UNTOUCHED; 4],
+            ..Lent::default()
+        },
+    }
 }

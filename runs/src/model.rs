@@ -1,4 +1,5 @@
-//! Document 01 in plain Rust, written from its text and not from overlap.rs: every sentence once, no speed.
+//! Document 01 in plain Rust, written from its text and not from overlap.rs: every sentence once, no speed. Counts and sizes are those of
+//! request 4/14.
 use calls::{Answer, Label, Meter, MeterAnswer, Port, Step, Sweep, SweepAnswer};
 use calls::{Form, Mode};
 
@@ -248,6 +249,33 @@ fn write_labels(to: &mut [u32], labels: &[usize]) {
     }
 }
 
+fn write_sizes(to_counts: &mut [u32], to_sizes: &mut [u32], labels: &[usize], counted: &[bool]) {
+    to_counts.copy_from_slice(&counts(labels, counted));
+    to_sizes.copy_from_slice(&four_largest(labels, counted));
+}
+
+/// The labelling has no table of refusals in document 01: these are those of docs/DECISIONS.md.
+fn label_refusal(call: &Label) -> Option<u8> {
+    let (n, d) = (call.n, call.d);
+    if sizes_refused(n, d, 1) {
+        Some(1)
+    } else if call.fwd.len() != n * d
+        || call.holds.len() != n * d
+        || call.counted.len() != n
+        || call.labels.len() != n
+        || call.counts.len() != n + 1
+        || call.sizes.len() != 4
+    {
+        Some(2)
+    } else if call.fwd.iter().any(|&site| site as usize >= n) {
+        Some(4)
+    } else if call.holds.iter().chain(call.counted).any(|&byte| byte > 1) {
+        Some(9)
+    } else {
+        None
+    }
+}
+
 fn write_spins(spins: &mut [i8], group: &[usize], columns: &[Vec<i8>]) {
     for (i, column) in columns.iter().enumerate() {
         for (k, &system) in group.iter().enumerate() {
@@ -275,8 +303,7 @@ impl Port for Model {
         if let Some(grey) = &answer.grey_labels {
             write_labels(call.grey_labels, grey);
         }
-        call.counts.copy_from_slice(&counts(&answer.labels));
-        call.sizes.copy_from_slice(&four_largest(&answer.labels));
+        write_sizes(call.counts, call.sizes, &answer.labels, &answer.acting);
         if answer.idle {
             Answer::Idle
         } else {
@@ -299,9 +326,12 @@ impl Port for Model {
             if let Some(grey) = &answer.grey_labels {
                 write_labels(&mut call.grey_labels[number * n..], grey);
             }
-            call.counts[number * (n + 1)..(number + 1) * (n + 1)]
-                .copy_from_slice(&counts(&answer.labels));
-            call.sizes[number * 4..number * 4 + 4].copy_from_slice(&four_largest(&answer.labels));
+            write_sizes(
+                &mut call.counts[number * (n + 1)..(number + 1) * (n + 1)],
+                &mut call.sizes[number * 4..number * 4 + 4],
+                &answer.labels,
+                &answer.acting,
+            );
             if answer.idle {
                 idle += 1;
             } else {
@@ -348,13 +378,14 @@ impl Port for Model {
         MeterAnswer::Energy(-sum)
     }
 
-    /// For tables that the lattice check accepts; what else the port's own function refuses is not in document 01.
     fn label(&mut self, call: Label) -> u8 {
-        let holds: Vec<bool> = call.holds.iter().map(|&byte| byte == 1).collect();
-        let found = labels(call.n, call.d, call.fwd, &holds);
+        if let Some(number) = label_refusal(&call) {
+            return number;
+        }
+        let ones = |bytes: &[u8]| -> Vec<bool> { bytes.iter().map(|&byte| byte == 1).collect() };
+        let found = labels(call.n, call.d, call.fwd, &ones(call.holds));
         write_labels(call.labels, &found);
-        call.counts.copy_from_slice(&counts(&found));
-        call.sizes.copy_from_slice(&four_largest(&found));
+        write_sizes(call.counts, call.sizes, &found, &ones(call.counted));
         0
     }
 }

@@ -125,6 +125,7 @@ mod linked {
                 d: call.d,
                 fwd: call.fwd,
                 holds: call.holds,
+                counted: call.counted,
                 labels: call.labels,
                 counts: call.counts,
                 sizes: call.sizes,

@@ -33,7 +33,7 @@
 //! spins       S*n          after the call, like all that follows
 //! labels      K*n * 2
 //! grey labels K*n * 2      cmr, SW and Wolff
-//! counts      K*(n+1) * 2
+//! counts      K*(n+1) * 2  of acting components, as the sizes are; the Rust's own have the sites that do not act in count 1
 //! sizes       K*4 * 2
 //! ```
 //!

@@ -3,7 +3,7 @@ mod common;
 
 use calls::{Answer, MeterAnswer, Port};
 use common::*;
-use tsorvenk_runs::case::Single;
+use tsorvenk_runs::case::{Bonds, Lent, Single};
 use tsorvenk_runs::model::Model;
 use tsorvenk_runs::port;
 
@@ -90,7 +90,8 @@ fn row_13_the_frame_case() {
     let frame = perms(call(Perm, Sw, R3, &["++-", "+--"]), &[1, 0, 1, 0, 1, 0]);
     let lent = moved(&frame, &["+--", "++-"]);
     assert_eq!(lent.labels, [0, 1, 2]);
-    assert_eq!(lent.counts, [0, 3, 0, 0]);
+    assert_eq!(lent.counts, [0, 1, 0, 0]); // 4/14: sites 0 and 2 do not act
+    assert_eq!(lent.sizes, [1, 0, 0, 0]);
     let pair = flips(call(Pair, Sw, R3, &["++-", "+--"]), &[1, 1, 1]);
     moved(&pair, &["++-", "+--"]);
 }
@@ -110,9 +111,9 @@ fn single_sites_move_in_perm_only() {
 #[test]
 fn labels_are_smallest_sites_both_ways() {
     let ring = call(Perm, Observe, R3, &["+++", "-+-"]);
-    labelled(&ring, &[0, 1, 0], &[0, 1, 1, 0], [2, 1, 0, 0]);
+    labelled(&ring, &[0, 1, 0], &[0, 0, 1, 0], [2, 0, 0, 0]);
     let late = call(Perm, Observe, &[3, 2, 0, 1], &["++++", "---+"]);
-    labelled(&late, &[0, 0, 0, 3], &[0, 1, 0, 1, 0], [3, 1, 0, 0]);
+    labelled(&late, &[0, 0, 0, 3], &[0, 0, 0, 1, 0], [3, 0, 0, 0]);
     labels(
         &call(Perm, Observe, &[2, 0, 1], &["+++", "+--"]),
         &[0, 1, 1],
@@ -120,7 +121,79 @@ fn labels_are_smallest_sites_both_ways() {
     let four = call(Perm, Observe, &[0, 1, 2, 3], &["++++", "----"]);
     labelled(&four, &[0, 1, 2, 3], &[0, 4, 0, 0, 0], [1; 4]);
     let idle = call(Perm, Observe, L1, &["+", "+"]);
-    labelled(&idle, &[0], &[0, 1], [1, 0, 0, 0]);
+    labelled(&idle, &[0], &[0, 0], [0; 4]);
+}
+
+/// 4/14: what does not act is labelled as before, and not counted.
+#[test]
+fn acting_components_are_counted() {
+    for mode in [Houd, Pair, Perm, Jorg] {
+        let one = |rows: &[&str]| drawn(call(mode, Observe, L1, rows), &[0], 1.0, &[0.0]);
+        labelled(&one(&["+", "+"]), &[0], &[0, 0], [0; 4]);
+        labelled(&one(&["+", "-"]), &[0], &[0, 1], [1, 0, 0, 0]);
+        let two = |rows: &[&str]| drawn(call(mode, Observe, I2, rows), &[0; 2], 1.0, &[0.0; 2]);
+        labelled(&two(&["++", "+-"]), &[0, 1], &[0, 1, 0], [1, 0, 0, 0]);
+        labelled(&two(&["++", "--"]), &[0, 1], &[0, 2, 0], [1, 1, 0, 0]);
+    }
+    // gperm: the reference site never acts
+    let gauged = |rows: &[&str]| call(Gperm, Observe, I2, rows);
+    labelled(&gauged(&["++", "--"]), &[0, 1], &[0, 0, 0], [0; 4]);
+    labelled(&gauged(&["++", "+-"]), &[0, 1], &[0, 1, 0], [1, 0, 0, 0]);
+    // CMR: every site takes part
+    let cmr = |rows: &[&str]| drawn(call(Cmr, Observe, I2, rows), &[0; 2], 1.0, &[0.0; 2]);
+    labelled(&cmr(&["++", "++"]), &[0, 1], &[0, 2, 0], [1, 1, 0, 0]);
+    // in one call: a pair that acts, a single that acts, and two sites that do not
+    let mixed = call(Pair, Observe, &[1, 0, 2, 3, 4], &["+++++", "--++-"]);
+    labelled(&mixed, &[0, 0, 2, 3, 4], &[0, 1, 1, 0, 0, 0], [2, 1, 0, 0]);
+}
+
+/// "Two or more sites" is of a component's sites, not of what is counted: here one pair acts and moves, and no single is counted.
+#[test]
+fn flips_go_by_component_sizes() {
+    let pair = flips(call(Pair, Sw, R3, &["+++", "--+"]), &[1, 0, 1]);
+    let lent = moved(&pair, &["--+", "+++"]);
+    assert_eq!(
+        (lent.labels, lent.counts, lent.sizes),
+        (vec![0, 0, 2], vec![0, 0, 1, 0], vec![2, 0, 0, 0])
+    );
+    let single = flips(call(Pair, Sw, R3, &["+++", "-++"]), &[1, 1, 1]);
+    let lent = moved(&single, &["+++", "-++"]);
+    assert_eq!(
+        (lent.counts, lent.sizes),
+        (vec![0, 1, 0, 0], vec![1, 0, 0, 0])
+    );
+}
+
+/// The labelling's own entry: the byte at a component's smallest site decides.
+#[test]
+fn labelled_components_are_counted_by_their_smallest_sites() {
+    let two = |counted: &[u8]| Bonds {
+        n: 3,
+        d: 1,
+        fwd: R3.to_vec(),
+        holds: vec![0, 1, 0],
+        counted: counted.to_vec(),
+        lent: Lent {
+            labels: vec![9; 3],
+            counts: vec![9; 4],
+            sizes: vec![9; 4],
+            ..Lent::default()
+        },
+    };
+    let counted = |bytes: &[u8], counts: &[u32], sizes: [u32; 4]| {
+        let (code, lent) = run_bonds(&two(bytes));
+        assert_eq!((code, lent.labels), (0, vec![0, 1, 1]));
+        assert_eq!((lent.counts, lent.sizes), (counts.to_vec(), sizes.to_vec()));
+    };
+    counted(&[1, 1, 1], &[0, 1, 1, 0], [2, 1, 0, 0]);
+    counted(&[1, 1, 0], &[0, 1, 1, 0], [2, 1, 0, 0]);
+    counted(&[0, 1, 0], &[0, 0, 1, 0], [2, 0, 0, 0]);
+    counted(&[1, 0, 1], &[0, 1, 0, 0], [1, 0, 0, 0]);
+    counted(&[0, 0, 1], &[0, 0, 0, 0], [0; 4]);
+    for (bytes, number) in [(vec![1, 1, 2], 9), (vec![1, 1], 2), (vec![255; 4], 2)] {
+        let case = two(&bytes);
+        assert_eq!(run_bonds(&case), (number, case.lent.clone()));
+    }
 }
 
 #[test]

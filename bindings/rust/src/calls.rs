@@ -103,9 +103,10 @@ pub struct Step<'a> {
     pub labels: &'a mut [u32],
     /// n. Written: the same of grey components. SW and Wolff of CMR.
     pub grey_labels: &'a mut [u32],
-    /// n + 1. Written: count k is the number of components of size k, count 0 is 0 (CMR: blue).
+    /// n + 1. Written: count k is the number of acting components of size k, count 0 is 0 (CMR: blue, all of them). A site that
+    /// does not act is labelled as a component of its own and not counted.
     pub counts: &'a mut [u32],
-    /// 4. Written: the largest sizes in falling order, filled with 0 (CMR: blue).
+    /// 4. Written: the largest sizes of what is counted, in falling order, filled with 0.
     pub sizes: &'a mut [u32],
 }
 
@@ -201,11 +202,13 @@ pub struct Label<'a> {
     pub fwd: &'a [u32],
     /// n * d, at the bond's entry, each 0 or 1.
     pub holds: &'a [u8],
+    /// n, each 0 or 1: a component counts where the byte at its smallest site is 1.
+    pub counted: &'a [u8],
     /// n. Written: the smallest site of each site's component.
     pub labels: &'a mut [u32],
-    /// n + 1. Written: count k is the number of components of size k, count 0 is 0.
+    /// n + 1. Written: count k is the number of components of size k that count, count 0 is 0.
     pub counts: &'a mut [u32],
-    /// 4. Written: the largest sizes in falling order, filled with 0.
+    /// 4. Written: the largest sizes of what is counted, in falling order, filled with 0.
     pub sizes: &'a mut [u32],
 }
 

@@ -29,6 +29,7 @@ extern "C" {
     ) -> u8;
     pub fn tsorvenk_label(
         n: usize, d: usize, fwd: *const u32, fwd_len: usize, holds: *const u8, holds_len: usize,
+        counted: *const u8, counted_len: usize,
         labels: *mut u32, labels_len: usize, counts: *mut u32, counts_len: usize, sizes: *mut u32, sizes_len: usize,
     ) -> u8;
     pub fn tsorvenk_frames(

@@ -122,25 +122,26 @@ pub fn energy(call: Energy) -> Result<i64, Refusal> {
     }
 }
 
-/// The components of the bonds whose byte is 1.
+/// The components of the bonds whose byte is 1, of which those count whose smallest site has the byte 1.
 ///
 /// ```
 /// use tsorvenk::{label, Label};
 ///
-/// // a ring of four, broken in two places
+/// // a ring of four, broken in two places; the first site does not count
 /// let (mut labels, mut counts, mut sizes) = ([0; 4], [0; 5], [0; 4]);
 /// label(Label {
 ///     n: 4,
 ///     d: 1,
 ///     fwd: &[1, 2, 3, 0],
 ///     holds: &[0, 1, 1, 0],
+///     counted: &[0, 1, 1, 1],
 ///     labels: &mut labels,
 ///     counts: &mut counts,
 ///     sizes: &mut sizes,
 /// })?;
 /// assert_eq!(labels, [0, 1, 1, 1]);
-/// assert_eq!(counts, [0, 1, 0, 1, 0]);
-/// assert_eq!(sizes, [3, 1, 0, 0]);
+/// assert_eq!(counts, [0, 0, 0, 1, 0]);
+/// assert_eq!(sizes, [3, 0, 0, 0]);
 /// # Ok::<(), tsorvenk::Refusal>(())
 /// ```
 #[inline]
@@ -149,6 +150,7 @@ pub fn label(call: Label) -> Result<(), Refusal> {
     let number = unsafe {
         tsorvenk_label(
             call.n, call.d, call.fwd.as_ptr(), call.fwd.len(), call.holds.as_ptr(), call.holds.len(),
+            call.counted.as_ptr(), call.counted.len(),
             call.labels.as_mut_ptr(), call.labels.len(), call.counts.as_mut_ptr(), call.counts.len(),
             call.sizes.as_mut_ptr(), call.sizes.len(),
         )
@@ -234,7 +236,7 @@ pub fn write_edges(call: WriteEdges<'_>) -> Result<&[u8], Refusal> {
 /// let text = b"1000030102\n110101ff01ffff\n12000100020000\n130001\n14010001000100\n";
 /// let mut out = [0; FRAMES_ROOM];
 /// let answer = frames(Frames { text, out: &mut out })?;
-/// assert_eq!(answer, b"20000000010002\n210000000300000000\n2201ffff0101ff\n");
+/// assert_eq!(answer, b"20000000010002\n210000000100000000\n2201ffff0101ff\n");
 /// assert_eq!(frames(Frames { text: b"10\n", out: &mut out })?, b"2f11\n");
 /// assert_eq!(frames(Frames { text, out: &mut out[..4] }), Err(NoRoom));
 /// # Ok::<(), NoRoom>(())

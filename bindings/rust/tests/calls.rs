@@ -51,10 +51,16 @@ fn what_is_not_taken_may_be_left_out() {
         let answer = step(one_site(mode, Form::Observe, &mut lent));
         assert_eq!((answer, lent), (Ok(Stepped::Moved), WRITTEN), "{mode:?}");
     }
-    // the gauge makes the reference site agree with itself
+    // the gauge makes the reference site agree with itself, and what does not act is not counted
     let mut lent = LENT;
     let answer = step(one_site(Mode::Gperm, Form::Observe, &mut lent));
-    assert_eq!((answer, lent), (Ok(Stepped::Idle), WRITTEN));
+    let (counts, sizes) = ([0; 2], [0; 4]);
+    let uncounted = Lent {
+        counts,
+        sizes,
+        ..WRITTEN
+    };
+    assert_eq!((answer, lent), (Ok(Stepped::Idle), uncounted));
     let mut lent = LENT;
     let answer = step(one_site(Mode::Pair, Form::Wolff, &mut lent));
     let spins = [-1, 1];

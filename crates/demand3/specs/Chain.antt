@@ -13,7 +13,7 @@ use Rattle.paper.specs.Panel.Input.{graph, Call, Choices, Buffers, spin, size, 
 use Rattle.paper.specs.Site.Acting.{acts, SomeActs, NoneActs}
 use Rattle.paper.specs.Site.Bonds.{holds}
 use Rattle.paper.specs.Component.Labels.{Labels}
-use Rattle.paper.specs.Component.Sizes.{everyOne, Counted, Largest}
+use Rattle.paper.specs.Component.Sizes.{Counted, Largest}
 use Rattle.paper.specs.Move.Moving.{final}
 use Rattle.paper.specs.Refusal.Rules.{Spin, AllSystems, Spins, Exact, Chosen, Seeded}
 use Rattle.paper.specs.Refusal.Kept.{Sound, Fit, Valid, valid-kept}
@@ -22,7 +22,7 @@ use Rattle.laws.specs.Unique.{Outside}
 use Rattle.laws.specs.MovesExist.{write, moves-exist}
 use Rattle.demand3.specs.Statement.{Reversible, Move, Outcome}
 use Rattle.demand3.specs.Step.{Step, step, seen-of, valid-move}
-use Rattle.demand3.specs.Turns.{spins-kept, acts-kept, labels-kept}
+use Rattle.demand3.specs.Turns.{spins-kept, acts-kept, labels-kept, counts-kept, sizes-kept}
 use Rattle.demand3.specs.ChoicesFit.{Sized, no-greys}
 use Rattle.demand3.specs.Such.{outcome}
 
@@ -61,7 +61,7 @@ some-or-none f (suc m) = go (f m) refl (some-or-none f m)
 
 module _
     {c : Call} {r : Choices} {d : Buffers} (v : Reversible (c .mode) (size c)) (k : Valid c r d) (l counts sizes : List ℕ)
-    (labels : Labels (graph c) (holds c (d .spins)) l) (tally : Counted everyOne l counts) (four : Largest everyOne l sizes)
+    (labels : Labels (graph c) (holds c (d .spins)) l) (tally : Counted (acts c (d .spins)) l counts) (four : Largest (acts c (d .spins)) l sizes)
   where
     left : List ℤ → Buffers
     left ys = record { spins = ys; labels = l; greyLabels = d .greyLabels; counts = counts; sizes = sizes }
@@ -110,7 +110,8 @@ module _ {c : Call} {p : Choices} {b b′ : Buffers} (v : Reversible (c .mode) (
 
   pub next : {q : Choices} {d : Buffers} → d .spins ≡ b′ .spins → Exact c q d → Chosen c q → Outcome c q d
   next {q} {d} same e h =
-      outcome-of v valid (b′ .labels) (b′ .counts) (b′ .sizes) (rw same (labels-kept (step v m))) (seen-of m .counts) (seen-of m .sizes)
+      outcome-of v valid (b′ .labels) (b′ .counts) (b′ .sizes) (rw same (labels-kept (step v m)))
+      (rw same (counts-kept (step v m) (seen-of m .counts))) (rw same (sizes-kept (step v m) (seen-of m .sizes)))
     where
       valid : Valid c q d
       valid = record {

@@ -19,7 +19,7 @@ use Rattle.laws.specs.Unique.{same-label, counts-unique, sizes-unique}
 use Rattle.rows.specs.Proved.{table}
 use Rattle.demand3.specs.Statement.{Reversible, Move, Such, Keeps, Two, SameOutputs, composite, inverse, identity, Leaves, Demand3, Boundary}
 use Rattle.demand3.specs.Step.{Step, step, seen-of, valid-move}
-use Rattle.demand3.specs.Turns.{acts-kept, labels-kept}
+use Rattle.demand3.specs.Turns.{acts-kept, labels-kept, counts-kept, sizes-kept}
 use Rattle.demand3.specs.BondSums.{sum-kept}
 use Rattle.demand3.specs.Compose.{none-moved, composed-all, cancels-all, same-labels, back-at, two-back, then-at, two-then}
 use Rattle.demand3.specs.ChoicesAdd.{wolff-cancels}
@@ -70,8 +70,10 @@ module _ (c : Call) (v : Reversible (c .mode) (size c)) where
     outputs : SameOutputs b′ d′
     outputs = record {
       labels = labels;
-      counts = counts-unique (d′ .labels) (d′ .counts) (b′ .counts) (seen-of (move-of (w .second)) .counts) (rw labels (seen-of (move-of (w .first)) .counts));
-      sizes = sizes-unique (d′ .labels) (d′ .sizes) (b′ .sizes) (seen-of (move-of (w .second)) .sizes) (rw labels (seen-of (move-of (w .first)) .sizes));
+      counts = counts-unique (d′ .labels) (d′ .counts) (b′ .counts) (rw (w .handed) at (seen-of (move-of (w .second)) .counts))
+          (rw labels (counts-kept first (seen-of (move-of (w .first)) .counts)));
+      sizes = sizes-unique (d′ .labels) (d′ .sizes) (b′ .sizes) (rw (w .handed) at (seen-of (move-of (w .second)) .sizes))
+          (rw labels (sizes-kept first (seen-of (move-of (w .first)) .sizes)));
     }
       where
         labels : d′ .labels ≡ b′ .labels

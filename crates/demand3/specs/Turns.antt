@@ -3,6 +3,7 @@ use Prim.Native.Nat.{ℕ, _<_}
 use mathlib.Core.Path.{_≡_, refl, sym, _∙_}
 use mathlib.Core.Bool.{Bool, true, false, cond, _&&_}
 use mathlib.Core.List.{List}
+use lib.ListN.{length}
 use lib.IntN.{ℤ}
 use Rattle.lemmas.specs.Bools.{never, and-right}
 use Rattle.paper.specs.declared.Mode.{Mode}
@@ -12,10 +13,10 @@ use Rattle.paper.specs.Panel.Takes.{moves, isPerm, isGperm}
 use Rattle.paper.specs.Site.Acting.{actsBy, acts, gauge}
 use Rattle.paper.specs.Site.Bonds.{bothAct, holds}
 use Rattle.paper.specs.Component.Labels.{Labels}
-use Rattle.paper.specs.Component.Sizes.{labelOf}
+use Rattle.paper.specs.Component.Sizes.{labelOf, Counted, Largest}
 use Rattle.paper.specs.Move.Moving.{chosen, actBy, reached, after}
 use Rattle.paper.specs.Refusal.Rules.{Spin, Permutes}
-use Rattle.laws.specs.Unique.{label-lt, labels-ext}
+use Rattle.laws.specs.Unique.{label-lt, labels-ext, counts-ext, sizes-ext}
 use Rattle.laws.specs.Patterns.{Spinning}
 use Rattle.laws.specs.Entries.{form-moves}
 use Rattle.laws.specs.Acting.{acts-same, gauge-ext}
@@ -127,5 +128,15 @@ module _ {c : Call} {p : Choices} {xs : List ℤ} {l : List ℕ} {ys : List ℤ}
       by-ends : (zs : List ℤ) → holds c zs i e ≡ bothAct c zs i e
       by-ends zs = holds-both (c .mode) (size c) (s .reversible) c zs i e
 
+  -- so the labels are those of the spins after the step too, and what is counted by them
   pub labels-kept : Labels (graph c) (holds c ys) l
   labels-kept = labels-ext (graph c) (holds c xs) (holds c ys) l (λ i e hi he. sym (holds-kept i e hi he)) (s .labels)
+
+  marks-kept : (i : ℕ) → i < length l → acts c xs i ≡ acts c ys i
+  marks-kept i h = sym (acts-kept i (rw (s .labels .long) at h))
+
+  pub counts-kept : {counts : List ℕ} → Counted (acts c xs) l counts → Counted (acts c ys) l counts
+  counts-kept = counts-ext l marks-kept
+
+  pub sizes-kept : {sizes : List ℕ} → Largest (acts c xs) l sizes → Largest (acts c ys) l sizes
+  sizes-kept = sizes-ext l marks-kept

@@ -12,8 +12,9 @@ use Rattle.lemmas.specs.Counts.{count-most}
 use Rattle.paper.specs.declared.Group.{Group}
 use Rattle.paper.specs.declared.Answer.{Answer}
 use Rattle.paper.specs.Panel.Input.{Call, Buffers}
+use Rattle.paper.specs.Site.Acting.{acts}
 use Rattle.paper.specs.Component.Links.{Linked.stay}
-use Rattle.paper.specs.Component.Sizes.{counted, everyOne, sizeOf}
+use Rattle.paper.specs.Component.Sizes.{counted, sizeOf}
 use Rattle.paper.specs.Refusal.Rule.{Kept, Broken}
 use Rattle.paper.specs.Refusal.Verdict.{Verdict}
 use Rattle.paper.specs.Answer.Move.{Answers, Seen, Accepted, accepted-zero}
@@ -96,4 +97,5 @@ seen-small c b b′ v h = record { small-labels = labels; small-counts = counts 
     counts : Below 65536 (b′ .counts)
     counts s l =
         let most : s ≤ length (b′ .labels) = omega (arith, v .counts .long) in
-        omega (arith, few, v .counts .each s most, count-most (λ r. counted everyOne (b′ .labels) r && eqb (sizeOf (b′ .labels) r) s) (length (b′ .labels)))
+        let all = count-most (λ r. counted (acts c (b .spins)) (b′ .labels) r && eqb (sizeOf (b′ .labels) r) s) (length (b′ .labels)) in
+        omega (arith, few, v .counts .each s most, all)

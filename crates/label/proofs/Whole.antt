@@ -60,8 +60,8 @@ module _ {n d : ℕ} {fwd : List ℕ} {f : ℕ → ℕ → Bool} where
       root a b e = sym (h .flat a (e .site)) ∙ ap (λ (x : ℕ). getD l x 0) (e .parent)
 
 -- what the entry's tests leave
-pub given-by : {n d : ℕ} {fwd holds : List ℕ} {labels counts sizes tally : ℕ} → Sizes n d 1
-    → ExactLengths n d (length fwd) (length holds) labels counts sizes → Below n fwd → tally ≡ n
+pub given-by : {n d : ℕ} {fwd holds : List ℕ} {counted labels counts sizes tally : ℕ} → Sizes n d 1
+    → ExactLengths n d (length fwd) (length holds) counted labels counts sizes → Below n fwd → tally ≡ n
     → Given n d fwd holds labels tally
 given-by {n} {d} {fwd} z x h e = record {
   n-high = z .n-high;

@@ -8,7 +8,7 @@ use lib.ListN.{length, getD}
 use Rattle.paper.specs.Panel.Input.{Graph}
 use Rattle.paper.specs.Component.Labels.{Labels}
 use Rattle.paper.specs.Component.Marks.{marked}
-use Rattle.paper.specs.Component.Sizes.{everyOne, Sized, Counted, Largest}
+use Rattle.paper.specs.Component.Sizes.{Sized, Counted, Largest}
 
 abbrev pub graphOf : ℕ → ℕ → List ℕ → Graph
 graphOf n d fwd = record { n = n; d = d; fwd = fwd }
@@ -45,13 +45,15 @@ pub record Reported (mark : ℕ → Bool) (labels counts sizes : List ℕ) : Typ
   pub counted : Counted mark labels counts
   pub largest : Largest mark labels sizes
 
--- both steps: places for all that is written, and for a tally of all sites
-pub record LabelLent (n d : ℕ) (fwd holds : List ℕ) (labels counts sizes tally : ℕ) : Type 0 where
+-- both steps: a byte for each site, places for all that is written, and for a tally of all sites
+pub record LabelLent (n d : ℕ) (fwd holds marks : List ℕ) (labels counts sizes tally : ℕ) : Type 0 where
   pub given : Given n d fwd holds labels n
+  pub marks-long : length marks ≡ n
   pub counts-long : counts ≡ n + 1
   pub sizes-long : sizes ≡ 4
   pub tally-fits : n ≤ tally
 
-pub record Seen (n d : ℕ) (fwd holds l counts sizes : List ℕ) : Type 0 where
+-- the labels, and of the components whose smallest site has the byte 1 the counts and sizes
+pub record Seen (n d : ℕ) (fwd holds marks l counts sizes : List ℕ) : Type 0 where
   pub labels : Labels (graphOf n d fwd) (marked d holds) l
-  pub reported : Reported everyOne l counts sizes
+  pub reported : Reported (isOne marks) l counts sizes

@@ -15,6 +15,7 @@ pub record Request : Type 0 where
   pub d : ℕ
   pub fwd : List ℕ
   pub holds : List ℕ
+  pub counted : List ℕ
 
 -- the lent buffers, before the call or after it
 pub record Lent : Type 0 where
@@ -22,15 +23,17 @@ pub record Lent : Type 0 where
   pub counts : List ℕ
   pub sizes : List ℕ
 
-pub record ExactLengths (n d fwd holds labels counts sizes : ℕ) : Type 0 where
+pub record ExactLengths (n d fwd holds counted labels counts sizes : ℕ) : Type 0 where
   pub fwd-long : fwd ≡ n * d
   pub holds-long : holds ≡ n * d
+  pub counted-long : counted ≡ n
   pub labels-long : labels ≡ n
   pub counts-long : counts ≡ n + 1
   pub sizes-long : sizes ≡ 4
 
 abbrev pub Exact : Request → Lent → Type 0
-Exact r b = ExactLengths (r .n) (r .d) (length (r .fwd)) (length (r .holds)) (length (b .labels)) (length (b .counts)) (length (b .sizes))
+Exact r b =
+    ExactLengths (r .n) (r .d) (length (r .fwd)) (length (r .holds)) (length (r .counted)) (length (b .labels)) (length (b .counts)) (length (b .sizes))
 
 abbrev pub Below : ℕ → List ℕ → Type 0
 Below n xs = (k : ℕ) → k < length xs → getD xs k 0 < n
@@ -40,7 +43,8 @@ Bits xs = (k : ℕ) → k < length xs → getD xs k 0 ≤ 1
 
 -- the refusals in their order. Sizes are those of a panel with one system
 abbrev pub rules : Request → Lent → List Rule
-rules r b = rule 1 (Sizes (r .n) (r .d) 1) ∷ rule 2 (Exact r b) ∷ rule 4 (Below (r .n) (r .fwd)) ∷ rule 9 (Bits (r .holds)) ∷ []
+rules r b =
+    rule 1 (Sizes (r .n) (r .d) 1) ∷ rule 2 (Exact r b) ∷ rule 4 (Below (r .n) (r .fwd)) ∷ rule 9 (Bits (r .holds)) ∷ rule 9 (Bits (r .counted)) ∷ []
 
 -- the paper's number of an answer, 0 where the call is accepted: the verdict of the rules. Its values are what is written
 abbrev pub labellingNumber : Labelling → ℕ
@@ -52,10 +56,10 @@ pub record Refuses (r : Request) (b : Lent) (c : ℕ) (b′ : Lent) : Type 0 whe
   pub why : Broken (rules r b) c
   pub kept : b′ ≡ b
 
--- accepted: the labels, counts and sizes of the bonds whose byte is 1
+-- accepted: the labels of the bonds whose byte is 1, and the counts and sizes of the components whose smallest site's byte is 1
 pub record Accepts (r : Request) (b b′ : Lent) : Type 0 where
   pub valid : Verdict (rules r b) (labellingNumber Written)
-  pub seen : Seen (r .n) (r .d) (r .fwd) (r .holds) (b′ .labels) (b′ .counts) (b′ .sizes)
+  pub seen : Seen (r .n) (r .d) (r .fwd) (r .holds) (r .counted) (b′ .labels) (b′ .counts) (b′ .sizes)
 
 -- the answer a may be given to the request r with the lent buffers b, which then hold b′
 abbrev pub Answers : Request → Lent → Labelling → Lent → Type 0

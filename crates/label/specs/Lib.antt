@@ -4,7 +4,6 @@ pub mod Forest
 pub mod Contract
 pub mod Steps
 pub mod Sizes
-pub mod Every
 pub mod Totals
 pub mod Facts
 pub mod Entry

@@ -22,11 +22,6 @@ unfolding total
 total-zero zero = refl
 total-zero (suc m) = omega (arith, total-zero m)
 
-pub total-ones : (m : ℕ) → total (λ k. 1) m ≡ m
-unfolding total
-total-ones zero = refl
-total-ones (suc m) = omega (arith, total-ones m)
-
 pub total-add : (f g : ℕ → ℕ) (m : ℕ) → total (λ k. f k + g k) m ≡ total f m + total g m
 unfolding total
 total-add f g zero = refl

@@ -294,15 +294,21 @@ fn exact(
     d: usize,
     fwd: usize,
     holds: usize,
+    counted: usize,
     labels: usize,
     counts: usize,
     sizes: usize,
 ) -> bool
     requires { ⌜ (n ≤ 4096) × (d ≤ 4) ⌝ }
-    ensures { λ r. ⌜ Tells r (ExactLengths n d fwd holds labels counts sizes) ⌝ }
+    ensures { λ r. ⌜ Tells r (ExactLengths n d fwd holds counted labels counts sizes) ⌝ }
 {
     let table = n * d;
-    (fwd == table) & (holds == table) & (labels == n) & (counts == n + 1) & (sizes == 4)
+    (fwd == table)
+        & (holds == table)
+        & (counted == n)
+        & (labels == n)
+        & (counts == n + 1)
+        & (sizes == 4)
 }
 
 // One pass without an exit, which the compiler makes vector code of.
@@ -323,17 +329,19 @@ fn label_and_count(
     d: usize,
     fwd: &[u32],
     holds: &[u8],
+    counted: &[u8],
     labels: &mut [u32],
     counts: &mut [u32],
     sizes: &mut [u32],
     tally: &mut [u32],
 )
-    requires { ⌜ LabelLent n d (now fwd) (now holds) (length (now labels)) (length (now counts)) (length (now sizes)) (length (now tally)) ⌝ }
-    ensures { λ _. ⌜ Seen n d (now (fwd .entry)) (now (holds .entry)) (now (labels .exit)) (now (counts .exit)) (now (sizes .exit)) ⌝ }
+    requires { ⌜ LabelLent n d (now fwd) (now holds) (now counted)
+        (length (now labels)) (length (now counts)) (length (now sizes)) (length (now tally)) ⌝ }
+    ensures { λ _. ⌜ Seen n d (now (fwd .entry)) (now (holds .entry)) (now (counted .entry))
+        (now (labels .exit)) (now (counts .exit)) (now (sizes .exit)) ⌝ }
 {
     label(n, d, fwd, holds, labels, &mut tally[..n]);
-    let every = [1u8; 4096];
-    count(labels, &tally[..n], &every[..n], counts, sizes);
+    count(labels, &tally[..n], counted, counts, sizes);
 }
 
 // A refusal with its number, or all is written.
@@ -342,18 +350,20 @@ pub enum Labelling {
     Written,
 }
 
-// The labels, counts and four largest sizes of any tables: what is no lattice is refused, and nothing is written.
+// The labels, counts and four largest sizes of any tables: what is no lattice is refused, and nothing is written. A component is counted where the byte
+// of its smallest site is 1.
 pub fn components(
     n: usize,
     d: usize,
     fwd: &[u32],
     holds: &[u8],
+    counted: &[u8],
     labels: &mut [u32],
     counts: &mut [u32],
     sizes: &mut [u32],
 ) -> Labelling
     ensures { λ r. ⌜ Answers
-        (record { n = n; d = d; fwd = now (fwd .entry); holds = now (holds .entry) })
+        (record { n = n; d = d; fwd = now (fwd .entry); holds = now (holds .entry); counted = now (counted .entry) })
         (record { labels = now (labels .entry); counts = now (counts .entry); sizes = now (sizes .entry) })
         r
         (record { labels = now (labels .exit); counts = now (counts .exit); sizes = now (sizes .exit) }) ⌝ }
@@ -366,6 +376,7 @@ pub fn components(
         d,
         fwd.len(),
         holds.len(),
+        counted.len(),
         labels.len(),
         counts.len(),
         sizes.len(),
@@ -378,7 +389,10 @@ pub fn components(
     if !lattice::bytes_at_most(holds, 1) {
         return Labelling::Unlabelled(9);
     }
+    if !lattice::bytes_at_most(counted, 1) {
+        return Labelling::Unlabelled(9);
+    }
     let mut tally = [0u32; 4096];
-    label_and_count(n, d, fwd, holds, labels, counts, sizes, &mut tally);
+    label_and_count(n, d, fwd, holds, counted, labels, counts, sizes, &mut tally);
     Labelling::Written
 }

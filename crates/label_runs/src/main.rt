@@ -9,6 +9,7 @@ use referee::right;
 use std::num::wrapping_add_u32;
 use tables::Table;
 use tables::fill;
+use tables::fill_bytes;
 ghost use Prim.Native.Nat.{_≤_};
 
 // The state of the draws, and the runs that agreed and that did not.
@@ -47,41 +48,56 @@ fn agrees(
     d: usize,
     fwd: &[u32],
     holds: &[u8],
+    counted: &[u8],
     labels: &mut [u32],
     counts: &mut [u32],
     sizes: &mut [u32],
     marks: &mut [u32],
     tally: &mut [u32],
 ) -> bool {
-    let a = label::components(n, d, fwd, holds, labels, counts, sizes);
-    written(a) & right(d, fwd, holds, labels, counts, sizes, marks, tally)
+    let a = label::components(n, d, fwd, holds, counted, labels, counts, sizes);
+    written(a) & right(d, fwd, holds, counted, labels, counts, sizes, marks, tally)
 }
 
-// One run on a table of n sites with d bonds each.
+// One run on a table of n sites with d bonds each. So many sites of eight have the byte 1, by which a component counts.
 fn trial(
     t: Runs,
     table: Table,
+    share: u32,
     n: usize,
     d: usize,
     fwd: &mut [u32],
     holds: &mut [u8],
+    counted: &mut [u8],
     labels: &mut [u32],
     counts: &mut [u32],
     sizes: &mut [u32],
     marks: &mut [u32],
     tally: &mut [u32],
 ) -> Runs {
-    let seed = fill(table, t.seed, n, fwd, holds);
-    let ok = agrees(n, d, fwd, holds, labels, counts, sizes, marks, tally);
+    let seed = fill_bytes(fill(table, t.seed, n, fwd, holds), share, counted);
+    let ok = agrees(
+        n,
+        d,
+        fwd,
+        holds,
+        counted,
+        labels,
+        counts,
+        sizes,
+        marks,
+        tally,
+    );
     noted(t, seed, ok)
 }
 
-fn with_room(t: Runs, table: Table, n: usize, d: usize) -> Runs
+fn with_room(t: Runs, table: Table, share: u32, n: usize, d: usize) -> Runs
     requires { ⌜ n ≤ 4096 ⌝ }
     requires { ⌜ d ≤ 4 ⌝ }
 {
     let mut fwd = [0u32; 16384];
     let mut holds = [0u8; 16384];
+    let mut counted = [0u8; 4096];
     let mut labels = [0u32; 4096];
     let mut counts = [0u32; 4097];
     let mut sizes = [0u32; 4];
@@ -92,10 +108,12 @@ fn with_room(t: Runs, table: Table, n: usize, d: usize) -> Runs
     trial(
         t,
         table,
+        share,
         n,
         d,
         &mut fwd[..m],
         &mut holds[..m],
+        &mut counted[..n],
         &mut labels[..n],
         &mut counts[..e],
         &mut sizes,
@@ -104,6 +122,7 @@ fn with_room(t: Runs, table: Table, n: usize, d: usize) -> Runs
     )
 }
 
+// The more bonds hold, the fewer components count.
 fn densities(t: Runs, n: usize, d: usize) -> Runs
     requires { ⌜ n ≤ 4096 ⌝ }
     requires { ⌜ d ≤ 4 ⌝ }
@@ -111,7 +130,7 @@ fn densities(t: Runs, n: usize, d: usize) -> Runs
     let mut u = t;
     let mut p: u32 = 0;
     while p < 9 {
-        u = with_room(u, Table::Drawn(p), n, d);
+        u = with_room(u, Table::Drawn(p), 8 - p, n, d);
         p += 1;
     }
     u
@@ -139,14 +158,14 @@ fn small(t: Runs) -> Runs {
     u
 }
 
-// The shapes on n sites in rows of w.
+// The shapes on n sites in rows of w. All their components count.
 fn shapes(t: Runs, n: usize, w: usize) -> Runs
     requires { ⌜ n ≤ 4096 ⌝ }
 {
-    let a = with_room(t, Table::Spiral(w), n, 2);
-    let b = with_room(a, Table::Comb(w), n, 2);
-    let c = with_room(b, Table::Backwards, n, 1);
-    with_room(c, Table::Leaping, n, 1)
+    let a = with_room(t, Table::Spiral(w), 8, n, 2);
+    let b = with_room(a, Table::Comb(w), 8, n, 2);
+    let c = with_room(b, Table::Backwards, 8, n, 1);
+    with_room(c, Table::Leaping, 8, n, 1)
 }
 
 fn heights(t: Runs, w: usize) -> Runs

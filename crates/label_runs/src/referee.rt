@@ -9,6 +9,10 @@ fn get(xs: &[u32], i: usize) -> u32 {
     if i < xs.len() { xs[i] } else { 0 }
 }
 
+fn is_one(xs: &[u8], i: usize) -> bool {
+    if i < xs.len() { xs[i] == 1 } else { false }
+}
+
 pub(crate) fn put(xs: &mut [u32], i: usize, x: u32) {
     if i < xs.len() {
         xs[i] = x;
@@ -132,10 +136,10 @@ fn take_one(yes: bool, counts: &mut [u32], s: usize) {
     }
 }
 
-fn take_all(tally: &[u32], counts: &mut [u32]) {
+fn take_all(tally: &[u32], counted: &[u8], counts: &mut [u32]) {
     let mut i = 0;
     while i < tally.len() {
-        take_one(tally[i] != 0, counts, wide(tally[i]));
+        take_one((tally[i] != 0) & is_one(counted, i), counts, wide(tally[i]));
         i += 1;
     }
 }
@@ -150,9 +154,9 @@ fn all_zero(xs: &[u32]) -> bool {
     ok
 }
 
-// Takes each component away from the counts: nothing may be left.
-fn counts_right(tally: &[u32], counts: &mut [u32]) -> bool {
-    take_all(tally, counts);
+// Takes each component that is counted away from the counts: nothing may be left.
+fn counts_right(tally: &[u32], counted: &[u8], counts: &mut [u32]) -> bool {
+    take_all(tally, counted, counts);
     all_zero(counts)
 }
 
@@ -161,6 +165,7 @@ pub(crate) fn right(
     d: usize,
     fwd: &[u32],
     holds: &[u8],
+    counted: &[u8],
     labels: &[u32],
     counts: &mut [u32],
     sizes: &[u32],
@@ -170,5 +175,5 @@ pub(crate) fn right(
     let settled = settle(d, fwd, holds, marks);
     gather(marks, tally);
     let fine = sizes_right(counts, sizes);
-    settled & fine & same(labels, marks) & counts_right(tally, counts)
+    settled & fine & same(labels, marks) & counts_right(tally, counted, counts)
 }

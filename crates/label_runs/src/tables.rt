@@ -45,12 +45,13 @@ fn byte(yes: bool) -> u8 {
     if yes { 1 } else { 0 }
 }
 
-fn fill_holds(seed: u64, p: u32, holds: &mut [u8]) -> u64 {
+// So many bytes of eight are 1; at 8, all are.
+pub(crate) fn fill_bytes(seed: u64, p: u32, bytes: &mut [u8]) -> u64 {
     let mut s = seed;
     let mut i = 0;
-    while i < holds.len() {
+    while i < bytes.len() {
         s = next(s);
-        holds[i] = byte(draw(s, 8) < p);
+        bytes[i] = byte(draw(s, 8) < p);
         i += 1;
     }
     s
@@ -164,7 +165,7 @@ pub(crate) fn fill(table: Table, seed: u64, n: usize, fwd: &mut [u32], holds: &m
     match table {
         Table::Drawn(p) => {
             let s = fill_fwd(seed, narrow(n), fwd);
-            return fill_holds(s, p, holds);
+            return fill_bytes(s, p, holds);
         }
         Table::Spiral(w) => fill_grid(true, n, w, fwd, holds),
         Table::Comb(w) => fill_grid(false, n, w, fwd, holds),

@@ -19,7 +19,7 @@ use Rattle.paper.specs.Move.Moving.{reached, final, Moves}
 use Rattle.paper.specs.Refusal.Rules.{AllSystems, Spins, Exact, Seeded, Permutes}
 use Rattle.paper.specs.Refusal.Kept.{Valid, valid-of, valid-kept}
 use Rattle.paper.specs.Answer.Move.{Seen, Goes, Answers, Accepted, Accepted.idle, Accepted.moved}
-use Rattle.laws.specs.Unique.{GroupIs, OthersOf, label-lt, spins-equal, labels-ext}
+use Rattle.laws.specs.Unique.{GroupIs, OthersOf, label-lt, spins-equal, labels-ext, counts-ext, sizes-ext}
 use Rattle.laws.specs.Entries.{permOf, form-moves, perms-of}
 use Rattle.laws.specs.Local.{Agree, Alike, acts-local, holds-local, grey-local, final-local}
 
@@ -97,10 +97,13 @@ module _ {c : Call} {p : Choices} {b : Buffers} {xs : List ℤ} (s : Instead c b
     labels = labels-ext (graph c) (holds c (b .spins)) (holds c xs) (b′ .labels) blue (w .labels);
     grey-labels = λ t. labels-ext (graph c) (holdsGrey c (b .spins)) (holdsGrey c xs) (b′ .greyLabels) (grey t) (w .grey-labels t);
     grey-kept = w .grey-kept;
-    counts = w .counts;
-    sizes = w .sizes;
+    counts = counts-ext (b′ .labels) marks (w .counts);
+    sizes = sizes-ext (b′ .labels) marks (w .sizes);
   }
     where
+      marks : (i : ℕ) → i < length (b′ .labels) → acts c (b .spins) i ≡ acts c xs i
+      marks i h = sym (acts-same i (rw (w .labels .long) at h))
+
       blue : (i e : ℕ) → i < c .lattice .n → e < c .lattice .d → holds c (b .spins) i e ≡ holds c xs i e
       blue i e hi he = sym (holds-local c xs (b .spins) alike i e hi he)
 

@@ -16,7 +16,7 @@ use Rattle.paper.specs.Site.Acting.{acts, NoneActs}
 use Rattle.paper.specs.Site.Bonds.{holds, holdsGrey}
 use Rattle.paper.specs.Component.Links.{Linked.stay, Linked.along, Linked.against}
 use Rattle.paper.specs.Component.Labels.{Bond, Joined, Labels}
-use Rattle.paper.specs.Component.Sizes.{labelOf, everyOne, ofSize, atLeast, Counted, Rank, Largest}
+use Rattle.paper.specs.Component.Sizes.{labelOf, ofSize, atLeast, Counted, Rank, Largest}
 use Rattle.paper.specs.Move.Moving.{final}
 use Rattle.paper.specs.Refusal.Rule.{Kept}
 use Rattle.paper.specs.Refusal.Rules.{When, rules}
@@ -116,8 +116,8 @@ pub record Worked (c : Call) (p : Choices) (b b′ : Buffers) (blue grey : List 
   pub others : (t : ℕ) → t < c .lattice .s → InGroup c t ⊎ Untouched c (b .spins) (b′ .spins) t
   pub labels : Forest (graph c) (holds c (b .spins)) blue (b′ .labels)
   pub grey-labels : When (takesGreys c) (Forest (graph c) (holdsGrey c (b .spins)) grey (b′ .greyLabels))
-  pub counts : Counted everyOne (b′ .labels) (b′ .counts)
-  pub sizes : Largest everyOne (b′ .labels) (b′ .sizes)
+  pub counts : Counted (acts c (b .spins)) (b′ .labels) (b′ .counts)
+  pub sizes : Largest (acts c (b .spins)) (b′ .labels) (b′ .sizes)
 
 abbrev pub worked : (c : Call) (p : Choices) (b b′ : Buffers) (blue grey : List ℕ) → Decided (Worked c p b b′ blue grey)
 worked c p b b′ blue grey =
@@ -141,8 +141,8 @@ worked c p b b′ blue grey =
     (all (c .lattice .n) (λ i. same (spin (c .lattice .n) (b′ .spins) t i) (spin (c .lattice .n) (b .spins) t i)))))
     (both (forest (graph c) (holds c (b .spins)) blue (b′ .labels))
     (both (when (takesGreys c) (forest (graph c) (holdsGrey c (b .spins)) grey (b′ .greyLabels)))
-    (both (counted everyOne (b′ .labels) (b′ .counts))
-    (largest everyOne (b′ .labels) (b′ .sizes)))))))))
+    (both (counted (acts c (b .spins)) (b′ .labels) (b′ .counts))
+    (largest (acts c (b .spins)) (b′ .labels) (b′ .sizes)))))))))
 
 module _
     (c : Call) (p : Choices) (b b′ : Buffers) (blue grey : List ℕ)

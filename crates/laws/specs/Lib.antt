@@ -11,6 +11,7 @@ pub mod Determined
 pub mod Sanity
 pub mod MovesExist
 pub mod Acting
+pub mod Counting
 pub mod Entries
 pub mod Local
 pub mod AnswersLocal

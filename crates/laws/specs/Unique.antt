@@ -1,6 +1,6 @@
 -- Labels, counts, sizes and moved spins are each determined.
 use Prim.Native.Nat.{ℕ, _+_, _/_, _%_, _≤_, _<_}
-use mathlib.Core.Path.{_≡_, sym, _∙_}
+use mathlib.Core.Path.{_≡_, sym, _∙_, ap}
 use mathlib.Core.Logic.{_⊎_, inl, inr, _↔_}
 use mathlib.Core.Bool.{Bool, true, false, _&&_}
 use mathlib.Core.List.{List}
@@ -9,16 +9,16 @@ use native.Mathlib.Decide.{decLe}
 use native.Mathlib.Numerals.{add-one-le}
 use native.Mathlib.Omega.{arith}
 use borrow.Author.Tests.{leb-true, le-leb}
-use lib.Dec.{leb}
+use lib.Dec.{eqb, leb}
 use lib.ListN.{length, getD}
 use lib.Seq.{ext-getD}
 use lib.IntN.{ℤ, pos}
-use Rattle.lemmas.specs.Counts.{count-le}
+use Rattle.lemmas.specs.Counts.{countWhere, count-ext, count-le}
 use Rattle.lemmas.specs.Places.{Placed, Unplaced, place}
 use Rattle.paper.specs.Component.Links.{Linked.stay, trans, back, Linked.along, Within, bind}
 use Rattle.paper.specs.Panel.Input.{Graph, Call, Choices, Pattern, spin, pattern, size, system}
 use Rattle.paper.specs.Component.Labels.{Joined, Labels, Bond}
-use Rattle.paper.specs.Component.Sizes.{counted, sizeOf, atLeast, Counted, Rank, Largest}
+use Rattle.paper.specs.Component.Sizes.{labelOf, counted, sizeOf, atLeast, Counted, Rank, Largest}
 use Rattle.paper.specs.Move.Moving.{Moves}
 
 -- ---- labels
@@ -75,6 +75,27 @@ sizes-unique {mark} l s₁ s₂ h₁ h₂ = ext-getD 0 s₁ s₂ (h₁ .long ∙
   where
     same : (t : ℕ) → t < 4 → getD s₁ t 0 ≡ getD s₂ t 0
     same t k = le-antisymm (rank-le mark l t _ _ (h₁ .each t k) (h₂ .each t k)) (rank-le mark l t _ _ (h₂ .each t k) (h₁ .each t k))
+
+-- counts and sizes depend on the marks of the sites alone
+module _ {f g : ℕ → Bool} (l : List ℕ) (same : (r : ℕ) → r < length l → f r ≡ g r) where
+  passing : (test : ℕ → Bool)
+      → countWhere (λ r. counted f l r && test (sizeOf l r)) (length l) ≡ countWhere (λ r. counted g l r && test (sizeOf l r)) (length l)
+  passing test =
+      count-ext (λ r. counted f l r && test (sizeOf l r)) (λ r. counted g l r && test (sizeOf l r)) (length l)
+      (λ r rl. ap (λ (b : Bool). (eqb (labelOf l r) r && b) && test (sizeOf l r)) (same r rl))
+
+  pub counts-ext : {counts : List ℕ} → Counted f l counts → Counted g l counts
+  counts-ext h = record { long = h .long; zeroth = h .zeroth; each = λ s sl. h .each s sl ∙ passing (λ x. eqb x s) }
+
+  rank : (t a : ℕ) → Rank f l t a → Rank g l t a
+  rank t a w = record { larger = rw (← passing (leb (a + 1))) (w .larger); reached = go (w .reached) }
+    where
+      go : (a ≡ 0) ⊎ (t < atLeast f l a) → (a ≡ 0) ⊎ (t < atLeast g l a)
+      go (inl e) = inl e
+      go (inr k) = inr (rw (← passing (leb a)) k)
+
+  pub sizes-ext : {sizes : List ℕ} → Largest f l sizes → Largest g l sizes
+  sizes-ext h = record { long = h .long; each = λ t tl. rank t _ (h .each t tl) }
 
 -- ---- spins: a number is f of some place below m, or of none
 -- the system t is not in the group

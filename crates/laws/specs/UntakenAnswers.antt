@@ -3,6 +3,7 @@ use Prim.Native.Nat.{ℕ, _<_}
 use mathlib.Core.Path.{_≡_, refl, sym, _∙_, ap, subst}
 use mathlib.Core.Logic.{_↔_}
 use mathlib.Core.Bool.{Bool, true, false, cond}
+use lib.ListN.{length}
 use Rattle.lemmas.specs.Bools.{never, and-right}
 use Rattle.paper.specs.declared.Mode.{Mode}
 use Rattle.paper.specs.declared.Mode.the-variants.{Houd, Pair, Perm, Gperm, Jorg, Cmr}
@@ -19,7 +20,7 @@ use Rattle.paper.specs.Refusal.Rules.{Permutes, rules}
 use Rattle.paper.specs.Refusal.Kept.{Valid, valid-of}
 use Rattle.paper.specs.Answer.Move.{Seen, Answers}
 use Rattle.paper.specs.Answer.Same.{SameCall, SameTaken, SameLent, written, left}
-use Rattle.laws.specs.Unique.{label-lt, labels-ext}
+use Rattle.laws.specs.Unique.{label-lt, labels-ext, counts-ext, sizes-ext}
 use Rattle.laws.specs.Determined.{buffers-equal}
 use Rattle.laws.specs.Matched.{matched-kept, matched-broken}
 use Rattle.laws.specs.Untaken.{over, is-over, onto, acts-same, holds-same, grey-same, final-same, pattern-same}
@@ -44,10 +45,13 @@ module _ {c a : Call} {p o : Choices} (same : SameTaken c p a o) {b d : Buffers}
       labels = labels-ext (graph c) (holds c (b .spins)) (holds (over c a) (b .spins)) (b′ .labels) blue (w .labels);
       grey-labels = λ t. rw t (labels-ext (graph c) (holdsGrey c (b .spins)) (holdsGrey (over c a) (b .spins)) (b′ .greyLabels) (grey t) (w .grey-labels t));
       grey-kept = λ t. rw t refl;
-      counts = w .counts;
-      sizes = w .sizes;
+      counts = counts-ext (b′ .labels) marks (w .counts);
+      sizes = sizes-ext (b′ .labels) marks (w .sizes);
     }
       where
+        marks : (i : ℕ) → i < length (b′ .labels) → acts c (b .spins) i ≡ acts (over c a) (b .spins) i
+        marks i _ = sym (acts-same (same .call) (b .spins) i)
+
         blue : (i e : ℕ) → i < c .lattice .n → e < c .lattice .d → holds c (b .spins) i e ≡ holds (over c a) (b .spins) i e
         blue i e hi he = sym (holds-same (same .call) (b .spins) (v .sound .ranged .cmr-two) i e)
 

@@ -18,17 +18,16 @@ use Rattle.paper.specs.Panel.Made.{callOf}
 use Rattle.paper.specs.Panel.Takes.{isDrawn, isCmr, moves}
 use Rattle.paper.specs.Site.Acting.{acts}
 use Rattle.paper.specs.Site.Bonds.{samplerOf, jorgHolds, kindOf, blueHolds, greyHolds, bothAct, couplingAt, cutAt, kindAt, holdsBy, holds, holdsGrey}
-use Rattle.paper.specs.Component.Sizes.{everyOne}
 use Rattle.paper.specs.Component.Labels.{Labels}
 use Rattle.paper.specs.Component.Marks.{Flags, Marks, marked}
 use Rattle.laws.specs.Local.{Agree, kind-ext}
-use Rattle.laws.specs.Unique.{labels-ext}
+use Rattle.laws.specs.Unique.{labels-ext, counts-ext, sizes-ext}
 use Rattle.columns.specs.Column.{shown, Columns}
 use Rattle.columns.specs.Laws.{columns-shown}
 use Rattle.bonds.specs.Laws.{jorg-ext}
 use Rattle.bonds.specs.Table.{bothActing, jorgAt, blueAt, greyAt, CmrOut}
 use Rattle.column_rules.specs.Sight.{Sights, flag-at, acts-flags, acts-tells}
-use Rattle.label.specs.Contract.{Labelled, Reported}
+use Rattle.label.specs.Contract.{isOne, Labelled, Reported}
 use Rattle.moves.specs.Tested.{Tested, TestedFor}
 use Rattle.moves.specs.Looked.{mark-at}
 use Rattle.moves.specs.Steps.{heldAt, HoldLeaves, LabelLeaves}
@@ -164,13 +163,17 @@ module _
     {t : Task} {fwd : List ℕ} {couplings : List ℤ} {cuts : List Float} {xs : List ℤ} {cols flags holding grey tally labels counts sizes : List ℕ} {r : Bool}
     (bwd : List ℕ) (h : HoldLeaves t fwd couplings cuts flags cols holding grey) (tested : Tested (t .mode) (t .n) (t .d) fwd (t .group) xs)
     (s : Sights (t .mode) (t .n) (t .group) (t .reference) xs cols flags r)
-    (l : Labelled (t .n) (t .d) fwd holding labels tally) (o : Reported everyOne labels counts sizes)
+    (l : Labelled (t .n) (t .d) fwd holding labels tally) (o : Reported (isOne flags) labels counts sizes)
   where
     abbrev c : Call
     c = callOf t fwd bwd couplings cuts
 
     acting : Flags (t .n) (acts c xs) flags
     acting = acts-flags c xs flags (s .flagged)
+
+    -- the bytes that the components were counted by are those of the acting sites
+    marks : (r : ℕ) → r < length labels → isOne flags r ≡ acts c xs r
+    marks r h = flag-at (t .n) (acts c xs) flags acting r (rw (l .labels .long) at h)
 
     pub label-leaves : LabelLeaves c xs cols flags grey tally labels counts sizes r
     label-leaves = record {
@@ -181,6 +184,6 @@ module _
       grey-held = λ e m. grey-marks c xs tested flags cols acting (s .columns) grey e (h .grey-held e m);
       grey-long = h .grey-long;
       tallied = l .sized;
-      counted = o .counted;
-      largest = o .largest;
+      counted = counts-ext labels marks (o .counted);
+      largest = sizes-ext labels marks (o .largest);
     }

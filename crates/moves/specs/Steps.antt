@@ -15,7 +15,7 @@ use Rattle.paper.specs.Panel.Takes.{isPerm, isGperm, isCmr, isDrawn, isWolff, m
 use Rattle.paper.specs.Site.Acting.{acts, SomeActs}
 use Rattle.paper.specs.Site.Bonds.{samplerOf, holds, holdsGrey}
 use Rattle.paper.specs.Component.Labels.{Labels}
-use Rattle.paper.specs.Component.Sizes.{labelOf, everyOne, Sized, Counted, Largest}
+use Rattle.paper.specs.Component.Sizes.{labelOf, Sized, Counted, Largest}
 use Rattle.paper.specs.Component.Marks.{Flags, Marks, marked}
 use Rattle.paper.specs.Move.Moving.{greyAt}
 use Rattle.paper.specs.Refusal.Rules.{Distinct}
@@ -78,8 +78,8 @@ pub record LabelLeaves (c : Call) (xs : List ℤ) (cols flags grey tally labels 
   pub grey-held : isCmr (c .mode) ≡ true → moves (c .form) ≡ true → Marks (c .lattice .n) (c .lattice .d) (holdsGrey c xs) grey
   pub grey-long : length grey ≡ c .lattice .n * c .lattice .d
   pub tallied : Sized labels tally
-  pub counted : Counted everyOne labels counts
-  pub largest : Largest everyOne labels sizes
+  pub counted : Counted (acts c xs) labels counts
+  pub largest : Largest (acts c xs) labels sizes
 
 -- ---- choose: the new columns. Of the labels it needs a key for each site, below n, and how many sites have it
 pub record Choosable (t : Task) (flags labels tally choices reached cols : List ℕ) : Type 0 where

@@ -66,7 +66,7 @@ fn hold(
     }
 }
 
-// Labels the components of the group's bonds. True where some site acts.
+// Labels the components of the group's bonds, and counts those that act. True where some site acts.
 fn label_task(
     t: Task,
     spins: &[i8],
@@ -94,9 +94,7 @@ fn label_task(
     let some = column_rules::look(mode, n, spins, group, t.reference, cols, acts);
     hold(t, fwd, couplings, cuts, acts, cols, holds, grey);
     label::label(n, t.d, fwd, holds, labels, tally);
-    // every component is counted, also a site that does not act
-    let every = [1u8; 4096];
-    label::count(labels, tally, &every[..n], counts, sizes);
+    label::count(labels, tally, acts, counts, sizes);
     some
 }
 

@@ -40,21 +40,21 @@ before2 spins = buffers spins (9 ∷ 9 ∷ []) (9 ∷ 9 ∷ 9 ∷ []) (9 ∷ 9 �
 -- "Following forward neighbours only, so a patch splits": site 2's bond leads back to site 0, and these two alone act
 pub patch-whole :
     Answers (plain Perm Sw ring (first 2)) (permuting (1 ∷ 0 ∷ 1 ∷ 0 ∷ 1 ∷ 0 ∷ [])) (before3 (+ ∷ + ∷ + ∷ - ∷ + ∷ - ∷ [])) Moved
-    (buffers (- ∷ + ∷ - ∷ + ∷ + ∷ + ∷ []) (0 ∷ 1 ∷ 0 ∷ []) (0 ∷ 1 ∷ 1 ∷ 0 ∷ []) (2 ∷ 1 ∷ 0 ∷ 0 ∷ []))
+    (buffers (- ∷ + ∷ - ∷ + ∷ + ∷ + ∷ []) (0 ∷ 1 ∷ 0 ∷ []) (0 ∷ 0 ∷ 1 ∷ 0 ∷ []) (2 ∷ 0 ∷ 0 ∷ 0 ∷ []))
 unfolding every any holds acts differs sizeOf countWhere reached final
 patch-whole =
     goes-by (plain Perm Sw ring (first 2)) (permuting (1 ∷ 0 ∷ 1 ∷ 0 ∷ 1 ∷ 0 ∷ [])) (before3 (+ ∷ + ∷ + ∷ - ∷ + ∷ - ∷ []))
-    (buffers (- ∷ + ∷ - ∷ + ∷ + ∷ + ∷ []) (0 ∷ 1 ∷ 0 ∷ []) (0 ∷ 1 ∷ 1 ∷ 0 ∷ []) (2 ∷ 1 ∷ 0 ∷ 0 ∷ []))
+    (buffers (- ∷ + ∷ - ∷ + ∷ + ∷ + ∷ []) (0 ∷ 1 ∷ 0 ∷ []) (0 ∷ 0 ∷ 1 ∷ 0 ∷ []) (2 ∷ 0 ∷ 0 ∷ 0 ∷ []))
     (0 ∷ 0 ∷ 0 ∷ []) [] refl (λ _. refl) refl
 
 -- a component's choice is the one at its label: sites 1 and 2 read entry 1
 pub choice-at-label :
     Answers (plain Perm Sw ring (first 2)) (permuting (0 ∷ 1 ∷ 1 ∷ 0 ∷ 0 ∷ 1 ∷ [])) (before3 (+ ∷ + ∷ + ∷ + ∷ - ∷ - ∷ [])) Moved
-    (buffers (+ ∷ - ∷ - ∷ + ∷ + ∷ + ∷ []) (0 ∷ 1 ∷ 1 ∷ []) (0 ∷ 1 ∷ 1 ∷ 0 ∷ []) (2 ∷ 1 ∷ 0 ∷ 0 ∷ []))
+    (buffers (+ ∷ - ∷ - ∷ + ∷ + ∷ + ∷ []) (0 ∷ 1 ∷ 1 ∷ []) (0 ∷ 0 ∷ 1 ∷ 0 ∷ []) (2 ∷ 0 ∷ 0 ∷ 0 ∷ []))
 unfolding every any holds acts differs sizeOf countWhere reached final
 choice-at-label =
     goes-by (plain Perm Sw ring (first 2)) (permuting (0 ∷ 1 ∷ 1 ∷ 0 ∷ 0 ∷ 1 ∷ [])) (before3 (+ ∷ + ∷ + ∷ + ∷ - ∷ - ∷ []))
-    (buffers (+ ∷ - ∷ - ∷ + ∷ + ∷ + ∷ []) (0 ∷ 1 ∷ 1 ∷ []) (0 ∷ 1 ∷ 1 ∷ 0 ∷ []) (2 ∷ 1 ∷ 0 ∷ 0 ∷ []))
+    (buffers (+ ∷ - ∷ - ∷ + ∷ + ∷ + ∷ []) (0 ∷ 1 ∷ 1 ∷ []) (0 ∷ 0 ∷ 1 ∷ 0 ∷ []) (2 ∷ 0 ∷ 0 ∷ 0 ∷ []))
     (0 ∷ 1 ∷ 1 ∷ []) [] refl (λ _. refl) refl
 
 -- "Drawing one permutation for the whole panel": two sites, each joined to itself, exchange and stay
@@ -73,7 +73,7 @@ abbrev gaugedBy0 : Call
 gaugedBy0 = plain Gperm Sw (twins []) (first 2)
 
 abbrev gaugedAfter : Buffers
-gaugedAfter = buffers (+ ∷ - ∷ - ∷ - ∷ []) (0 ∷ 1 ∷ []) (0 ∷ 2 ∷ 0 ∷ []) (1 ∷ 1 ∷ 0 ∷ 0 ∷ [])
+gaugedAfter = buffers (+ ∷ - ∷ - ∷ - ∷ []) (0 ∷ 1 ∷ []) (0 ∷ 1 ∷ 0 ∷ []) (1 ∷ 0 ∷ 0 ∷ 0 ∷ [])
 
 pub gauge-kept : Answers gaugedBy0 (permuting (1 ∷ 0 ∷ 1 ∷ 0 ∷ [])) (before2 (+ ∷ + ∷ - ∷ + ∷ [])) Moved gaugedAfter
 unfolding every any holds acts differs sizeOf countWhere reached final
@@ -97,11 +97,14 @@ pub sw-single : Answers (single Sw) (flipping (1 ∷ [])) (single1 (+ ∷ - ∷ 
 unfolding every any holds acts pairDiffers sizeOf countWhere other reached final
 sw-single = goes-by (single Sw) (flipping (1 ∷ [])) (single1 (+ ∷ - ∷ [])) (single1 (+ ∷ - ∷ [])) [] [] refl (λ _. refl) refl
 
--- no site acts: idle, and the outputs are written
-pub idle-written : Answers (single Wolff) (flipping []) (buffers (+ ∷ + ∷ []) (9 ∷ []) (9 ∷ 9 ∷ []) (9 ∷ 9 ∷ 9 ∷ 9 ∷ [])) Idle (single1 (+ ∷ + ∷ []))
+-- no site acts: idle, and the outputs are written. No component is counted
+abbrev idle1 : Buffers
+idle1 = buffers (+ ∷ + ∷ []) (0 ∷ []) (0 ∷ 0 ∷ []) (0 ∷ 0 ∷ 0 ∷ 0 ∷ [])
+
+pub idle-written : Answers (single Wolff) (flipping []) (buffers (+ ∷ + ∷ []) (9 ∷ []) (9 ∷ 9 ∷ []) (9 ∷ 9 ∷ 9 ∷ 9 ∷ [])) Idle idle1
 unfolding every any holds acts pairDiffers sizeOf countWhere other reached final
 idle-written =
-    rests-by (single Wolff) (flipping []) (buffers (+ ∷ + ∷ []) (9 ∷ []) (9 ∷ 9 ∷ []) (9 ∷ 9 ∷ 9 ∷ 9 ∷ [])) (single1 (+ ∷ + ∷ []))
+    rests-by (single Wolff) (flipping []) (buffers (+ ∷ + ∷ []) (9 ∷ []) (9 ∷ 9 ∷ []) (9 ∷ 9 ∷ 9 ∷ 9 ∷ [])) idle1
     [] [] refl (λ _. refl) refl refl
 
 -- two bonds of one pair have a cut each: the second joins where the first does not

@@ -68,8 +68,8 @@ after = record {
   spins = + ∷ + ∷ - ∷ + ∷ + ∷ - ∷ - ∷ - ∷ [];
   labels = 0 ∷ 0 ∷ 0 ∷ 9 ∷ [];
   greyLabels = [];
-  counts = 0 ∷ 1 ∷ 0 ∷ 1 ∷ 0 ∷ 1 ∷ 9 ∷ 9 ∷ [];
-  sizes = 1 ∷ 0 ∷ 0 ∷ 0 ∷ 1 ∷ 0 ∷ 0 ∷ 0 ∷ 1 ∷ 0 ∷ 0 ∷ 0 ∷ 9 ∷ 9 ∷ 9 ∷ 9 ∷ [];
+  counts = 0 ∷ 0 ∷ 0 ∷ 1 ∷ 0 ∷ 1 ∷ 9 ∷ 9 ∷ [];
+  sizes = 0 ∷ 0 ∷ 0 ∷ 0 ∷ 1 ∷ 0 ∷ 0 ∷ 0 ∷ 1 ∷ 0 ∷ 0 ∷ 0 ∷ 9 ∷ 9 ∷ 9 ∷ 9 ∷ [];
 }
 
 -- task k's rows after the sweep are those of ys, by computing

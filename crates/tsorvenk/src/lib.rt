@@ -204,22 +204,23 @@ fn labelling_number(answer: Labelling) -> u8
     }
 }
 
-// The components of the bonds whose byte in `holds` is 1.
+// The components of the bonds whose byte in `holds` is 1. Counts and sizes are of those whose smallest site has a byte 1 in `counted`.
 #[no_mangle]
 pub extern "C" fn tsorvenk_label(
     n: usize,
     d: usize,
     fwd: &[u32],
     holds: &[u8],
+    counted: &[u8],
     labels: &mut [u32],
     counts: &mut [u32],
     sizes: &mut [u32],
 ) -> u8
     ensures { λ r. ⌜ LabelAnswers
-        (record { n = n; d = d; fwd = now (fwd .entry); holds = now (holds .entry) })
+        (record { n = n; d = d; fwd = now (fwd .entry); holds = now (holds .entry); counted = now (counted .entry) })
         (record { labels = now (labels .entry); counts = now (counts .entry); sizes = now (sizes .entry) })
         r
         (record { labels = now (labels .exit); counts = now (counts .exit); sizes = now (sizes .exit) }) ⌝ }
 {
-    labelling_number(label::components(n, d, fwd, holds, labels, counts, sizes))
+    labelling_number(label::components(n, d, fwd, holds, counted, labels, counts, sizes))
 }

@@ -136,12 +136,14 @@ pub struct Meter<'a> {
     pub system: usize,
 }
 
-/// Labels, counts and the four sizes of a table of holding bonds (1 holds, 0 does not).
+/// Labels of a table of holding bonds (1 holds, 0 does not), and counts and the four sizes of those components whose smallest site has
+/// the byte 1 in `counted`.
 pub struct Label<'a> {
     pub n: usize,
     pub d: usize,
     pub fwd: &'a [u32],
     pub holds: &'a [u8],
+    pub counted: &'a [u8],
     pub labels: &'a mut [u32],
     pub counts: &'a mut [u32],
     pub sizes: &'a mut [u32],

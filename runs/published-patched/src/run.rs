@@ -20,7 +20,7 @@ pub struct Prepared {
     branch: Branch,
     sources: Vec<Xoshiro256StarStar>,
     pub(crate) counts: Vec<Vec<u64>>,
-    top4: Vec<[u32; 4]>,
+    pub(crate) top4: Vec<[u32; 4]>,
     pub(crate) labels: Vec<Vec<u32>>,
     pub(crate) blue_labels: Vec<Vec<u32>>,
     /// Lends the blue labels even where no other output is lent.

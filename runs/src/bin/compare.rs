@@ -40,12 +40,12 @@ impl Run {
         let mut case = make::single(&mut rand, mode, form, size);
         let found = compare::single(&case, self.port.as_mut(), line);
         self.note(found);
-        if let Some(port) = self.port.as_mut() {
-            let bonds = case.panel.n * case.panel.d;
-            let holds: Vec<u8> = (0..bonds).map(|_| rand.range(0, 1) as u8).collect();
-            let found = compare::labelling(&case, &holds, port.as_mut(), line);
-            self.note(found);
-        }
+        let mut bonds = make::bonds(&mut rand, &case.panel);
+        let found = compare::labelling(&bonds, self.port.as_mut(), line);
+        self.note(found);
+        damage::bonds(&mut rand, &mut bonds);
+        let found = compare::damaged_labelling(&bonds, self.port.as_mut(), line);
+        self.note(found);
         damage::single(&mut rand, &mut case);
         let found = compare::damaged_single(&case, self.port.as_mut(), line);
         self.note(found);

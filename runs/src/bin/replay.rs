@@ -4,6 +4,7 @@ use calls::{Answer, Form, Mode, Port, SweepAnswer};
 use std::io::Read;
 use std::process::ExitCode;
 use tsorvenk_runs::case::{Lent, Single, Swept};
+use tsorvenk_runs::idle;
 use tsorvenk_runs::make::{self, Size};
 use tsorvenk_runs::model::Model;
 use tsorvenk_runs::port;
@@ -122,7 +123,7 @@ fn lattice_marks(case: &Swept) -> u8 {
     SELF_BOND * u8::from(own) + DOUBLE_BOND * u8::from(double)
 }
 
-/// The Rust's answer to a case.
+/// The Rust's answer to a case, with the sites that do not act taken out of what is counted.
 fn answered(single: bool, case: Swept) -> Entry {
     let n = case.panel.n;
     let acting = acting(&case);
@@ -132,6 +133,9 @@ fn answered(single: bool, case: Swept) -> Entry {
         published_patched::Branch::UnionFind,
         true,
     );
+    for (task, acts) in &acting {
+        idle::take_out_of_task(acts, *task, &mut after);
+    }
     let idle = acting.iter().filter(|(_, a)| !a.contains(&true)).count();
     let alone = acting.iter().any(|(task, acts)| {
         let labels = &after.labels[task * n..(task + 1) * n];

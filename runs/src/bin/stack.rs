@@ -55,13 +55,14 @@ fn run(port: &mut dyn Port) {
     let panel = timing::panel(&mut rand, Mode::Jorg, Form::Observe, 4, 64);
     let case = timing::single(&mut rand, panel, 2);
     line("meter", || port.energy(case.meter(63)));
-    let (fwd, holds) = (torus(4), vec![1; 4 * N]);
+    let (fwd, holds, counted) = (torus(4), vec![1; 4 * N], vec![1; N]);
     let (mut labels, mut counts, mut sizes) = (vec![0; N], vec![0; N + 1], vec![0; 4]);
     let call = Label {
         n: N,
         d: 4,
         fwd: &fwd,
         holds: &holds,
+        counted: &counted,
         labels: &mut labels,
         counts: &mut counts,
         sizes: &mut sizes,

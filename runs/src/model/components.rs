@@ -25,18 +25,25 @@ pub fn component_sizes(labels: &[usize]) -> Vec<usize> {
     sizes
 }
 
-pub fn counts(labels: &[usize]) -> Vec<u32> {
-    let mut counts = vec![0; labels.len() + 1];
+/// The sizes of those components that count, which their smallest sites say.
+fn counted_sizes(labels: &[usize], counted: &[bool]) -> Vec<usize> {
     let sizes = component_sizes(labels);
-    sizes
-        .iter()
-        .filter(|&&size| size > 0)
-        .for_each(|&size| counts[size] += 1);
+    (0..labels.len())
+        .filter(|&site| labels[site] == site && counted[site])
+        .map(|site| sizes[site])
+        .collect()
+}
+
+pub fn counts(labels: &[usize], counted: &[bool]) -> Vec<u32> {
+    let mut counts = vec![0; labels.len() + 1];
+    for size in counted_sizes(labels, counted) {
+        counts[size] += 1;
+    }
     counts
 }
 
-pub fn four_largest(labels: &[usize]) -> [u32; 4] {
-    let mut sizes = component_sizes(labels);
+pub fn four_largest(labels: &[usize], counted: &[bool]) -> [u32; 4] {
+    let mut sizes = counted_sizes(labels, counted);
     sizes.sort_by(|a, b| b.cmp(a));
     std::array::from_fn(|k| sizes.get(k).map_or(0, |&size| size as u32))
 }

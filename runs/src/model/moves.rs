@@ -6,6 +6,8 @@ use calls::{Form, Mode};
 
 pub struct Outcome {
     pub idle: bool,
+    /// In CMR every site.
+    pub acting: Vec<bool>,
     pub labels: Vec<usize>,
     pub grey_labels: Option<Vec<usize>>,
     /// Spins of the group after the move: site by site, member by member.
@@ -114,7 +116,8 @@ pub fn outcome(panel: Panel, task: &Task) -> Outcome {
     let first = Components::new(panel, task, false);
     let grey = (task.mode == Mode::Cmr && task.form != Form::Observe)
         .then(|| Components::new(panel, task, true));
-    let idle = (0..panel.n).all(|i| !acts(panel, task, i));
+    let acting: Vec<bool> = (0..panel.n).map(|i| acts(panel, task, i)).collect();
+    let idle = !acting.contains(&true);
     let after = |i: usize| match (task.mode, &grey) {
         _ if idle => column(panel, &task.group, i),
         (Mode::Perm | Mode::Gperm, _) => permuted(panel, task, &first, i),
@@ -123,6 +126,7 @@ pub fn outcome(panel: Panel, task: &Task) -> Outcome {
     };
     Outcome {
         idle,
+        acting,
         columns: (0..panel.n).map(after).collect(),
         labels: first.labels,
         grey_labels: grey.map(|grey| grey.labels),

@@ -1,7 +1,8 @@
 //! Calls written by hand, run by the model and by the Rust and the port where they are there.
 #![allow(dead_code)] // Each test file uses a part.
 use calls::{Answer, Form, Mode, SweepAnswer};
-use tsorvenk_runs::case::{Choices, Lent, Panel, Single, Swept};
+use tsorvenk_runs::case::{Bonds, Choices, Lent, Panel, Single, Swept};
+use tsorvenk_runs::idle;
 use tsorvenk_runs::lattices::backward;
 use tsorvenk_runs::model::{lengths, Model};
 use tsorvenk_runs::port;
@@ -99,6 +100,7 @@ pub fn run(case: &Single) -> (Answer, Lent) {
     } else if published_patched::PRESENT {
         let mut lent = case.lent.clone();
         published_patched::step(case.step(&mut lent), published_patched::Branch::UnionFind);
+        idle::take_out_of_single(case, &mut lent);
         assert_eq!(answer.1, lent, "{case:?}");
     }
     answer
@@ -178,4 +180,13 @@ pub fn run_sweep(case: &Swept) -> (SweepAnswer, Lent) {
 
 pub fn sweep_refused(case: &Swept, number: u8) {
     assert_eq!(run_sweep(case).0, SweepAnswer::Refused(number), "{case:?}");
+}
+
+/// The labelling of the model and of the port, which must agree.
+pub fn run_bonds(case: &Bonds) -> (u8, Lent) {
+    let answer = case.run(&mut Model);
+    if let Some(mut port) = port::linked() {
+        assert_eq!(answer, case.run(port.as_mut()), "{case:?}");
+    }
+    answer
 }

@@ -79,9 +79,11 @@ uint8_t tsorvenk_energy(size_t n, size_t d, size_t s,
 }
 
 uint8_t tsorvenk_label(size_t n, size_t d, const uint32_t *fwd, size_t fwd_len, const uint8_t *holds, size_t holds_len,
-    uint32_t *labels, size_t labels_len, uint32_t *counts, size_t counts_len, uint32_t *sizes, size_t sizes_len) {
+    const uint8_t *counted, size_t counted_len, uint32_t *labels, size_t labels_len, uint32_t *counts, size_t counts_len,
+    uint32_t *sizes, size_t sizes_len) {
     NUMBER(label, n), NUMBER(label, d);
-    BUFFER(label, fwd), BUFFER(label, holds), BUFFER(label, labels), BUFFER(label, counts), BUFFER(label, sizes);
+    BUFFER(label, fwd), BUFFER(label, holds), BUFFER(label, counted), BUFFER(label, labels), BUFFER(label, counts);
+    BUFFER(label, sizes);
     return 104;
 }
 
@@ -195,7 +197,7 @@ int main(void) {
         .couplings = i32, .couplings_len = 13, .energy = i64, .energy_len = 14,
     };
     label = (struct tsorvenk_label_args){
-        .n = 1, .d = 2, .fwd = u32, .fwd_len = 11, .holds = u8, .holds_len = 12,
+        .n = 1, .d = 2, .fwd = u32, .fwd_len = 11, .holds = u8, .holds_len = 12, .counted = u8 + 1, .counted_len = 16,
         .labels = u32 + 1, .labels_len = 13, .counts = u32 + 2, .counts_len = 14, .sizes = u32 + 3, .sizes_len = 15,
     };
     draw = (struct tsorvenk_draw_args){

@@ -14,14 +14,14 @@ use Rattle.lattice.proofs.bytes_at_most.Reads as bytes-at-most-reads
 use Rattle.lattice.proofs.sizes_ok.Reads as sizes-ok-reads
 
 abbrev R : tie.Start → Request
-R s = record { n = s .args .n; d = s .args .d; fwd = now (s .args .fwd); holds = now (s .args .holds) }
+R s = record { n = s .args .n; d = s .args .d; fwd = now (s .args .fwd); holds = now (s .args .holds); counted = now (s .args .counted) }
 
 abbrev B : tie.Start → Lent
 B s = record { labels = now (s .args .labels); counts = now (s .args .counts); sizes = now (s .args .sizes) }
 
 -- where the function starts, and the places past each test
 abbrev S : tie.After-sizes-ok → tie.Start
-S c = c .before .before .before .before .before .before
+S c = c .before .before .before .before .before .before .before
 
 abbrev s1 : tie.Else1 → tie.Start
 s1 c = S (c .before)
@@ -34,6 +34,9 @@ s3 c = s2 (c .before .before)
 
 abbrev s4 : tie.Else4 → tie.Start
 s4 c = s3 (c .before .before)
+
+abbrev s5 : tie.Else5 → tie.Start
+s5 c = s4 (c .before .before)
 
 -- what is known there
 k1 : (c : tie.Else1) → Sizes (R (s1 c) .n) (R (s1 c) .d) 1
@@ -48,17 +51,23 @@ k3 c = passed (c .before .all-below .result) (c .if3 .left) (c .before .all-belo
 k4 : (c : tie.Else4) → Bits (R (s4 c) .holds)
 k4 c = passed (c .before .bytes-at-most .result) (c .if4 .left) (c .before .bytes-at-most .ensures)
 
-abbrev e3 : tie.Else4 → tie.Else3
-e3 c = c .before .before
+k5 : (c : tie.Else5) → Bits (R (s5 c) .counted)
+k5 c = passed (c .before .bytes-at-most2 .result) (c .if5 .left) (c .before .bytes-at-most2 .ensures)
 
-abbrev e2 : tie.Else4 → tie.Else2
+abbrev e4 : tie.Else5 → tie.Else4
+e4 c = c .before .before
+
+abbrev e3 : tie.Else5 → tie.Else3
+e3 c = e4 c .before .before
+
+abbrev e2 : tie.Else5 → tie.Else2
 e2 c = e3 c .before .before
 
-abbrev e1 : tie.Else4 → tie.Else1
+abbrev e1 : tie.Else5 → tie.Else1
 e1 c = e2 c .before .before
 
-kept : (c : tie.Else4) → Kept (rules (R (s4 c)) (B (s4 c)))
-kept c = (k1 (e1 c), (k2 (e2 c), (k3 (e3 c), (k4 c, tt))))
+kept : (c : tie.Else5) → Kept (rules (R (s5 c)) (B (s5 c)))
+kept c = (k1 (e1 c), (k2 (e2 c), (k3 (e3 c), (k4 (e4 c), (k5 c, tt)))))
 
 -- what a refusal knows: the rule that is broken
 n1 : (c : tie.Then1) → Sizes (R (S (c .before)) .n) (R (S (c .before)) .d) 1 → ⊥
@@ -72,6 +81,9 @@ n3 c = refused (c .before .all-below .result) (c .if3 .taken) (c .before .all-be
 
 n4 : (c : tie.Then4) → Bits (R (s3 (c .before .before)) .holds) → ⊥
 n4 c = refused (c .before .bytes-at-most .result) (c .if4 .taken) (c .before .bytes-at-most .ensures)
+
+n5 : (c : tie.Then5) → Bits (R (s4 (c .before .before)) .counted) → ⊥
+n5 c = refused (c .before .bytes-at-most2 .result) (c .if5 .taken) (c .before .bytes-at-most2 .ensures)
 
 sizes-ok-requires : tie.Need-sizes-ok-requires
 sizes-ok-requires c κs = search needs
@@ -104,6 +116,16 @@ returns-4 c =
     let q = p .before .before in
     record { why = inr (k1 (q .before .before), inr (k2 q, inr (k3 p, inl (n4 c, refl)))); kept = refl {a = B (s3 p)} }
 
+bytes-at-most-requires-2 : tie.Need-bytes-at-most-requires-2
+bytes-at-most-requires-2 c κs = search needs
+
+returns-5 : tie.Need-returns-5
+returns-5 c =
+    let p = c .before .before in
+    let q = p .before .before in
+    let r = q .before .before in
+    record { why = inr (k1 (r .before .before), inr (k2 r, inr (k3 q, inr (k4 p, inl (n5 c, refl))))); kept = refl {a = B (s4 p)} }
+
 slice-aggregate-label-and-count : tie.Need-slice-aggregate-label-and-count
 slice-aggregate-label-and-count c = search needs
 
@@ -112,9 +134,9 @@ label-and-count-requires c κs =
     let e = c .before .before .before .before in
     record {
       given = given-by (k1 (e1 e)) (k2 (e2 e)) (k3 (e3 e)) refl;
+      marks-long = k2 (e2 e) .counted-long;
       counts-long = k2 (e2 e) .counts-long;
-      sizes-long = k2
-          (e2 e) .sizes-long;
+      sizes-long = k2 (e2 e) .sizes-long;
       tally-fits = k1 (e1 e) .n-high;
     }
 
@@ -127,8 +149,8 @@ same-length-2 c = search needs
 same-length-3 : tie.Need-same-length-3
 same-length-3 c = search needs
 
-returns-5 : tie.Need-returns-5
-returns-5 c =
+returns-6 : tie.Need-returns-6
+returns-6 c =
     let w = c .before .before .before .before .before .before .before in
     record { valid = kept (w .before .before .before .before .before); seen = w .label-and-count .ensures }
 
@@ -144,9 +166,11 @@ components-spec =
     returns-3
     bytes-at-most-requires
     returns-4
+    bytes-at-most-requires-2
+    returns-5
     slice-aggregate-label-and-count
     label-and-count-requires
     same-length
     same-length-2
     same-length-3
-    returns-5)
+    returns-6)

@@ -1,15 +1,14 @@
 -- `label_and_count` meets its contract.
 use mathlib.Core.Path.{_≡_, sym, _∙_}
 use native.Mathlib.Omega.{arith}
-use lib.ListN.{length, take, replicate}
+use lib.ListN.{length, take}
 use lib.Seq.{length-take-le, take-at}
-use Rattle.label.specs.Every.{reported-every}
 use borrow.Author.Needs.{needs}
 use Rattle.label.proofs.label_and_count.Statement.{statement}
 use Rattle.label.proofs.label_and_count.Tie as tie
 
 abbrev S : tie.After-label-arg → tie.Start
-S c = c .before .before .before .before .before .before .before
+S c = c .before .before .before .before .before .before .before .before
 
 -- the lent part of the tally has a place for each site, before and after
 part-long : (c : tie.After-label-arg) → length (take (S c .args .n) (S c .args .tally .now)) ≡ S c .args .n
@@ -34,22 +33,14 @@ slice-aggregate-count : tie.Need-slice-aggregate-count
 slice-aggregate-count c = let l = c .before .before .before .before .before .before in rw
     (take-at (l .label .last .1 .1 .1 .1 .1 .0) _ _ (tally-long l)) (sym (tally-long l))
 
-array-share-prefix-every : tie.Need-array-share-prefix-every
-array-share-prefix-every c = search needs
-
-slice-aggregate-count-2 : tie.Need-slice-aggregate-count-2
-slice-aggregate-count-2 c =
-    let s = S (c .before .before .before .before .before .before .before .before .before) in
-    sym (length-take-le (s .args .n) (replicate 4096 1) (s .pre .given .n-high))
-
 count-requires : tie.Need-count-requires
 count-requires c κs =
-    let l = c .before .before .before .before .before .before .before .before .before in
+    let l = c .before .before .before .before .before .before .before .before in
     let s = S (l .before .before) in
     rw (take-at (l .label .last .1 .1 .1 .1 .1 .0) _ _ (tally-long l)) (record {
       n-high = omega (arith, l .label .ensures .labels .long, s .pre .given .n-high);
       sized = l .label .ensures .sized;
-      marked = length-take-le (s .args .n) (replicate 4096 1) (s .pre .given .n-high) ∙ sym (l .label .ensures .labels .long);
+      marked = omega (arith, s .pre .marks-long, l .label .ensures .labels .long);
       counts-long = omega (arith, l .label .ensures .labels .long, s .pre .counts-long);
       sizes-long = s .pre .sizes-long;
     })
@@ -69,9 +60,8 @@ same-length-4 c = search needs
 returns : tie.Need-returns
 returns c =
     let w = c .before .before .before .before in
-    let l = w .before .before .before .before .before .before .before .before .before .before in
-    let s = S (l .before .before) in
-    record { labels = l .label .ensures .labels; reported = reported-every (s .pre .given .n-high) (l .label .ensures .labels .long) (w .count .ensures) }
+    let l = w .before .before .before .before .before .before .before .before .before in
+    record { labels = l .label .ensures .labels; reported = w .count .ensures }
 
 pub label-and-count-spec : {M : Type 1} → statement M
 label-and-count-spec =
@@ -82,8 +72,6 @@ label-and-count-spec =
     label-requires
     slice-reshare-prefix-count
     slice-aggregate-count
-    array-share-prefix-every
-    slice-aggregate-count-2
     count-requires
     same-length
     same-length-2

@@ -13,6 +13,9 @@ abbrev μ-loop : tie.MeasureT-loop
 loop-holds : tie.Need-loop-holds Inv-loop μ-loop
 loop-holds c = search needs
 
+sub-with-room : tie.Need-sub-with-room Inv-loop μ-loop
+sub-with-room c = search needs
+
 with-room-requires : tie.Need-with-room-requires Inv-loop μ-loop
 with-room-requires c κs = search needs
 
@@ -31,4 +34,4 @@ returns c = search needs
 pub densities-spec : {M : Type 1} → statement M
 densities-spec =
     tie.close
-    (tie.spec Inv-loop μ-loop loop-holds with-room-requires add-p loop-less loop-again returns)
+    (tie.spec Inv-loop μ-loop loop-holds sub-with-room with-room-requires add-p loop-less loop-again returns)

@@ -29,32 +29,38 @@ array-borrow-prefix-holds c = room (c .before)
 slice-aggregate-trial-2 : tie.Need-slice-aggregate-trial-2
 slice-aggregate-trial-2 c = sym (length-take-le _ _ (room (c .before .before)))
 
-array-borrow-prefix-labels : tie.Need-array-borrow-prefix-labels
-array-borrow-prefix-labels c = search needs
+array-borrow-prefix-counted : tie.Need-array-borrow-prefix-counted
+array-borrow-prefix-counted c = search needs
 
 slice-aggregate-trial-3 : tie.Need-slice-aggregate-trial-3
 slice-aggregate-trial-3 c = sym (length-take-le _ _ (c .before .before .before .pre .0))
 
+array-borrow-prefix-labels : tie.Need-array-borrow-prefix-labels
+array-borrow-prefix-labels c = search needs
+
+slice-aggregate-trial-4 : tie.Need-slice-aggregate-trial-4
+slice-aggregate-trial-4 c = sym (length-take-le _ _ (c .before .before .before .before .pre .0))
+
 array-borrow-prefix-counts : tie.Need-array-borrow-prefix-counts
 array-borrow-prefix-counts c = search needs
 
-slice-aggregate-trial-4 : tie.Need-slice-aggregate-trial-4
-slice-aggregate-trial-4 c = sym (length-take-le _ _ (omega (arith, c .before .before .before .before .pre .0)))
-
 slice-aggregate-trial-5 : tie.Need-slice-aggregate-trial-5
-slice-aggregate-trial-5 c = search needs
+slice-aggregate-trial-5 c = sym (length-take-le _ _ (omega (arith, c .before .before .before .before .before .pre .0)))
+
+slice-aggregate-trial-6 : tie.Need-slice-aggregate-trial-6
+slice-aggregate-trial-6 c = search needs
 
 array-borrow-prefix-marks : tie.Need-array-borrow-prefix-marks
 array-borrow-prefix-marks c = search needs
 
-slice-aggregate-trial-6 : tie.Need-slice-aggregate-trial-6
-slice-aggregate-trial-6 c = sym (length-take-le _ _ (c .before .before .before .before .before .before .pre .0))
+slice-aggregate-trial-7 : tie.Need-slice-aggregate-trial-7
+slice-aggregate-trial-7 c = sym (length-take-le _ _ (c .before .before .before .before .before .before .before .pre .0))
 
 array-borrow-prefix-tally : tie.Need-array-borrow-prefix-tally
 array-borrow-prefix-tally c = search needs
 
-slice-aggregate-trial-7 : tie.Need-slice-aggregate-trial-7
-slice-aggregate-trial-7 c = sym (length-take-le _ _ (c .before .before .before .before .before .before .before .pre .0))
+slice-aggregate-trial-8 : tie.Need-slice-aggregate-trial-8
+slice-aggregate-trial-8 c = sym (length-take-le _ _ (c .before .before .before .before .before .before .before .before .pre .0))
 
 trial-requires : tie.Need-trial-requires
 trial-requires c κs = search needs
@@ -72,14 +78,16 @@ with-room-spec =
     slice-aggregate-trial
     array-borrow-prefix-holds
     slice-aggregate-trial-2
-    array-borrow-prefix-labels
+    array-borrow-prefix-counted
     slice-aggregate-trial-3
-    array-borrow-prefix-counts
+    array-borrow-prefix-labels
     slice-aggregate-trial-4
+    array-borrow-prefix-counts
     slice-aggregate-trial-5
-    array-borrow-prefix-marks
     slice-aggregate-trial-6
-    array-borrow-prefix-tally
+    array-borrow-prefix-marks
     slice-aggregate-trial-7
+    array-borrow-prefix-tally
+    slice-aggregate-trial-8
     trial-requires
     returns)

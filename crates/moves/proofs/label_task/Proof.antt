@@ -1,9 +1,5 @@
 -- `label_task` meets its contract: what look, hold, label and count leave, taken together.
-use mathlib.Core.Path.{sym, _∙_}
 use borrow.Author.Needs.{needs}
-use lib.ListN.{replicate}
-use lib.Seq.{length-take-le}
-use Rattle.label.specs.Every.{reported-every}
 use native.Mathlib.Omega.{arith}
 use Rattle.moves.specs.Tested.{sighted}
 use Rattle.moves.specs.Held.{label-leaves}
@@ -57,14 +53,6 @@ label-requires c κs =
       tally-long = p .lent .tally-long;
     }
 
-array-share-prefix-every : tie.Need-array-share-prefix-every
-array-share-prefix-every c = search (needs, S (K (H (c .before .before .before .before .before .before))) .pre .tested .n-high)
-
-slice-aggregate-count : tie.Need-slice-aggregate-count
-slice-aggregate-count c =
-    let s = S (K (H (c .before .before .before .before .before .before .before))) in
-    sym (length-take-le (s .args .t .n) (replicate 4096 1) (s .pre .tested .n-high))
-
 count-requires : tie.Need-count-requires
 count-requires c κs =
     let l = c .before .before .before .before .before .before .before .before .before in
@@ -73,7 +61,7 @@ count-requires c κs =
     record {
       n-high = omega (arith, long, p .tested .n-high);
       sized = l .label .ensures .sized;
-      marked = length-take-le (S (K (H l)) .args .t .n) (replicate 4096 1) (p .tested .n-high) ∙ sym long;
+      marked = omega (arith, long, K (H l) .look .ensures .flagged .long);
       counts-long = omega (arith, long, p .lent .counts-long);
       sizes-long = p .lent .sizes-long;
     }
@@ -109,8 +97,7 @@ returns c = λ bwd.
     let h = H l in
     let k = K h in
     let p = S k .pre in
-    label-leaves bwd (h .hold .ensures) (p .tested) (k .look .ensures) (l .label .ensures)
-    (reported-every (p .tested .n-high) (l .label .ensures .labels .long) (o .count .ensures))
+    label-leaves bwd (h .hold .ensures) (p .tested) (k .look .ensures) (l .label .ensures) (o .count .ensures)
 
 pub label-task-spec : {M : Type 1} → statement M
 label-task-spec =
@@ -119,8 +106,6 @@ label-task-spec =
     look-requires
     hold-requires
     label-requires
-    array-share-prefix-every
-    slice-aggregate-count
     count-requires
     same-length
     same-length-2

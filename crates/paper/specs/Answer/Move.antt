@@ -7,22 +7,23 @@ use Rattle.paper.specs.declared.Answer.the-variants.{Refused, Idle, Move
 use Rattle.paper.specs.Answer.Number.{number}
 use Rattle.paper.specs.Panel.Input.{graph, Call, Choices, Buffers}
 use Rattle.paper.specs.Panel.Takes.{takesGreys}
-use Rattle.paper.specs.Site.Acting.{SomeActs, NoneActs}
+use Rattle.paper.specs.Site.Acting.{acts, SomeActs, NoneActs}
 use Rattle.paper.specs.Site.Bonds.{holds, holdsGrey}
 use Rattle.paper.specs.Component.Labels.{Labels}
-use Rattle.paper.specs.Component.Sizes.{everyOne, Counted, Largest}
+use Rattle.paper.specs.Component.Sizes.{Counted, Largest}
 use Rattle.paper.specs.Move.Moving.{Moves}
 use Rattle.paper.specs.Refusal.Rule.{Broken}
 use Rattle.paper.specs.Refusal.Rules.{When, rules}
 use Rattle.paper.specs.Refusal.Verdict.{Verdict}
 
--- labels, counts and sizes are those of the spins before the move
+-- labels, counts and sizes are those of the spins before the move. Counted are the components that act, which in CMR are all: a component acts as its
+-- smallest site does
 pub record Seen (c : Call) (b b′ : Buffers) : Type 0 where
   pub labels : Labels (graph c) (holds c (b .spins)) (b′ .labels)
   pub grey-labels : When (takesGreys c) (Labels (graph c) (holdsGrey c (b .spins)) (b′ .greyLabels))
   pub grey-kept : takesGreys c ≡ false → b′ .greyLabels ≡ b .greyLabels
-  pub counts : Counted everyOne (b′ .labels) (b′ .counts)
-  pub sizes : Largest everyOne (b′ .labels) (b′ .sizes)
+  pub counts : Counted (acts c (b .spins)) (b′ .labels) (b′ .counts)
+  pub sizes : Largest (acts c (b .spins)) (b′ .labels) (b′ .sizes)
 
 -- refused with the number r: nothing is written
 pub record Refuses (c : Call) (p : Choices) (b : Buffers) (r : ℕ) (b′ : Buffers) : Type 0 where

@@ -71,7 +71,7 @@ abbrev pub before12 : Buffers
 before12 = buffers (+ ∷ + ∷ + ∷ + ∷ - ∷ + ∷ - ∷ - ∷ []) (0 ∷ 0 ∷ []) (0 ∷ 0 ∷ 0 ∷ []) (0 ∷ 0 ∷ 0 ∷ 0 ∷ [])
 
 abbrev pub after12 : Buffers
-after12 = buffers (- ∷ + ∷ - ∷ + ∷ + ∷ + ∷ + ∷ - ∷ []) (0 ∷ 1 ∷ []) (0 ∷ 2 ∷ 0 ∷ []) (1 ∷ 1 ∷ 0 ∷ 0 ∷ [])
+after12 = buffers (- ∷ + ∷ - ∷ + ∷ + ∷ + ∷ + ∷ - ∷ []) (0 ∷ 1 ∷ []) (0 ∷ 1 ∷ 0 ∷ []) (1 ∷ 0 ∷ 0 ∷ 0 ∷ [])
 
 -- row 13: the frame case
 abbrev pub frame : Mode → Call
@@ -90,7 +90,7 @@ abbrev pub before13 : Buffers
 before13 = buffers (+ ∷ + ∷ - ∷ + ∷ - ∷ - ∷ []) (0 ∷ 0 ∷ 0 ∷ []) (0 ∷ 0 ∷ 0 ∷ 0 ∷ []) (0 ∷ 0 ∷ 0 ∷ 0 ∷ [])
 
 abbrev pub after13 : List ℤ → Buffers
-after13 spins = buffers spins (0 ∷ 1 ∷ 2 ∷ []) (0 ∷ 3 ∷ 0 ∷ 0 ∷ []) (1 ∷ 1 ∷ 1 ∷ 0 ∷ [])
+after13 spins = buffers spins (0 ∷ 1 ∷ 2 ∷ []) (0 ∷ 1 ∷ 0 ∷ 0 ∷ []) (1 ∷ 0 ∷ 0 ∷ 0 ∷ [])
 
 -- the spins after its move
 abbrev pub moved13 : List ℤ
@@ -105,4 +105,4 @@ abbrev pub caseText : List ℕ
 caseText = codes "1000030102\n110101ff01ffff\n12000100020000\n130001\n14010001000100\n"
 
 abbrev pub caseOut : List ℕ
-caseOut = codes "20000000010002\n210000000300000000\n2201ffff0101ff\n"
+caseOut = codes "20000000010002\n210000000100000000\n2201ffff0101ff\n"

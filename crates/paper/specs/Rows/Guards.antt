@@ -21,8 +21,8 @@ use Rattle.paper.specs.declared.Answer.the-variants.{Idle, Moved}
 use Rattle.paper.specs.declared.SweepAnswer.the-variants.{Swept}
 use Rattle.paper.specs.declared.MeterAnswer.the-variants.{Energy}
 use Rattle.paper.specs.Panel.Input.{Call, Choices, Buffers}
-use Rattle.paper.specs.Site.Acting.{acts}
-use Rattle.paper.specs.Component.Sizes.{sizeOf}
+use Rattle.paper.specs.Site.Acting.{acts, pairDiffers}
+use Rattle.paper.specs.Component.Sizes.{sizeOf, ofSize, atLeast, Counted, Largest}
 use Rattle.paper.specs.Refusal.Rule.{Rule}
 use Rattle.paper.specs.Answer.Number.{number, sweepNumber, meterNumber}
 use Rattle.paper.specs.Answer.Move.{Seen}
@@ -134,6 +134,38 @@ pub greys : Greys
 unfolding holds holdsGrey acts reached sizeOf countWhere row mul div lt ofInt
 greys = record { not-blue = refl; grey = refl; second = refl }
 
+-- what is counted: of the same two sites, each alone, pair counts the second, which acts, and CMR counts both
+abbrev pair : Call
+pair = record {
+  mode = Pair;
+  form = Sw;
+  lattice = cmr .lattice;
+  group = first 2;
+  temperature = whole 4;
+  cuts = [];
+  reference = 0;
+  seed = 0;
+}
+
+pub record Counts : Type 0 where
+  pub one : ofSize (acts pair red) (0 ∷ 1 ∷ []) 1 ≡ 1
+  pub one-size : atLeast (acts pair red) (0 ∷ 1 ∷ []) 1 ≡ 1
+  pub both : ofSize (acts cmr red) (0 ∷ 1 ∷ []) 1 ≡ 2
+  pub both-sizes : atLeast (acts cmr red) (0 ∷ 1 ∷ []) 1 ≡ 2
+  -- the mark of the smallest site decides
+  pub smallest : ofSize (acts pair red) (0 ∷ 0 ∷ []) 2 ≡ 0
+
+pub counts : Counts
+unfolding acts pairDiffers sizeOf countWhere
+counts = record { one = refl; one-size = refl; both = refl; both-sizes = refl; smallest = refl }
+
+-- and that is what a move's counts and sizes are of
+pub acting-counted :
+    (c : Call) (b b′ : Buffers)
+    → Seen c b b′
+    → Counted (acts c (b .spins)) (b′ .labels) (b′ .counts) × Largest (acts c (b .spins)) (b′ .labels) (b′ .sizes)
+acting-counted c b b′ s = (s .counts, s .sizes)
+
 -- an answer that is no refusal has the number 0
 pub record Numbers : Type 0 where
   pub idle : number Idle ≡ 0
@@ -167,11 +199,11 @@ pub masks : (w : Sweep) (k : ℕ) → Masks w k
 masks w k = record { one = λ e. rw e refl; zero = λ e. rw e refl }
 
 -- a sweep's first count is of idle tasks, its second of the others
-pub counts :
+pub tasks-counted :
     (w : Sweep) (b b′ : Buffers) (idle moved : ℕ)
     → Sweeps w b idle moved b′
     → idle ∷ moved ∷ [] ≡ idleTasks w (b .spins) ∷ movedTasks w (b .spins) ∷ []
-counts w b b′ idle moved s = s .counts
+tasks-counted w b b′ idle moved s = s .counts
 
 -- bonds are judged on the spins before the move: what it leaves in the spins does not matter to the labels, counts and sizes
 pub judged-before :

@@ -157,6 +157,7 @@ fn label<'a>(bonds: &'a Bonds, outputs: &'a mut (Vec<u32>, Vec<u32>, Vec<u32>)) 
         d: bonds.d,
         fwd: &bonds.fwd,
         holds: &bonds.holds,
+        counted: &[1; N],
         labels: &mut outputs.0,
         counts: &mut outputs.1,
         sizes: &mut outputs.2,

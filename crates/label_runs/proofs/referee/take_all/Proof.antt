@@ -7,10 +7,10 @@ use Rattle.label_runs.proofs.referee.take_all.Statement.{statement}
 use Rattle.label_runs.proofs.referee.take_all.Tie as tie
 
 abbrev Inv-loop : tie.InvT-loop
-Inv-loop tally counts₀ i₀ counts i = (length counts ≡ length counts₀) × (i ≤ length tally)
+Inv-loop tally counted counts₀ i₀ counts i = (length counts ≡ length counts₀) × (i ≤ length tally)
 
 abbrev μ-loop : tie.MeasureT-loop
-μ-loop tally counts₀ i₀ counts i = length tally - i
+μ-loop tally counted counts₀ i₀ counts i = length tally - i
 
 loop-holds : tie.Need-loop-holds Inv-loop μ-loop
 loop-holds c = search needs
@@ -20,6 +20,9 @@ mul-take-one c = search needs
 
 shared-slice-read-take-one : tie.Need-shared-slice-read-take-one Inv-loop μ-loop
 shared-slice-read-take-one c = search needs
+
+is-one-requires : tie.Need-is-one-requires Inv-loop μ-loop
+is-one-requires c κs = search needs
 
 mul-wide : tie.Need-mul-wide Inv-loop μ-loop
 mul-wide c = search needs
@@ -57,6 +60,7 @@ take-all-spec =
     loop-holds
     mul-take-one
     shared-slice-read-take-one
+    is-one-requires
     mul-wide
     shared-slice-read-wide
     wide-requires

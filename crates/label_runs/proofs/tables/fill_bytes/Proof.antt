@@ -1,17 +1,17 @@
--- `fill_holds` keeps its indices in range and ends.
+-- `fill_bytes` keeps its indices in range and ends.
 use Prim.Native.Nat.{_-_, _≤_}
 use mathlib.Core.Path.{_≡_}
 use native.Mathlib.Omega.{arith}
 use lib.ListN.{length, length-set}
 use borrow.Author.Needs.{needs}
-use Rattle.label_runs.proofs.tables.fill_holds.Statement.{statement}
-use Rattle.label_runs.proofs.tables.fill_holds.Tie as tie
+use Rattle.label_runs.proofs.tables.fill_bytes.Statement.{statement}
+use Rattle.label_runs.proofs.tables.fill_bytes.Tie as tie
 
 abbrev Inv-loop : tie.InvT-loop
-Inv-loop seed p holds₀ s₀ i₀ holds s i = (length holds ≡ length holds₀) × (i ≤ length holds)
+Inv-loop seed p bytes₀ s₀ i₀ bytes s i = (length bytes ≡ length bytes₀) × (i ≤ length bytes)
 
 abbrev μ-loop : tie.MeasureT-loop
-μ-loop seed p holds₀ s₀ i₀ holds s i = length holds - i
+μ-loop seed p bytes₀ s₀ i₀ bytes s i = length bytes - i
 
 loop-holds : tie.Need-loop-holds Inv-loop μ-loop
 loop-holds c = search needs
@@ -25,8 +25,8 @@ draw-requires c κs = search needs
 byte-requires : tie.Need-byte-requires Inv-loop μ-loop
 byte-requires c κs = search needs
 
-slice-write-holds : tie.Need-slice-write-holds Inv-loop μ-loop
-slice-write-holds c = search needs
+slice-write-bytes : tie.Need-slice-write-bytes Inv-loop μ-loop
+slice-write-bytes c = search needs
 
 add-i : tie.Need-add-i Inv-loop μ-loop
 add-i c = search needs
@@ -43,8 +43,8 @@ same-length c = search needs
 returns : tie.Need-returns Inv-loop μ-loop
 returns c = search needs
 
-pub fill-holds-spec : {M : Type 1} → statement M
-fill-holds-spec =
+pub fill-bytes-spec : {M : Type 1} → statement M
+fill-bytes-spec =
     tie.close
     (tie.spec
     Inv-loop
@@ -53,7 +53,7 @@ fill-holds-spec =
     next-requires
     draw-requires
     byte-requires
-    slice-write-holds
+    slice-write-bytes
     add-i
     loop-less
     loop-again

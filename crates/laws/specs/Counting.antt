@@ -1,0 +1,78 @@
+-- What a move counts: components that act. Whether a site acts is one on a component (`acts-one`, `both-act`), and an idle move counts none (`idle-counts`,
+-- `idle-sizes`). That the sizes of all that is counted add up to the number of acting sites is `acting-total`, in `label`.
+use Prim.Native.Nat.{ℕ, _≤_, _<_}
+use mathlib.Core.Path.{_≡_, refl, sym, _∙_}
+use mathlib.Core.Logic.{_⊎_, inl, inr, _≢_}
+use mathlib.Core.Bool.{Bool, true, false, _&&_}
+use mathlib.Core.List.{List}
+use native.Mathlib.Nat.{not-suc-le-zero}
+use lib.Dec.{eqb, leb}
+use lib.ListN.{length, getD}
+use lib.IntN.{ℤ}
+use Rattle.lemmas.specs.Bools.{and-left, and-right}
+use Rattle.lemmas.specs.Counts.{countWhere, count-zero}
+use Rattle.paper.specs.declared.Mode.{Mode}
+use Rattle.paper.specs.declared.Mode.the-variants.{Houd, Pair, Perm, Gperm, Jorg, Cmr}
+use Rattle.paper.specs.declared.Answer.the-variants.{Idle}
+use Rattle.paper.specs.Panel.Input.{graph, ahead, Call, Choices, Buffers}
+use Rattle.paper.specs.Site.Acting.{acts}
+use Rattle.paper.specs.Site.Bonds.{bothAct, holdsBy, holds}
+use Rattle.paper.specs.Component.Links.{Linked.stay, Linked.along, Linked.against}
+use Rattle.paper.specs.Component.Labels.{Bond, Joined}
+use Rattle.paper.specs.Component.Sizes.{labelOf, counted, sizeOf, atLeast}
+use Rattle.paper.specs.Answer.Move.{Answers}
+
+-- ---- acts is one on a component
+module _ (c : Call) (xs : List ℤ) where
+  pub cmr-acts : c .mode ≡ Cmr → (i : ℕ) → acts c xs i ≡ true
+  unfolding acts
+  cmr-acts e i = rw e refl
+
+  -- both ends of a bond that holds act
+  held-acts : (m : Mode) → c .mode ≡ m → (i e : ℕ) → holdsBy m c xs i e ≡ true → bothAct c xs i e ≡ true
+  held-acts Houd q i e h = h
+  held-acts Pair q i e h = h
+  held-acts Perm q i e h = h
+  held-acts Gperm q i e h = h
+  held-acts Jorg q i e h = and-left (bothAct c xs i e) _ h
+  held-acts Cmr q i e h = rw (cmr-acts q i) (cmr-acts q (ahead c i e))
+
+  bond-acts : {i j : ℕ} → Bond (graph c) (holds c xs) i j → (acts c xs i ≡ true) × (acts c xs j ≡ true)
+  unfolding holds
+  bond-acts {i} {j} b = (and-left (acts c xs i) _ both, rw (b .leads) at (and-right (acts c xs i) _ both))
+    where
+      both : bothAct c xs i (b .dir) ≡ true
+      both = held-acts (c .mode) refl i (b .dir) (b .on)
+
+  -- joined sites both act or neither does: so the smallest site tells of its whole component
+  pub acts-one : {i j : ℕ} → Joined (graph c) (holds c xs) i j → acts c xs i ≡ acts c xs j
+  acts-one stay = refl
+  acts-one (along b r) = bond-acts b .0 ∙ (sym (bond-acts b .1) ∙ acts-one r)
+  acts-one (against b r) = bond-acts b .1 ∙ (sym (bond-acts b .0) ∙ acts-one r)
+
+  -- and if they are two, both act
+  pub both-act : {i j : ℕ} → Joined (graph c) (holds c xs) i j → i ≢ j → (acts c xs i ≡ true) × (acts c xs j ≡ true)
+  both-act stay ne = absurd (ne refl)
+  both-act (along b r) ne = (bond-acts b .0, sym (acts-one (along b r)) ∙ bond-acts b .0)
+  both-act (against b r) ne = (bond-acts b .1, sym (acts-one (against b r)) ∙ bond-acts b .1)
+
+-- ---- an idle move: every count and every size is 0
+module _ (c : Call) (p : Choices) (b b′ : Buffers) (w : Answers c p b Idle b′) where
+  none : (test : ℕ → Bool) → countWhere (λ r. counted (acts c (b .spins)) (b′ .labels) r && test (sizeOf (b′ .labels) r)) (length (b′ .labels)) ≡ 0
+  none test =
+      count-zero (λ r. counted (acts c (b .spins)) (b′ .labels) r && test (sizeOf (b′ .labels) r)) (length (b′ .labels))
+      (λ r h. off (eqb (labelOf (b′ .labels) r) r) _ _ (w .none r (rw (w .seen .labels .long) at h)))
+    where
+      off : (own mark tested : Bool) → mark ≡ false → ((own && mark) && tested) ≡ false
+      off true mark tested e = rw e refl
+      off false mark tested e = refl
+
+  pub idle-counts : (s : ℕ) → s ≤ c .lattice .n → getD (b′ .counts) s 0 ≡ 0
+  idle-counts s h = w .seen .counts .each s (rw (w .seen .labels .long) h) ∙ none (λ x. eqb x s)
+
+  pub idle-sizes : (t : ℕ) → t < 4 → getD (b′ .sizes) t 0 ≡ 0
+  idle-sizes t h = go (getD (b′ .sizes) t 0) (w .seen .sizes .each t h .reached)
+    where
+      go : (a : ℕ) → (a ≡ 0) ⊎ (t < atLeast (acts c (b .spins)) (b′ .labels) a) → a ≡ 0
+      go a (inl e) = e
+      go a (inr k) = absurd (not-suc-le-zero (rw (none (leb a)) at k))
