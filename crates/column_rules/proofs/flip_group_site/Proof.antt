@@ -1,5 +1,6 @@
 -- `column_rules::flip_group_site` meets its contract: in each mode's arm the flip is the mode's.
 use mathlib.Core.Path.{_∙_, sym}
+use native.Mathlib.Omega.{arith}
 use borrow.Author.Needs.{needs}
 use Rattle.laws.specs.Partners.{pairs-fit}
 use Rattle.column_rules.proofs.Bits.{column-low}
@@ -17,7 +18,7 @@ mul-joined : tie.Need-mul-joined
 mul-joined c = search needs
 
 joined-requires : tie.Need-joined-requires
-joined-requires c κs = (pairs-fit (c .before .before .args .group .len), c .before .before .pre)
+joined-requires c κs = let s = c .before .before in (omega (arith, pairs-fit (s .args .group .len)), s .pre)
 
 enum-told-2 : tie.Need-enum-told-2
 enum-told-2 c = search needs
@@ -29,7 +30,7 @@ mul-joined-2 : tie.Need-mul-joined-2
 mul-joined-2 c = search needs
 
 joined-requires-2 : tie.Need-joined-requires-2
-joined-requires-2 c κs = (pairs-fit (c .before .before .before .args .group .len), c .before .before .before .pre)
+joined-requires-2 c κs = let s = c .before .before .before in (omega (arith, pairs-fit (s .args .group .len)), s .pre)
 
 enum-told-3 : tie.Need-enum-told-3
 enum-told-3 c = search needs
@@ -53,7 +54,7 @@ mul-joined-3 : tie.Need-mul-joined-3
 mul-joined-3 c = search needs
 
 joined-requires-3 : tie.Need-joined-requires-3
-joined-requires-3 c κs = (pairs-fit (c .before .before .before .args .group .len), c .before .before .before .pre)
+joined-requires-3 c κs = let s = c .before .before .before in (omega (arith, pairs-fit (s .args .group .len)), s .pre)
 
 enum-told-6 : tie.Need-enum-told-6
 enum-told-6 c = search needs
