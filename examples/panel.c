@@ -1,7 +1,7 @@
 /* A small panel through the C interface: a torus of 4 by 4 sites, four systems at two temperatures, one sweep of each
- * mode in the all-clusters form, and a sweep that is refused. Its couplings come from an edge list, in the file that is
- * named behind the program, or else in examples/panel.edges; every choice is drawn from one seed, so that each run is the
- * same. panel.rs is the same program in Rust; both print panel.out. */
+ * mode in the all-clusters form, a sweep that is refused, and one that grows a cluster in each task. Its couplings come
+ * from an edge list, in the file that is named behind the program, or else in examples/panel.edges; every choice is drawn
+ * from one seed, so that each run is the same. panel.rs is the same program in Rust; both print panel.out. */
 #include "tsorvenk.h"
 #include <stdio.h>
 #include <stdlib.h>
@@ -117,6 +117,47 @@ static uint8_t sweep(uint8_t mode, const struct choices *c, struct outputs *o) {
     return tsorvenk_sweep_with(&args);
 }
 
+/* one cluster in each task, from the first site at which its two systems differ: there they act. No labels, counts and sizes
+ * are taken, and what is not named is left out */
+static uint8_t grow(const struct choices *c, uint8_t *member_sites, struct outputs *o) {
+    uint32_t seeds[TASKS];
+    for (int k = 0; k < TASKS; k++) {
+        const int8_t *a = o->spins + k * MEMBERS * N, *b = a + N;
+        for (seeds[k] = 0; seeds[k] < N - 1 && a[seeds[k]] == b[seeds[k]];)
+            seeds[k]++;
+    }
+    struct tsorvenk_sweep_args args = {
+        .mode = TSORVENK_JORG, .form = TSORVENK_GROW, .n = N, .d = D, .s = S, .t = T, .r = R, .members = MEMBERS,
+        .spins = o->spins, .spins_len = S * N,
+        .fwd = fwd, .fwd_len = N * D,
+        .bwd = bwd, .bwd_len = N * D,
+        .couplings = couplings, .couplings_len = N * D,
+        .order = order, .order_len = S,
+        .masks = masks, .masks_len = T,
+        .temperatures = TEMPERATURES, .temperatures_len = T,
+        .cuts = c->cuts, .cuts_len = TASKS * N * D,
+        .seeds = seeds, .seeds_len = TASKS,
+        .member_sites = member_sites, .member_sites_len = TASKS * N,
+        .outcomes = o->outcomes, .outcomes_len = 2,
+    };
+    return tsorvenk_sweep_with(&args);
+}
+
+static void print_grown(uint8_t code, const uint8_t *member_sites, const struct outputs *o) {
+    if (code) {
+        printf("jorg grown: refused with %d\n", code);
+        return;
+    }
+    printf("jorg grown: %u idle, %u moved; members", (unsigned)o->outcomes[0], (unsigned)o->outcomes[1]);
+    for (int k = 0; k < TASKS; k++) {
+        unsigned members = 0;
+        for (int i = 0; i < N; i++)
+            members += member_sites[k * N + i];
+        printf("%s %u", k ? "," : "", members);
+    }
+    printf("\n");
+}
+
 static void print_energies(const struct outputs *o) {
     printf("  energies");
     for (size_t k = 0; k < S; k++) {
@@ -150,6 +191,7 @@ static void print_sweep(uint8_t mode, uint8_t code, const struct outputs *o) {
 int main(int argc, char **argv) {
     struct outputs o, before;
     struct choices c;
+    uint8_t member_sites[TASKS * N];
     make_panel(argc > 1 ? argv[1] : "examples/panel.edges", &o);
     printf("start\n");
     print_energies(&o);
@@ -164,6 +206,9 @@ int main(int argc, char **argv) {
     before = o;
     print_sweep(TSORVENK_PAIR, sweep(TSORVENK_PAIR, &c, &o), &o);
     printf("  %s\n", memcmp(&before, &o, sizeof o) ? "buffers were written" : "every buffer is as it was");
+    print_energies(&o);
+    make_choices(&c);
+    print_grown(grow(&c, member_sites, &o), member_sites, &o);
     print_energies(&o);
     return 0;
 }

@@ -1,7 +1,7 @@
 //! A small panel through the safe crate: a torus of 4 by 4 sites, four systems at two temperatures, one sweep of each mode
-//! in the all-clusters form, and a sweep that is refused. Its couplings come from an edge list, in the file that is named
-//! behind the program, or else in examples/panel.edges; every choice is drawn from one seed, so that each run is the same.
-//! panel.c is the same program in C; both print panel.out.
+//! in the all-clusters form, a sweep that is refused, and one that grows a cluster in each task. Its couplings come from an
+//! edge list, in the file that is named behind the program, or else in examples/panel.edges; every choice is drawn from one
+//! seed, so that each run is the same. panel.c is the same program in C; both print panel.out.
 use std::error::Error;
 use tsorvenk::{
     Energy, Form, Mode, ReadEdges, Refusal, Source, Sweep, Swept, WriteEdges, EDGES_ROOM,
@@ -166,6 +166,57 @@ fn sweep(mode: Mode, panel: &Panel, c: &Choices, o: &mut Outputs) -> Result<Swep
     })
 }
 
+/// One cluster in each task, from the first site at which its two systems differ: there they act. No labels, counts and
+/// sizes are taken, and what is not named is left out.
+fn grow(
+    panel: &Panel,
+    c: &Choices,
+    member_sites: &mut [u8],
+    o: &mut Outputs,
+) -> Result<Swept, Refusal> {
+    let seeds: [u32; TASKS] = std::array::from_fn(|k| {
+        let (a, b) = o.spins[k * MEMBERS * N..].split_at(N);
+        (0..N - 1).find(|&i| a[i] != b[i]).unwrap_or(N - 1) as u32
+    });
+    tsorvenk::sweep(Sweep {
+        mode: Mode::Jorg,
+        form: Form::Grow,
+        n: N,
+        d: D,
+        s: S,
+        t: T,
+        r: R,
+        members: MEMBERS,
+        spins: &mut o.spins,
+        fwd: &panel.fwd,
+        bwd: &panel.bwd,
+        couplings: &panel.couplings,
+        order: &[0, 1, 2, 3],
+        masks: &[0; T],
+        temperatures: &TEMPERATURES,
+        cuts: &c.cuts,
+        seeds: &seeds,
+        member_sites,
+        ..Default::default()
+    })
+}
+
+fn print_grown(answer: Result<Swept, Refusal>, member_sites: &[u8]) {
+    match answer {
+        Err(refusal) => println!("jorg grown: refused with {}", refusal.number),
+        Ok(Swept { idle, moved, .. }) => {
+            let members: Vec<String> = member_sites
+                .chunks(N)
+                .map(|sites| format!(" {}", sites.iter().map(|&b| u32::from(b)).sum::<u32>()))
+                .collect();
+            println!(
+                "jorg grown: {idle} idle, {moved} moved; members{}",
+                members.join(",")
+            );
+        }
+    }
+}
+
 fn print_energies(panel: &Panel, spins: &[i8]) {
     print!("  energies");
     for system in 0..S {
@@ -230,6 +281,11 @@ fn main() -> Result<(), Box<dyn Error>> {
             "buffers were written"
         }
     );
+    print_energies(&panel, &o.spins);
+    let c = make_choices(&mut source)?;
+    let mut member_sites = [0; TASKS * N];
+    let answer = grow(&panel, &c, &mut member_sites, &mut o);
+    print_grown(answer, &member_sites);
     print_energies(&panel, &o.spins);
     Ok(())
 }

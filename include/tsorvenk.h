@@ -16,7 +16,7 @@
  * Refusals, tested in this order. A refusal returns its number, and every buffer keeps its bytes:
  *
  *   1  n not 1 to 4096, d not 1 to 4, s not 1 to 64, group size not 2 to 8, or not 2 in CMR; a mode above 5, a form
- *      above 2; in a sweep t * r not s, or members above r
+ *      above 3; in a sweep t * r not s, or members above r
  *   2  a buffer's length is not the exact one
  *   3  a spin of any system is not +1 or -1
  *   4  a neighbour is n or more, or fwd and bwd are not inverse
@@ -36,7 +36,10 @@
  * A test is made only of what the mode and form take.
  *
  * Modes: 0 houd, 1 pair, 2 perm, 3 gperm, 4 Joerg, 5 CMR.
- * Forms: 0 all clusters (SW), 1 one cluster (Wolff), 2 observe.
+ * Forms: 0 all clusters (SW), 1 one cluster (Wolff), 2 observe, 3 one cluster by growth (grow).
+ *
+ * Grow moves what Wolff moves, given the same seed, cuts and choices, and answers and refuses alike. It looks only at what the
+ * seed's component reaches, and writes the sites of that component in place of labels, counts and sizes.
  */
 #ifndef TSORVENK_H
 #define TSORVENK_H
@@ -49,7 +52,7 @@ extern "C" {
 #endif
 
 enum { TSORVENK_HOUD, TSORVENK_PAIR, TSORVENK_PERM, TSORVENK_GPERM, TSORVENK_JORG, TSORVENK_CMR };
-enum { TSORVENK_SW, TSORVENK_WOLFF, TSORVENK_OBSERVE };
+enum { TSORVENK_SW, TSORVENK_WOLFF, TSORVENK_OBSERVE, TSORVENK_GROW };
 
 /* Numbers that are no refusals: of a step with no acting site, and of frames for whose answer there is no room. */
 enum { TSORVENK_IDLE = 64, TSORVENK_NO_ROOM = 65 };
@@ -65,21 +68,27 @@ enum { TSORVENK_IDLE = 64, TSORVENK_NO_ROOM = 65 };
  *   cuts         n * d, at the bond's entry; a bond is drawn where scale * strength is above its cut
  *                                                                  Joerg, CMR, in every form
  *   reference    a site                                            gperm, in every form
- *   seed         a site                                            Wolff
+ *   seed         a site                                            Wolff, grow
  *   flips        n, each 0 or 1                                    SW of houd, pair, Joerg, CMR
- *   perms        SW: n rows of N, Wolff: one row of N that is not the identity; each row a permutation of 0 to N - 1:
- *                replica k gets the old spin of replica p(k)       SW and Wolff of perm, gperm
- *   greys        SW: n, each 0 to 3; Wolff: one, 1 to 3; bit 0 flips the first replica, bit 1 the second
- *                                                                  SW and Wolff of CMR
+ *   perms        SW: n rows of N, Wolff and grow: one row of N that is not the identity; each row a permutation of 0 to
+ *                N - 1: replica k gets the old spin of replica p(k)
+ *                                                                  SW, Wolff, grow of perm, gperm
+ *   greys        SW: n, each 0 to 3; Wolff and grow: one, 1 to 3; bit 0 flips the first replica, bit 1 the second
+ *                                                                  SW, Wolff, grow of CMR
  *
  * In SW the entry at a component's label is the component's choice, and entries that no component uses are tested too.
  * Written, unless refused:
  *
  *   labels       n: the smallest site of each site's component (CMR: blue components)
+ *                                                                  SW, Wolff, observe
  *   grey_labels  n: the same of grey components                    SW and Wolff of CMR
  *   counts       n + 1: count k is the number of acting components of size k, count 0 is 0 (CMR: blue, all of them). A site
  *                that does not act is labelled as a component of its own and not counted
+ *                                                                  SW, Wolff, observe
  *   sizes        4: the largest sizes of what is counted, in falling order, filled with 0
+ *                                                                  SW, Wolff, observe
+ *   member_sites n: 1 at the sites of the seed's component (CMR: of its grey one), else 0; idle: all 0
+ *                                                                  grow
  *   spins        the group's rows after the move; idle and observe leave them as they are
  *
  * Returns 0 if some site acts (CMR: always), TSORVENK_IDLE if none does, else the refusal 1 to 10. */
@@ -89,7 +98,8 @@ uint8_t tsorvenk_step(uint8_t mode, uint8_t form, size_t n, size_t d, size_t s,
     float temperature, const float *cuts, size_t cuts_len, size_t reference, size_t seed,
     const uint8_t *flips, size_t flips_len, const uint8_t *perms, size_t perms_len, const uint8_t *greys, size_t greys_len,
     uint32_t *labels, size_t labels_len, uint32_t *grey_labels, size_t grey_labels_len,
-    uint32_t *counts, size_t counts_len, uint32_t *sizes, size_t sizes_len);
+    uint32_t *counts, size_t counts_len, uint32_t *sizes, size_t sizes_len,
+    uint8_t *member_sites, size_t member_sites_len);
 
 /* A sweep over t temperatures of r replicas, t * r = s, in groups of N = members systems.
  *
@@ -103,17 +113,18 @@ uint8_t tsorvenk_step(uint8_t mode, uint8_t form, size_t n, size_t d, size_t s,
  *   temperatures  t                                                Joerg, CMR, in every form
  *   cuts          K * n * d                                        Joerg, CMR, in every form
  *   references    K                                                gperm, in every form
- *   seeds         K                                                Wolff
+ *   seeds         K                                                Wolff, grow
  *   flips         K * n                                            SW of houd, pair, Joerg, CMR
- *   perms         SW: K * n * N, Wolff: K * N                      SW and Wolff of perm, gperm
- *   greys         SW: K * n, Wolff: K                              SW and Wolff of CMR
+ *   perms         SW: K * n * N, Wolff and grow: K * N             SW, Wolff, grow of perm, gperm
+ *   greys         SW: K * n, Wolff and grow: K                     SW, Wolff, grow of CMR
  *
  * Written, unless refused:
  *
- *   labels        K * n
+ *   labels        K * n                                            SW, Wolff, observe
  *   grey_labels   K * n                                            SW and Wolff of CMR
- *   counts        K * (n + 1)
- *   sizes         K * 4
+ *   counts        K * (n + 1)                                      SW, Wolff, observe
+ *   sizes         K * 4                                            SW, Wolff, observe
+ *   member_sites  K * n                                            grow
  *   outcomes      2: how many unmasked tasks were idle, and how many were not, even if every choice was 0
  *   spins         the rows of the groups of unmasked tasks
  *
@@ -129,7 +140,8 @@ uint8_t tsorvenk_sweep(uint8_t mode, uint8_t form, size_t n, size_t d, size_t s,
     const uint32_t *seeds, size_t seeds_len,
     const uint8_t *flips, size_t flips_len, const uint8_t *perms, size_t perms_len, const uint8_t *greys, size_t greys_len,
     uint32_t *labels, size_t labels_len, uint32_t *grey_labels, size_t grey_labels_len,
-    uint32_t *counts, size_t counts_len, uint32_t *sizes, size_t sizes_len, uint32_t *outcomes, size_t outcomes_len);
+    uint32_t *counts, size_t counts_len, uint32_t *sizes, size_t sizes_len,
+    uint8_t *member_sites, size_t member_sites_len, uint32_t *outcomes, size_t outcomes_len);
 
 /* The energy of one system: minus the sum over all n * d bonds of the coupling times both spins.
  *
@@ -293,6 +305,8 @@ struct tsorvenk_step_args {
     size_t counts_len;
     uint32_t *sizes;
     size_t sizes_len;
+    uint8_t *member_sites;
+    size_t member_sites_len;
 };
 
 struct tsorvenk_sweep_args {
@@ -332,6 +346,8 @@ struct tsorvenk_sweep_args {
     size_t counts_len;
     uint32_t *sizes;
     size_t sizes_len;
+    uint8_t *member_sites;
+    size_t member_sites_len;
     uint32_t *outcomes;
     size_t outcomes_len;
 };
@@ -433,7 +449,7 @@ static inline uint8_t tsorvenk_step_with(const struct tsorvenk_step_args *args) 
         TSORVENK_LENT(group, no_u32), args->temperature, TSORVENK_LENT(cuts, no_f32), args->reference, args->seed,
         TSORVENK_LENT(flips, no_u8), TSORVENK_LENT(perms, no_u8), TSORVENK_LENT(greys, no_u8),
         TSORVENK_LENT(labels, no_u32), TSORVENK_LENT(grey_labels, no_u32), TSORVENK_LENT(counts, no_u32),
-        TSORVENK_LENT(sizes, no_u32));
+        TSORVENK_LENT(sizes, no_u32), TSORVENK_LENT(member_sites, no_u8));
 }
 
 static inline uint8_t tsorvenk_sweep_with(const struct tsorvenk_sweep_args *args) {
@@ -448,7 +464,8 @@ static inline uint8_t tsorvenk_sweep_with(const struct tsorvenk_sweep_args *args
         TSORVENK_LENT(temperatures, no_f32), TSORVENK_LENT(cuts, no_f32), TSORVENK_LENT(references, no_u32),
         TSORVENK_LENT(seeds, no_u32), TSORVENK_LENT(flips, no_u8), TSORVENK_LENT(perms, no_u8),
         TSORVENK_LENT(greys, no_u8), TSORVENK_LENT(labels, no_u32), TSORVENK_LENT(grey_labels, no_u32),
-        TSORVENK_LENT(counts, no_u32), TSORVENK_LENT(sizes, no_u32), TSORVENK_LENT(outcomes, no_u32));
+        TSORVENK_LENT(counts, no_u32), TSORVENK_LENT(sizes, no_u32), TSORVENK_LENT(member_sites, no_u8),
+        TSORVENK_LENT(outcomes, no_u32));
 }
 
 static inline uint8_t tsorvenk_energy_with(const struct tsorvenk_energy_args *args) {

@@ -9,6 +9,7 @@ pub struct Lent {
     pub grey_labels: Vec<u32>,
     pub counts: Vec<u32>,
     pub sizes: Vec<u32>,
+    pub member_sites: Vec<u8>,
 }
 
 /// What single moves and sweeps share.
@@ -111,6 +112,7 @@ impl Single {
             grey_labels: &mut lent.grey_labels,
             counts: &mut lent.counts,
             sizes: &mut lent.sizes,
+            member_sites: &mut lent.member_sites,
         }
     }
 
@@ -162,6 +164,7 @@ impl Swept {
             grey_labels: &mut lent.grey_labels,
             counts: &mut lent.counts,
             sizes: &mut lent.sizes,
+            member_sites: &mut lent.member_sites,
         }
     }
 

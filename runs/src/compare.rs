@@ -1,5 +1,6 @@
 //! One case, every side: what differs, as text.
 use crate::case::{Bonds, Lent, Single, Swept};
+use crate::grown;
 use crate::idle;
 use crate::model::{self, Model};
 use calls::{Answer, Form, Mode, Port, SweepAnswer};
@@ -15,6 +16,8 @@ pub struct Line {
     pub sweeps: usize,
     pub union_find: usize,
     pub depth_first: usize,
+    /// Calls that grow, held to Wolff's.
+    pub wolff: usize,
     pub acting: usize,
     pub odd: usize,
     pub idle: usize,
@@ -50,6 +53,7 @@ fn differ_lent(text: &mut String, model: &Lent, other: &Lent) {
     differ(text, "grey", &model.grey_labels, &other.grey_labels);
     differ(text, "counts", &model.counts, &other.counts);
     differ(text, "sizes", &model.sizes, &other.sizes);
+    differ(text, "members", &model.member_sites, &other.member_sites);
 }
 
 /// Runs the published Rust; a panic is a difference too.
@@ -74,14 +78,44 @@ fn single_weight(case: &Single) -> usize {
     case.panel.n * (case.panel.d + case.panel.s)
 }
 
+/// Without outputs the Rust's one-cluster form grows: that is Wolff's other branch, and the only one of the form that grows.
+fn branches(form: Form) -> &'static [Branch] {
+    match form {
+        Form::Sw | Form::Observe => &[Branch::UnionFind],
+        Form::Wolff => &[Branch::UnionFind, Branch::DepthFirst],
+        Form::Grow => &[Branch::DepthFirst],
+    }
+}
+
+/// Depth first the Rust leaves the spins alone to compare, and of a call that grows its members.
+fn differ_depth_first(text: &mut String, form: Form, model: &Lent, rust: &Lent) {
+    match form {
+        Form::Grow => differ_lent(text, model, rust),
+        _ => differ(text, "depth first", &model.spins, &rust.spins),
+    }
+}
+
+/// The sides that a call which grows is held to Wolff's on: the model, and the port where it is linked.
+fn beside_wolff(
+    port: Option<&mut Box<dyn Port>>,
+    line: &mut Line,
+    differs: impl Fn(&mut dyn Port) -> Option<&'static str>,
+) -> String {
+    let mut text = String::new();
+    line.wolff += 1;
+    if let Some(what) = differs(&mut Model) {
+        let _ = writeln!(text, "  model: grow and Wolff differ in {what}");
+    }
+    if let Some(what) = port.and_then(|port| differs(port.as_mut())) {
+        let _ = writeln!(text, "  port: grow and Wolff differ in {what}");
+    }
+    text
+}
+
 fn single_rust(case: &Single, answer: Answer, lent: &Lent, line: &mut Line) -> String {
     let mut text = String::new();
     let (mode, form) = (case.panel.mode, case.panel.form);
-    let mut branches = vec![Branch::UnionFind];
-    if form == Form::Wolff {
-        branches.push(Branch::DepthFirst);
-    }
-    for branch in branches {
+    for &branch in branches(form) {
         let mut rust_lent = case.lent.clone();
         let run = || {
             let none_acts = published_patched::step(case.step(&mut rust_lent), branch);
@@ -100,10 +134,10 @@ fn single_rust(case: &Single, answer: Answer, lent: &Lent, line: &mut Line) -> S
             }
             Branch::DepthFirst => {
                 line.depth_first += 1;
-                differ(&mut text, "depth first", &lent.spins, &rust_lent.spins);
+                differ_depth_first(&mut text, form, lent, &rust_lent);
             }
         }
-        if form == Form::Wolff {
+        if form.one_cluster() {
             differ(&mut text, "idle", answer == Answer::Idle, none_acts);
         }
     }
@@ -156,11 +190,18 @@ pub fn single(case: &Single, port: Option<&mut Box<dyn Port>>, line: &mut Line) 
             text += &report("single move, model against Rust", case, &found);
         }
     }
-    if let Some(port) = port {
+    let mut port = port;
+    if let Some(port) = port.as_deref_mut() {
         line.port += 1;
         let found = single_port(case, answer, &lent, port.as_mut());
         if !found.is_empty() {
             text += &report("single move, model against port", case, &found);
+        }
+    }
+    if case.panel.form == Form::Grow {
+        let found = beside_wolff(port, line, |side| grown::single(case, side));
+        if !found.is_empty() {
+            text += &report("single move, grow against Wolff", case, &found);
         }
     }
     found(text, single_weight(case), line)
@@ -182,11 +223,10 @@ fn found(text: String, weight: usize, line: &mut Line) -> Option<Found> {
 
 fn sweep_rust(case: &Swept, answer: SweepAnswer, lent: &Lent, line: &mut Line) -> String {
     let mut text = String::new();
-    let wolff = case.panel.form == Form::Wolff;
-    let mut runs = vec![(Branch::UnionFind, true), (Branch::UnionFind, false)];
-    if wolff {
-        runs.extend([(Branch::DepthFirst, true), (Branch::DepthFirst, false)]);
-    }
+    let form = case.panel.form;
+    let runs = branches(form)
+        .iter()
+        .flat_map(|&branch| [(branch, true), (branch, false)]);
     for (branch, sequential) in runs {
         let mut rust_lent = case.lent.clone();
         let run = || {
@@ -207,10 +247,10 @@ fn sweep_rust(case: &Swept, answer: SweepAnswer, lent: &Lent, line: &mut Line) -
             }
             Branch::DepthFirst => {
                 line.depth_first += 1;
-                differ(&mut text, "depth first", &lent.spins, &rust_lent.spins);
+                differ_depth_first(&mut text, form, lent, &rust_lent);
             }
         }
-        if let (true, SweepAnswer::Swept { idle, .. }) = (wolff, answer) {
+        if let (true, SweepAnswer::Swept { idle, .. }) = (form.one_cluster(), answer) {
             let theirs = none_acts.iter().filter(|&&none| none).count();
             differ(&mut text, "idle tasks", idle as usize, theirs);
         }
@@ -236,7 +276,8 @@ pub fn swept(case: &Swept, port: Option<&mut Box<dyn Port>>, line: &mut Line) ->
             text += &report("sweep, model against Rust", case, &found);
         }
     }
-    if let Some(port) = port {
+    let mut port = port;
+    if let Some(port) = port.as_deref_mut() {
         line.port += 1;
         let mut found = String::new();
         let (port_answer, port_lent) = case.run(port.as_mut());
@@ -244,6 +285,12 @@ pub fn swept(case: &Swept, port: Option<&mut Box<dyn Port>>, line: &mut Line) ->
         differ_lent(&mut found, &lent, &port_lent);
         if !found.is_empty() {
             text += &report("sweep, model against port", case, &found);
+        }
+    }
+    if case.panel.form == Form::Grow {
+        let found = beside_wolff(port, line, |side| grown::swept(case, side));
+        if !found.is_empty() {
+            text += &report("sweep, grow against Wolff", case, &found);
         }
     }
     found(text, case.panel.n * (case.panel.d + case.panel.s), line)
@@ -264,8 +311,12 @@ pub fn damaged_single(
     } else {
         line.refused[0] += 1;
     }
-    if let Some(port) = port {
+    let mut port = port;
+    if let Some(port) = port.as_deref_mut() {
         text += &single_port(case, answer, &lent, port.as_mut());
+    }
+    if case.panel.form == Form::Grow {
+        text += &beside_wolff(port, line, |side| grown::single(case, side));
     }
     if !text.is_empty() {
         text = report("damaged single move", case, &text);
@@ -287,10 +338,14 @@ pub fn damaged_sweep(
     } else {
         line.refused[0] += 1;
     }
-    if let Some(port) = port {
+    let mut port = port;
+    if let Some(port) = port.as_deref_mut() {
         let (port_answer, port_lent) = case.run(port.as_mut());
         differ(&mut text, "answer", answer, port_answer);
         differ_lent(&mut text, &lent, &port_lent);
+    }
+    if case.panel.form == Form::Grow {
+        text += &beside_wolff(port, line, |side| grown::swept(case, side));
     }
     if !text.is_empty() {
         text = report("damaged sweep", case, &text);

@@ -64,12 +64,13 @@ fn panel(rand: &mut Rand, panel: &mut Panel, lent: &mut Lent) {
 }
 
 fn outputs(rand: &mut Rand, lent: &mut Lent) {
-    match rand.range(0, 4) {
+    match rand.range(0, 6) {
         0 => longer_or_shorter(rand, &mut lent.spins),
         1 => longer_or_shorter(rand, &mut lent.labels),
         2 => longer_or_shorter(rand, &mut lent.grey_labels),
         3 => longer_or_shorter(rand, &mut lent.counts),
-        _ => longer_or_shorter(rand, &mut lent.sizes),
+        4 => longer_or_shorter(rand, &mut lent.sizes),
+        _ => longer_or_shorter(rand, &mut lent.member_sites),
     }
 }
 

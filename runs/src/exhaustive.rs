@@ -1,7 +1,7 @@
 //! Every single move on a few sites: all tables of one direction, spins, couplings, cuts and choices.
 use crate::case::{Choices, Lent, Panel, Single};
 use crate::lattices::backward;
-use crate::make::UNTOUCHED;
+use crate::make::{UNTOUCHED, UNTOUCHED_BYTE};
 use crate::model::lengths;
 use calls::{Form, Mode};
 
@@ -55,23 +55,25 @@ fn case(mode: Mode, form: Form, n: usize, members: usize, number: usize) -> (Sin
         .filter(|p| !p.is_sorted())
         .cloned()
         .collect();
-    let from = if form == Form::Wolff {
+    let from = if form.one_cluster() {
         &proper
     } else {
         &permutations
     };
-    let greys: &[u8] = if form == Form::Wolff {
+    let greys: &[u8] = if form.one_cluster() {
         &[1, 2, 3]
     } else {
         &[0, 1, 2, 3]
     };
+    let output = |length: Option<usize>| vec![UNTOUCHED; length.unwrap_or(0)];
     let several = |count: Option<usize>| 0..count.unwrap_or(0);
     let lent = Lent {
         spins: (0..members * n).map(|_| digits.pick(&[1, -1])).collect(),
-        labels: vec![UNTOUCHED; exact.labels],
-        grey_labels: vec![UNTOUCHED; exact.grey_labels.unwrap_or(0)],
-        counts: vec![UNTOUCHED; exact.counts],
-        sizes: vec![UNTOUCHED; exact.sizes],
+        labels: output(exact.labels),
+        grey_labels: output(exact.grey_labels),
+        counts: output(exact.counts),
+        sizes: output(exact.sizes),
+        member_sites: vec![UNTOUCHED_BYTE; exact.member_sites.unwrap_or(0)],
     };
     let couplings = several(exact.couplings)
         .map(|_| digits.pick(&[1, -1, 0]))
@@ -100,7 +102,7 @@ fn case(mode: Mode, form: Form, n: usize, members: usize, number: usize) -> (Sin
         group: (0..members as u32).collect(),
         temperature: 1.0,
         reference: digits.take(if mode == Mode::Gperm { n } else { 1 }),
-        seed: digits.take(if form == Form::Wolff { n } else { 1 }),
+        seed: digits.take(if form.one_cluster() { n } else { 1 }),
         choices,
         lent,
     };

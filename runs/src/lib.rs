@@ -5,6 +5,7 @@ pub mod damage;
 pub mod draws;
 pub mod edges;
 pub mod exhaustive;
+pub mod grown;
 pub mod idle;
 pub mod lattices;
 pub mod make;

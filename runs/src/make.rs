@@ -8,6 +8,7 @@ use calls::{Form, Mode};
 
 /// What an output holds before the call, so that a byte left alone is seen.
 pub const UNTOUCHED: u32 = 0xaaaa_aaaa;
+pub const UNTOUCHED_BYTE: u8 = 0xaa;
 
 fn couplings(rand: &mut Rand, bonds: usize) -> Vec<i32> {
     let most = rand.pick(&[1, 3, 3, 100, 1_000_000]);
@@ -81,7 +82,7 @@ fn flips(rand: &mut Rand, count: usize) -> Vec<u8> {
 fn permutation(rand: &mut Rand, members: usize, form: Form) -> Vec<u8> {
     loop {
         let p: Vec<u8> = rand.permutation(members).iter().map(|&v| v as u8).collect();
-        if form == Form::Sw || p.iter().enumerate().any(|(k, &v)| usize::from(v) != k) {
+        if !form.one_cluster() || p.iter().enumerate().any(|(k, &v)| usize::from(v) != k) {
             return p;
         }
     }
@@ -123,7 +124,7 @@ fn choices(
         },
         greys: match exact.greys {
             Some(count) => {
-                let least = usize::from(panel.form == Form::Wolff);
+                let least = usize::from(panel.form.one_cluster());
                 (0..count).map(|_| rand.range(least, 3) as u8).collect()
             }
             None => untaken(rand, |word| word as u8),
@@ -131,16 +132,26 @@ fn choices(
     }
 }
 
-fn outputs(rand: &mut Rand, exact: Lengths, spins: Vec<i8>) -> Lent {
+/// An output of n sites, or one that is not taken: short, or as long as others are, so that a form that writes it is seen.
+fn output<T: Copy>(rand: &mut Rand, exact: Option<usize>, n: usize, value: T) -> Vec<T> {
+    let length = exact.unwrap_or_else(|| rand.pick(&[0, 1, 3, n, n + 1]));
+    vec![value; length]
+}
+
+fn outputs(rand: &mut Rand, exact: Lengths, n: usize, spins: Vec<i8>) -> Lent {
+    let grey_labels = match exact.grey_labels {
+        Some(count) => vec![UNTOUCHED; count],
+        None => untaken(rand, |word| word as u32),
+    };
+    // draws of its own, so that the calls of the forms that label are what they were before there was one that grows
+    let rand = &mut rand.aside();
     Lent {
         spins,
-        labels: vec![UNTOUCHED; exact.labels],
-        grey_labels: match exact.grey_labels {
-            Some(count) => vec![UNTOUCHED; count],
-            None => untaken(rand, |word| word as u32),
-        },
-        counts: vec![UNTOUCHED; exact.counts],
-        sizes: vec![UNTOUCHED; exact.sizes],
+        labels: output(rand, exact.labels, n, UNTOUCHED),
+        grey_labels,
+        counts: output(rand, exact.counts, n, UNTOUCHED),
+        sizes: output(rand, exact.sizes, 3, UNTOUCHED),
+        member_sites: output(rand, exact.member_sites, n, UNTOUCHED_BYTE),
     }
 }
 
@@ -207,10 +218,10 @@ pub fn single(rand: &mut Rand, mode: Mode, form: Form, size: Size) -> Single {
         },
         seed: rand.pick(&[0, panel.n, usize::MAX]),
         choices: choices(rand, &panel, members, exact, &[temperature]),
-        lent: outputs(rand, exact, spins),
+        lent: outputs(rand, exact, panel.n, spins),
         panel,
     };
-    if form == Form::Wolff {
+    if form.one_cluster() {
         let active = model::active(&case.step(&mut case.lent.clone()));
         case.seed = seed(rand, &active);
     }
@@ -292,11 +303,11 @@ pub fn swept(rand: &mut Rand, mode: Mode, form: Form, size: Size) -> Swept {
         },
         seeds: untaken(rand, |word| word as u32),
         choices: choices(rand, &panel, members, exact, &temperatures),
-        lent: outputs(rand, exact, spins),
+        lent: outputs(rand, exact, panel.n, spins),
         temperatures,
         panel,
     };
-    if form == Form::Wolff {
+    if form.one_cluster() {
         let mut lent = case.lent.clone();
         let mut seeds = Vec::new();
         for task in 0..tasks {

@@ -1,18 +1,22 @@
 //! Document 01 in plain Rust, written from its text and not from overlap.rs: every sentence once, no speed. Counts and sizes are those of
-//! request 4/14.
+//! request 4/14, and the form that grows is that of request 5/14.
 use calls::{Answer, Label, Meter, MeterAnswer, Port, Step, Sweep, SweepAnswer};
 use calls::{Form, Mode};
 
 mod bonds;
 mod components;
+mod grow;
 mod moves;
 mod refusals;
+mod sweeps;
 
 use bonds::acts;
 use components::{counts, four_largest, labels};
-use moves::outcome;
+use grow::{grown, Grown};
+use moves::{outcome, Outcome};
 use refusals::*;
 pub use refusals::{lengths, Lengths};
+use sweeps::{sweep_panel, sweep_refusal, sweep_task, unmasked};
 
 /// What every call lends: the lattice and all spins.
 #[derive(Clone, Copy)]
@@ -57,6 +61,7 @@ pub fn active_in_task(call: &Sweep, number: usize) -> Vec<bool> {
         grey_labels: &mut [],
         counts: &mut [],
         sizes: &mut [],
+        member_sites: &mut [],
         ..*call
     };
     let task = sweep_task(&unseeded, number);
@@ -101,10 +106,11 @@ fn single_length_refused(call: &Step) -> bool {
         || differs(exact.flips, call.flips.len())
         || differs(exact.perms, call.perms.len())
         || differs(exact.greys, call.greys.len())
-        || exact.labels != call.labels.len()
+        || differs(exact.labels, call.labels.len())
         || differs(exact.grey_labels, call.grey_labels.len())
-        || exact.counts != call.counts.len()
-        || exact.sizes != call.sizes.len()
+        || differs(exact.counts, call.counts.len())
+        || differs(exact.sizes, call.sizes.len())
+        || differs(exact.member_sites, call.member_sites.len())
 }
 
 fn single_refusal(call: &Step) -> Option<u8> {
@@ -129,119 +135,16 @@ fn single_refusal(call: &Step) -> Option<u8> {
     }
 }
 
-// --- A sweep ---
-
-fn sweep_panel<'a>(call: &'a Sweep) -> Panel<'a> {
-    Panel {
-        n: call.n,
-        d: call.d,
-        s: call.s,
-        spins: call.spins,
-        fwd: call.fwd,
-        bwd: call.bwd,
-    }
-}
-
-fn part<T>(buffer: &[T], task: usize, length: usize) -> &[T] {
-    &buffer[task * length..(task + 1) * length]
-}
-
-/// A task's part of a buffer that the call takes; nothing of one that it does not.
-fn taken<T>(wanted: Option<usize>, buffer: &[T], task: usize) -> &[T] {
-    match wanted {
-        Some(length) => part(buffer, task, length),
-        None => &[],
-    }
-}
-
-fn sweep_task<'a>(call: &'a Sweep, number: usize) -> Task<'a> {
-    let groups = call.r / call.members;
-    let (j, g) = (number / groups, number % groups);
-    let each = lengths(call.mode, call.form, call.n, call.d, call.members, 1);
-    let from = j * call.r + g * call.members;
-    let first = |numbers: &[u32]| numbers.first().map_or(0, |&number| number as usize);
-    Task {
-        mode: call.mode,
-        form: call.form,
-        group: call.order[from..from + call.members]
-            .iter()
-            .map(|&system| system as usize)
-            .collect(),
-        couplings: call.couplings,
-        temperature: if call.mode.draws() {
-            call.temperatures[j]
-        } else {
-            1.0
-        },
-        cuts: taken(each.cuts, call.cuts, number),
-        reference: first(taken(each.references, call.references, number)),
-        seed: first(taken(each.seeds, call.seeds, number)),
-        flips: taken(each.flips, call.flips, number),
-        perms: taken(each.perms, call.perms, number),
-        greys: taken(each.greys, call.greys, number),
-    }
-}
-
-fn sweep_length_refused(call: &Sweep) -> bool {
-    let tasks = call.t * (call.r / call.members);
-    let exact = lengths(call.mode, call.form, call.n, call.d, call.members, tasks);
-    panel_length_refused(sweep_panel(call))
-        || differs(exact.couplings, call.couplings.len())
-        || call.order.len() != call.s
-        || call.masks.len() != call.t
-        || (call.mode.draws() && call.temperatures.len() != call.t)
-        || differs(exact.cuts, call.cuts.len())
-        || differs(exact.references, call.references.len())
-        || differs(exact.seeds, call.seeds.len())
-        || differs(exact.flips, call.flips.len())
-        || differs(exact.perms, call.perms.len())
-        || differs(exact.greys, call.greys.len())
-        || exact.labels != call.labels.len()
-        || differs(exact.grey_labels, call.grey_labels.len())
-        || exact.counts != call.counts.len()
-        || exact.sizes != call.sizes.len()
-}
-
-/// The unmasked tasks in ascending order.
-fn unmasked(call: &Sweep) -> Vec<usize> {
-    let groups = call.r / call.members;
-    (0..call.t * groups)
-        .filter(|task| call.masks[task / groups] == 0)
-        .collect()
-}
-
-fn sweep_refusal(call: &Sweep) -> Option<u8> {
-    let draws = call.mode.draws();
-    let panel = sweep_panel(call);
-    let systems = call.t as u128 * call.r as u128;
-    if sizes_refused(call.n, call.d, call.s)
-        || members_refused(call.mode, call.members)
-        || systems != call.s as u128
-        || call.members > call.r
-    {
-        Some(1)
-    } else if sweep_length_refused(call) {
-        Some(2)
-    } else if spins_refused(call.spins) {
-        Some(3)
-    } else if tables_refused(panel) {
-        Some(4)
-    } else if systems_refused(call.order, call.s) {
-        Some(5)
-    } else if draws && coupling_refused(call.couplings) {
-        Some(6)
-    } else if draws && call.temperatures.iter().any(|&t| temperature_refused(t)) {
-        Some(7)
-    } else if call.masks.iter().any(|&mask| mask > 1) {
-        Some(9)
-    } else {
-        unmasked(call)
-            .iter()
-            .find_map(|&number| task_refusal(panel, &sweep_task(call, number)))
-    }
-}
-
 // --- The four calls ---
+
+/// A task's areas of the lent buffers.
+struct Areas<'a> {
+    labels: &'a mut [u32],
+    grey_labels: &'a mut [u32],
+    counts: &'a mut [u32],
+    sizes: &'a mut [u32],
+    member_sites: &'a mut [u8],
+}
 
 fn write_labels(to: &mut [u32], labels: &[usize]) {
     for (to, &label) in to.iter_mut().zip(labels) {
@@ -252,6 +155,60 @@ fn write_labels(to: &mut [u32], labels: &[usize]) {
 fn write_sizes(to_counts: &mut [u32], to_sizes: &mut [u32], labels: &[usize], counted: &[bool]) {
     to_counts.copy_from_slice(&counts(labels, counted));
     to_sizes.copy_from_slice(&four_largest(labels, counted));
+}
+
+/// What one task does.
+enum Done {
+    Labelled(Outcome),
+    Grown(Grown),
+}
+
+impl Done {
+    fn of(panel: Panel, task: &Task) -> Self {
+        match task.form {
+            Form::Grow => Done::Grown(grown(panel, task)),
+            _ => Done::Labelled(outcome(panel, task)),
+        }
+    }
+
+    fn idle(&self) -> bool {
+        match self {
+            Done::Labelled(done) => done.idle,
+            Done::Grown(done) => done.idle,
+        }
+    }
+
+    fn columns(&self) -> &[Vec<i8>] {
+        match self {
+            Done::Labelled(done) => &done.columns,
+            Done::Grown(done) => &done.columns,
+        }
+    }
+
+    fn write(&self, to: Areas) {
+        match self {
+            Done::Labelled(done) => {
+                write_labels(to.labels, &done.labels);
+                if let Some(grey) = &done.grey_labels {
+                    write_labels(to.grey_labels, grey);
+                }
+                write_sizes(to.counts, to.sizes, &done.labels, &done.acting);
+            }
+            Done::Grown(done) => {
+                for (to, &member) in to.member_sites.iter_mut().zip(&done.members) {
+                    *to = u8::from(member);
+                }
+            }
+        }
+    }
+}
+
+/// A task's area of a buffer that the call takes; nothing of one that it does not.
+fn area<T>(wanted: Option<usize>, buffer: &mut [T], task: usize) -> &mut [T] {
+    match wanted {
+        Some(length) => &mut buffer[task * length..(task + 1) * length],
+        None => &mut [],
+    }
 }
 
 /// The labelling has no table of refusals in document 01: these are those of docs/DECISIONS.md.
@@ -296,18 +253,19 @@ impl Port for Model {
             return Answer::Refused(number);
         }
         let task = single_task(&call);
-        let answer = outcome(single_panel(&call), &task);
+        let done = Done::of(single_panel(&call), &task);
         let group = task.group;
-        write_spins(call.spins, &group, &answer.columns);
-        write_labels(call.labels, &answer.labels);
-        if let Some(grey) = &answer.grey_labels {
-            write_labels(call.grey_labels, grey);
-        }
-        write_sizes(call.counts, call.sizes, &answer.labels, &answer.acting);
-        if answer.idle {
-            Answer::Idle
-        } else {
-            Answer::Moved
+        write_spins(call.spins, &group, done.columns());
+        done.write(Areas {
+            labels: call.labels,
+            grey_labels: call.grey_labels,
+            counts: call.counts,
+            sizes: call.sizes,
+            member_sites: call.member_sites,
+        });
+        match done.idle() {
+            true => Answer::Idle,
+            false => Answer::Moved,
         }
     }
 
@@ -315,27 +273,23 @@ impl Port for Model {
         if let Some(number) = sweep_refusal(&call) {
             return SweepAnswer::Refused(number);
         }
+        let each = lengths(call.mode, call.form, call.n, call.d, call.members, 1);
         let (mut idle, mut moved) = (0, 0);
         for number in unmasked(&call) {
             let task = sweep_task(&call, number);
-            let answer = outcome(sweep_panel(&call), &task);
+            let done = Done::of(sweep_panel(&call), &task);
             let group = task.group;
-            let n = call.n;
-            write_spins(call.spins, &group, &answer.columns);
-            write_labels(&mut call.labels[number * n..], &answer.labels);
-            if let Some(grey) = &answer.grey_labels {
-                write_labels(&mut call.grey_labels[number * n..], grey);
-            }
-            write_sizes(
-                &mut call.counts[number * (n + 1)..(number + 1) * (n + 1)],
-                &mut call.sizes[number * 4..number * 4 + 4],
-                &answer.labels,
-                &answer.acting,
-            );
-            if answer.idle {
-                idle += 1;
-            } else {
-                moved += 1;
+            write_spins(call.spins, &group, done.columns());
+            done.write(Areas {
+                labels: area(each.labels, call.labels, number),
+                grey_labels: area(each.grey_labels, call.grey_labels, number),
+                counts: area(each.counts, call.counts, number),
+                sizes: area(each.sizes, call.sizes, number),
+                member_sites: area(each.member_sites, call.member_sites, number),
+            });
+            match done.idle() {
+                true => idle += 1,
+                false => moved += 1,
             }
         }
         SweepAnswer::Swept { idle, moved }

@@ -32,6 +32,7 @@ mod linked {
             Form::Sw => tsorvenk::Form::Sw,
             Form::Wolff => tsorvenk::Form::Wolff,
             Form::Observe => tsorvenk::Form::Observe,
+            Form::Grow => tsorvenk::Form::Grow,
         }
     }
 
@@ -63,6 +64,7 @@ mod linked {
                 grey_labels: call.grey_labels,
                 counts: call.counts,
                 sizes: call.sizes,
+                member_sites: call.member_sites,
             }) {
                 Ok(tsorvenk::Stepped::Moved) => Answer::Moved,
                 Ok(tsorvenk::Stepped::Idle) => Answer::Idle,
@@ -97,6 +99,7 @@ mod linked {
                 grey_labels: call.grey_labels,
                 counts: call.counts,
                 sizes: call.sizes,
+                member_sites: call.member_sites,
             }) {
                 Ok(tsorvenk::Swept { idle, moved, .. }) => SweepAnswer::Swept { idle, moved },
                 Err(refusal) => SweepAnswer::Refused(refusal.number),

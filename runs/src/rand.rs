@@ -19,6 +19,11 @@ impl Rand {
         Rand::new(numbers.iter().fold(1, mix))
     }
 
+    /// Another generator, made of this one, which stays where it is.
+    pub fn aside(&self) -> Self {
+        Rand::of(&[self.0])
+    }
+
     pub fn word(&mut self) -> u64 {
         self.0 ^= self.0 >> 12;
         self.0 ^= self.0 << 25;

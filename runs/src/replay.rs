@@ -221,17 +221,18 @@ impl<'a> Reader<'a> {
         let exact = lengths(mode, form, n, d, members, tasks);
         Lent {
             spins: self.spins(spins),
-            labels: self.numbers(exact.labels, 2),
+            labels: self.numbers(exact.labels.unwrap_or(0), 2),
             grey_labels: self.numbers(exact.grey_labels.unwrap_or(0), 2),
-            counts: self.numbers(exact.counts, 2),
-            sizes: self.numbers(exact.sizes, 2),
+            counts: self.numbers(exact.counts.unwrap_or(0), 2),
+            sizes: self.numbers(exact.sizes.unwrap_or(0), 2),
+            member_sites: Vec::new(),
         }
     }
 
     fn entry(&mut self) -> Entry {
         let single = self.number(1) == 0;
         let mode = Mode::ALL[self.number(1) as usize];
-        let form = Form::ALL[self.number(1) as usize];
+        let form = Form::LABELLED[self.number(1) as usize];
         let marks = self.number(1) as u8;
         let n = self.number(2) as usize;
         let mut size = || self.number(1) as usize;
@@ -274,6 +275,7 @@ impl<'a> Reader<'a> {
             grey_labels: untouched(&after.grey_labels),
             counts: untouched(&after.counts),
             sizes: untouched(&after.sizes),
+            member_sites: Vec::new(),
         };
         let case = Swept {
             panel,

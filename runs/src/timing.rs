@@ -101,7 +101,7 @@ fn permutations(rand: &mut Rand, count: usize, members: usize) -> Vec<u8> {
 /// Choices as a caller would draw them; a one-cluster permutation is not the identity.
 fn choices(rand: &mut Rand, panel: &Panel, members: usize, tasks: usize) -> Choices {
     let exact = lengths(panel.mode, panel.form, panel.n, panel.d, members, tasks);
-    let least = usize::from(panel.form == Form::Wolff);
+    let least = usize::from(panel.form.one_cluster());
     Choices {
         cuts: (0..exact.cuts.unwrap_or(0))
             .map(|_| -rand.unit().ln() as f32)
@@ -118,12 +118,14 @@ fn choices(rand: &mut Rand, panel: &Panel, members: usize, tasks: usize) -> Choi
 
 fn outputs(panel: &Panel, members: usize, tasks: usize, spins: Vec<i8>) -> Lent {
     let exact = lengths(panel.mode, panel.form, panel.n, panel.d, members, tasks);
+    let output = |length: Option<usize>| vec![0; length.unwrap_or(0)];
     Lent {
         spins,
-        labels: vec![0; exact.labels],
-        grey_labels: vec![0; exact.grey_labels.unwrap_or(0)],
-        counts: vec![0; exact.counts],
-        sizes: vec![0; exact.sizes],
+        labels: output(exact.labels),
+        grey_labels: output(exact.grey_labels),
+        counts: output(exact.counts),
+        sizes: output(exact.sizes),
+        member_sites: vec![0; exact.member_sites.unwrap_or(0)],
     }
 }
 
@@ -188,7 +190,7 @@ fn faulty_last(mode: Mode, form: Form, choices: &mut Choices) {
     match (mode, form) {
         (Mode::Jorg | Mode::Cmr, Form::Observe) => *cuts.last_mut().unwrap() = -1.0,
         (Mode::Cmr, _) => *greys.last_mut().unwrap() = 4,
-        (Mode::Perm | Mode::Gperm, Form::Sw | Form::Wolff) => *perms.last_mut().unwrap() = 255,
+        (Mode::Perm | Mode::Gperm, Form::Sw) => *perms.last_mut().unwrap() = 255,
         (_, Form::Sw) => *flips.last_mut().unwrap() = 2,
         _ => {}
     }
@@ -199,7 +201,7 @@ pub fn refused_single(case: &Single) -> Single {
     let mut case = case.clone();
     let (mode, form) = (case.panel.mode, case.panel.form);
     // a seed that acts is all that test 10 reads, so one past the sites stands for it; one that does not act would have the panel scanned
-    if form == Form::Wolff {
+    if form.one_cluster() {
         case.seed = case.panel.n;
     } else if form == Form::Observe && !mode.draws() {
         match mode {
@@ -216,7 +218,7 @@ pub fn refused_sweep(case: &Swept) -> Swept {
     let mut case = case.clone();
     let (mode, form) = (case.panel.mode, case.panel.form);
     let last = case.seeds.len() - 1;
-    if form == Form::Wolff {
+    if form.one_cluster() {
         case.seeds[last] = N as u32;
     } else if form == Form::Observe && !mode.draws() {
         match mode {

@@ -2,7 +2,7 @@
 use std::error::Error;
 use std::fmt;
 
-/// What became of a step that is not refused. Labels, counts and sizes are written in either case.
+/// What became of a step that is not refused. What its form writes beside the spins is written in either case.
 #[derive(Clone, Copy, Debug, PartialEq, Eq, Hash)]
 pub enum Stepped {
     /// Some site acts (in CMR every site does), even if every choice was to leave the spins as they are. An observation

@@ -45,15 +45,18 @@ pub enum Form {
     Wolff = 1,
     /// Components are labelled and counted, and nothing moves.
     Observe = 2,
+    /// As `Wolff`, but only what the seed's component reaches is looked at: its sites are written, and nothing is labelled or
+    /// counted.
+    Grow = 3,
 }
 
 impl Form {
-    /// All three.
-    pub const ALL: [Form; 3] = [Form::Sw, Form::Wolff, Form::Observe];
+    /// All four.
+    pub const ALL: [Form; 4] = [Form::Sw, Form::Wolff, Form::Observe, Form::Grow];
 
-    /// SW, Wolff or observe.
+    /// SW, Wolff, observe or grow.
     pub fn name(self) -> &'static str {
-        ["SW", "Wolff", "observe"][self as usize]
+        ["SW", "Wolff", "observe", "grow"][self as usize]
     }
 }
 
@@ -90,24 +93,27 @@ pub struct Step<'a> {
     pub cuts: &'a [f32],
     /// A site. Gperm, in every form.
     pub reference: usize,
-    /// A site that acts, if any does. Wolff.
+    /// A site that acts, if any does. Wolff and grow.
     pub seed: usize,
     /// n, each 0 or 1. SW of houd, pair, Jörg, CMR.
     pub flips: &'a [u8],
-    /// SW: n rows of N; Wolff: one row of N that is not the identity. Each row is a permutation of 0 to N - 1: replica k
-    /// gets the old spin of replica p(k). SW and Wolff of perm, gperm.
+    /// SW: n rows of N; Wolff and grow: one row of N that is not the identity. Each row is a permutation of 0 to N - 1:
+    /// replica k gets the old spin of replica p(k). SW, Wolff and grow of perm, gperm.
     pub perms: &'a [u8],
-    /// SW: n, each 0 to 3; Wolff: one, 1 to 3. Bit 0 flips the first replica, bit 1 the second. SW and Wolff of CMR.
+    /// SW: n, each 0 to 3; Wolff and grow: one, 1 to 3. Bit 0 flips the first replica, bit 1 the second. SW, Wolff and grow
+    /// of CMR.
     pub greys: &'a [u8],
-    /// n. Written: the smallest site of each site's component (CMR: blue components).
+    /// n. Written: the smallest site of each site's component (CMR: blue components). All forms but grow.
     pub labels: &'a mut [u32],
     /// n. Written: the same of grey components. SW and Wolff of CMR.
     pub grey_labels: &'a mut [u32],
     /// n + 1. Written: count k is the number of acting components of size k, count 0 is 0 (CMR: blue, all of them). A site that
-    /// does not act is labelled as a component of its own and not counted.
+    /// does not act is labelled as a component of its own and not counted. All forms but grow.
     pub counts: &'a mut [u32],
-    /// 4. Written: the largest sizes of what is counted, in falling order, filled with 0.
+    /// 4. Written: the largest sizes of what is counted, in falling order, filled with 0. All forms but grow.
     pub sizes: &'a mut [u32],
+    /// n. Written: 1 at the sites of the seed's component (CMR: of its grey one), else 0; idle: all 0. Grow.
+    pub member_sites: &'a mut [u8],
 }
 
 /// A sweep over t temperatures of r replicas, t * r = s, in groups of N = `members` systems.
@@ -152,22 +158,24 @@ pub struct Sweep<'a> {
     pub cuts: &'a [f32],
     /// K. Gperm, in every form.
     pub references: &'a [u32],
-    /// K. Wolff.
+    /// K. Wolff and grow.
     pub seeds: &'a [u32],
     /// K * n. SW of houd, pair, Jörg, CMR.
     pub flips: &'a [u8],
-    /// SW: K * n * N; Wolff: K * N. SW and Wolff of perm, gperm.
+    /// SW: K * n * N; Wolff and grow: K * N. SW, Wolff and grow of perm, gperm.
     pub perms: &'a [u8],
-    /// SW: K * n; Wolff: K. SW and Wolff of CMR.
+    /// SW: K * n; Wolff and grow: K. SW, Wolff and grow of CMR.
     pub greys: &'a [u8],
-    /// K * n. Written.
+    /// K * n. Written. All forms but grow.
     pub labels: &'a mut [u32],
     /// K * n. Written. SW and Wolff of CMR.
     pub grey_labels: &'a mut [u32],
-    /// K * (n + 1). Written.
+    /// K * (n + 1). Written. All forms but grow.
     pub counts: &'a mut [u32],
-    /// K * 4. Written.
+    /// K * 4. Written. All forms but grow.
     pub sizes: &'a mut [u32],
+    /// K * n. Written. Grow.
+    pub member_sites: &'a mut [u8],
 }
 
 /// The energy of one system: every field is taken.

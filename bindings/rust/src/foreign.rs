@@ -9,6 +9,7 @@ extern "C" {
         flips: *const u8, flips_len: usize, perms: *const u8, perms_len: usize, greys: *const u8, greys_len: usize,
         labels: *mut u32, labels_len: usize, grey_labels: *mut u32, grey_labels_len: usize,
         counts: *mut u32, counts_len: usize, sizes: *mut u32, sizes_len: usize,
+        member_sites: *mut u8, member_sites_len: usize,
     ) -> u8;
     pub fn tsorvenk_sweep(
         mode: u8, form: u8, n: usize, d: usize, s: usize, t: usize, r: usize, members: usize,
@@ -20,6 +21,7 @@ extern "C" {
         flips: *const u8, flips_len: usize, perms: *const u8, perms_len: usize, greys: *const u8, greys_len: usize,
         labels: *mut u32, labels_len: usize, grey_labels: *mut u32, grey_labels_len: usize,
         counts: *mut u32, counts_len: usize, sizes: *mut u32, sizes_len: usize,
+        member_sites: *mut u8, member_sites_len: usize,
         outcomes: *mut u32, outcomes_len: usize,
     ) -> u8;
     pub fn tsorvenk_energy(

@@ -16,7 +16,7 @@
 //! // two sites, each the other's neighbour, and two systems that differ at both
 //! let mut spins = [1, 1, -1, -1];
 //! let (mut labels, mut counts, mut sizes) = ([0; 2], [0; 3], [0; 4]);
-//! let mut grow_from = |seed| {
+//! let mut move_from = |seed| {
 //!     step(Step {
 //!         mode: Mode::Pair,
 //!         form: Form::Wolff,
@@ -34,8 +34,8 @@
 //!         ..Default::default()
 //!     })
 //! };
-//! assert_eq!(grow_from(0), Ok(Stepped::Moved));
-//! assert_eq!(grow_from(2), Err(Refusal { number: 10 }));
+//! assert_eq!(move_from(0), Ok(Stepped::Moved));
+//! assert_eq!(move_from(2), Err(Refusal { number: 10 }));
 //! assert_eq!(spins, [-1, -1, 1, 1]);
 //! assert_eq!((labels, counts, sizes), ([0, 0], [0, 0, 1], [2, 0, 0, 0]));
 //! ```

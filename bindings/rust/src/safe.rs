@@ -4,7 +4,33 @@ use crate::answers::{NoRoom, Refusal, Stepped, Swept};
 use crate::calls::{Energy, Frames, Label, ReadEdges, Step, Sweep, WriteEdges};
 use crate::foreign::*;
 
-/// One move or observation of one group. The example of the [crate] is one.
+/// One move or observation of one group. The example of the [crate] is one; this one grows from its seed and labels nothing.
+///
+/// ```
+/// use tsorvenk::{step, Form, Mode, Step, Stepped};
+///
+/// // a ring of four; the two systems differ at the sites 0, 1 and 3
+/// let mut spins = [1, 1, 1, 1, -1, -1, 1, -1];
+/// let mut member_sites = [9; 4];
+/// let stepped = step(Step {
+///     mode: Mode::Pair,
+///     form: Form::Grow,
+///     n: 4,
+///     d: 1,
+///     s: 2,
+///     spins: &mut spins,
+///     fwd: &[1, 2, 3, 0],
+///     bwd: &[3, 0, 1, 2],
+///     group: &[0, 1],
+///     seed: 1,
+///     member_sites: &mut member_sites,
+///     ..Default::default()
+/// })?;
+/// assert_eq!(stepped, Stepped::Moved);
+/// assert_eq!(member_sites, [1, 1, 0, 1]);
+/// assert_eq!(spins, [-1, -1, 1, -1, 1, 1, 1, 1]);
+/// # Ok::<(), tsorvenk::Refusal>(())
+/// ```
 #[inline]
 #[rustfmt::skip]
 pub fn step(call: Step) -> Result<Stepped, Refusal> {
@@ -19,6 +45,7 @@ pub fn step(call: Step) -> Result<Stepped, Refusal> {
             call.greys.as_ptr(), call.greys.len(),
             call.labels.as_mut_ptr(), call.labels.len(), call.grey_labels.as_mut_ptr(), call.grey_labels.len(),
             call.counts.as_mut_ptr(), call.counts.len(), call.sizes.as_mut_ptr(), call.sizes.len(),
+            call.member_sites.as_mut_ptr(), call.member_sites.len(),
         )
     };
     match number {
@@ -77,6 +104,7 @@ pub fn sweep(call: Sweep) -> Result<Swept, Refusal> {
             call.greys.as_ptr(), call.greys.len(),
             call.labels.as_mut_ptr(), call.labels.len(), call.grey_labels.as_mut_ptr(), call.grey_labels.len(),
             call.counts.as_mut_ptr(), call.counts.len(), call.sizes.as_mut_ptr(), call.sizes.len(),
+            call.member_sites.as_mut_ptr(), call.member_sites.len(),
             outcomes.as_mut_ptr(), outcomes.len(),
         )
     };

@@ -18,6 +18,7 @@ fn one_site(mode: Mode, form: Form, lent: &mut Lent) -> Step<'_> {
         labels: &mut lent.labels,
         counts: &mut lent.counts,
         sizes: &mut lent.sizes,
+        member_sites: &mut lent.member_sites,
         ..Default::default()
     }
 }
@@ -28,6 +29,7 @@ struct Lent {
     labels: [u32; 1],
     counts: [u32; 2],
     sizes: [u32; 4],
+    member_sites: [u8; 1],
 }
 
 const LENT: Lent = Lent {
@@ -35,6 +37,7 @@ const LENT: Lent = Lent {
     labels: [9],
     counts: [9; 2],
     sizes: [9; 4],
+    member_sites: [9],
 };
 
 const WRITTEN: Lent = Lent {
@@ -42,6 +45,7 @@ const WRITTEN: Lent = Lent {
     labels: [0],
     counts: [0, 1],
     sizes: [1, 0, 0, 0],
+    member_sites: [9],
 };
 
 #[test]
@@ -70,11 +74,76 @@ fn what_is_not_taken_may_be_left_out() {
     );
 }
 
+/// The form that grows takes no labels, counts and sizes, and the others no member sites: whatever is lent is kept.
+#[test]
+fn a_form_leaves_the_outputs_of_others() {
+    let mut lent = LENT;
+    let answer = step(one_site(Mode::Pair, Form::Grow, &mut lent));
+    let grown = Lent {
+        spins: [-1, 1],
+        member_sites: [1],
+        ..LENT
+    };
+    assert_eq!((answer, lent), (Ok(Stepped::Moved), grown));
+    let mut lent = LENT;
+    let bare = Step {
+        labels: &mut [],
+        counts: &mut [],
+        sizes: &mut [],
+        ..one_site(Mode::Gperm, Form::Grow, &mut lent)
+    };
+    let turned = Step {
+        perms: &[1, 0],
+        ..bare
+    };
+    let idle = Lent {
+        member_sites: [0],
+        ..LENT
+    };
+    assert_eq!((step(turned), lent), (Ok(Stepped::Idle), idle));
+    let mut lent = LENT;
+    let unlent = Step {
+        member_sites: &mut [],
+        ..one_site(Mode::Pair, Form::Grow, &mut lent)
+    };
+    assert_eq!((step(unlent), lent), (Err(Refusal { number: 2 }), LENT));
+}
+
+#[test]
+fn a_sweep_grows_in_its_tasks() {
+    let (mut spins, mut member_sites) = ([1, -1, 1, 1], [9; 2]);
+    let mut grow = |member_sites: &mut [u8]| {
+        sweep(Sweep {
+            mode: Mode::Pair,
+            form: Form::Grow,
+            n: 1,
+            d: 1,
+            s: 4,
+            t: 1,
+            r: 4,
+            members: 2,
+            spins: &mut spins,
+            fwd: &[0],
+            bwd: &[0],
+            order: &[0, 1, 2, 3],
+            masks: &[0],
+            seeds: &[0, 0],
+            member_sites,
+            ..Default::default()
+        })
+    };
+    assert_eq!(grow(&mut member_sites[..1]), Err(Refusal { number: 2 }));
+    let swept = grow(&mut member_sites).unwrap();
+    assert_eq!((swept.idle, swept.moved), (1, 1));
+    assert_eq!((spins, member_sites), ([-1, 1, 1, 1], [1, 0]));
+}
+
 #[test]
 fn what_is_taken_and_left_out_is_refused() {
     for (mode, form) in [
         (Mode::Houd, Form::Sw),
         (Mode::Perm, Form::Wolff),
+        (Mode::Cmr, Form::Grow),
         (Mode::Jorg, Form::Observe),
         (Mode::Cmr, Form::Observe),
     ] {

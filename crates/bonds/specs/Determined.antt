@@ -13,7 +13,7 @@ use Rattle.lemmas.specs.Cells.{some-group}
 use Rattle.paper.specs.declared.Group.{Group}
 use Rattle.paper.specs.declared.Sampler.{Sampler}
 use Rattle.paper.specs.declared.BondKind.{BondKind}
-use Rattle.paper.specs.Site.Bonds.{kindOf, blueHolds, greyHolds}
+use Rattle.paper.specs.Site.Bonds.{jorgHolds, kindOf, blueHolds, greyHolds}
 use Rattle.paper.specs.Component.Marks.{Marks}
 use Rattle.columns.specs.Column.{shown}
 use Rattle.bonds.specs.Table.{CmrOut, bothActing, jorgAt, blueAt}
@@ -37,6 +37,10 @@ draw-blue-determined kind s cut r r′ p q = p ∙ sym q
 
 pub draw-grey-determined : (kind : BondKind) (s : Sampler) (cut : Float) (r r′ : Bool) → r ≡ greyHolds kind s cut → r′ ≡ greyHolds kind s cut → r ≡ r′
 draw-grey-determined kind s cut r r′ p q = p ∙ sym q
+
+pub jorg-holds-determined : (j : ℤ) (m a b : ℕ) (s : Sampler) (cut : Float) (r r′ : Bool)
+    → r ≡ jorgHolds j m (shown a) (shown b) s cut → r′ ≡ jorgHolds j m (shown a) (shown b) s cut → r ≡ r′
+jorg-holds-determined j m a b s cut r r′ p q = p ∙ sym q
 
 module _ (n d : ℕ) (fwd acts : List ℕ) where
   pub active-bonds-determined : (xs ys : List ℕ) → Marks n d (bothActing d fwd acts) xs → Marks n d (bothActing d fwd acts) ys → xs ≡ ys

@@ -265,7 +265,8 @@ fn pair_sum(a: u8, b: u8, pairs: usize) -> i32
     total
 }
 
-fn jorg_holds(coupling: i32, len: usize, a: u8, b: u8, sampler: Sampler, cut: f32) -> bool
+// Whether a bond of two sites with these columns is drawn.
+pub fn jorg_holds(coupling: i32, len: usize, a: u8, b: u8, sampler: Sampler, cut: f32) -> bool
     requires { ⌜ natAbs coupling ≤ 1000000 ⌝ }
     requires { ⌜ len ≤ 8 ⌝ }
     ensures { λ r. ⌜ r ≡ jorgHolds coupling len (shown a) (shown b) sampler cut ⌝ }

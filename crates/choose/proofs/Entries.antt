@@ -5,7 +5,7 @@ use mathlib.Core.Bool.{true, false}
 use native.Mathlib.Omega.{arith}
 use native.Mathlib.Nat.{mul-le-mul-right, suc-mul}
 use Rattle.paper.specs.declared.Form.{Form}
-use Rattle.paper.specs.declared.Form.the-variants.{Sw, Wolff, Observe}
+use Rattle.paper.specs.declared.Form.the-variants.{Sw, Wolff, Observe, Grow}
 use Rattle.paper.specs.Panel.Takes.{moves, entries, entry}
 
 pub entry-lt : (form : Form) (r n : ℕ) → moves form ≡ true → r < n → entry form r < entries form n
@@ -15,6 +15,7 @@ entry-lt Observe r n e h = absurd (false-true e)
   where
     false-true : false ≡ true → ⊥
     false-true q = let z : _≡_ {A = ℕ} 0 1 = cc in omega arith
+entry-lt Grow r n e h = omega arith
 
 -- each has m places
 pub row-fits : (form : Form) (r n m : ℕ) → moves form ≡ true → r < n → entry form r * m + m ≤ entries form n * m

@@ -5,13 +5,13 @@ use mathlib.Core.Bool.{Bool, true, cond, _&&_}
 use mathlib.Core.List.{List}
 use lib.Dec.{eqb}
 use lib.ListN.{length, getD}
-use lib.Bits.{bitXor}
 use Rattle.paper.specs.declared.Form.{Form}
 use Rattle.paper.specs.declared.Mode.{Mode}
-use Rattle.paper.specs.Panel.Takes.{isSw, isWolff, moves, entries}
+use Rattle.paper.specs.Panel.Takes.{isSw, oneCluster, moves, entries}
 use Rattle.paper.specs.Component.Sizes.{labelOf, Sized}
 use Rattle.paper.specs.Move.Moving.{flipBy, permAt, greyAt, greyBit, flipSome, reachedBy}
 use Rattle.columns.specs.Column.{shown, columnOf}
+use Rattle.columns.specs.Gauge.{permutedBy}
 
 -- entry i of ys is f i, for each entry of xs
 pub record Becomes (f : ℕ → ℕ) (xs ys : List ℕ) : Type 0 where
@@ -30,12 +30,12 @@ isOne xs i = eqb (getD xs i 0) 1
 
 -- ---- which sites move
 
--- what `reach` is lent: a mark of each site that acts, its label, how many sites have each label, and Wolff's seed
+-- what `reach` is lent: a mark of each site that acts, its label, how many sites have each label, and the seed of one component
 pub record Marked (form : Form) (seed : ℕ) (acts labels tally reached : List ℕ) : Type 0 where
   pub labelled : length labels ≡ length acts
   pub below : (i : ℕ) → i < length acts → getD labels i 0 < length acts
   pub sized : Sized labels tally
-  pub seeded : isWolff form ≡ true → seed < length acts
+  pub seeded : oneCluster form ≡ true → seed < length acts
   pub lent : length reached ≡ length acts
 
 abbrev pub reachedAt : Form → Mode → ℕ → List ℕ → List ℕ → ℕ → Bool
@@ -84,10 +84,6 @@ pub record Perms (form : Form) (m : ℕ) (reached labels perms cols : List ℕ) 
   pub few : m ≤ 8
   pub lent : length perms ≡ entries form (length cols) * m
   pub places : (x : ℕ) → x < length perms → getD perms x 0 < m
-
--- the permutation p of a column, seen and written through a gauge
-abbrev pub permutedBy : ℕ → ℕ → (ℕ → ℕ) → ℕ → ℕ
-permutedBy m gauge p x = bitXor (columnOf m (λ k. shown (bitXor x gauge) (p k))) gauge
 
 abbrev pub permutedAt : Form → ℕ → ℕ → List ℕ → List ℕ → List ℕ → List ℕ → ℕ → ℕ
 permutedAt form m gauge reached labels perms cols i =

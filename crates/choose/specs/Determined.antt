@@ -9,7 +9,7 @@ use Rattle.paper.specs.declared.Form.{Form}
 use Rattle.paper.specs.declared.Group.{Group}
 use Rattle.paper.specs.declared.Mode.{Mode}
 use Rattle.paper.specs.Component.Marks.{Flags}
-use Rattle.choose.specs.Chosen.{Becomes, reachedAt, flippedAt, greyedAt, permutedAt}
+use Rattle.choose.specs.Chosen.{Becomes, reachedAt, flippedAt, greyed, greyedAt, permutedAt}
 
 -- a length and an entry at each place below it leave one list
 only : (n : ℕ) (f : ℕ → ℕ) (ys zs : List ℕ) → length ys ≡ n → length zs ≡ n → ((i : ℕ) → i < n → getD ys i 0 ≡ f i) → ((i : ℕ) → i < n → getD zs i 0 ≡ f i)
@@ -35,3 +35,6 @@ pub permute-columns-determined : (form : Form) (g : Group) (gauge : ℕ) (reache
     → Becomes (permutedAt form (g .len) gauge reached labels perms cols) cols ys
     → Becomes (permutedAt form (g .len) gauge reached labels perms cols) cols zs → ys ≡ zs
 permute-columns-determined form g gauge reached labels perms cols ys zs p q = becomes-determined _ cols ys zs p q
+
+pub grey-column-determined : (grey column r r′ : ℕ) → r ≡ greyed grey column → r′ ≡ greyed grey column → r ≡ r′
+grey-column-determined grey column r r′ p q = p ∙ sym q

@@ -4,7 +4,7 @@ ghost use mathlib.Core.Bool.{true, cond, _&&_};
 ghost use Prim.Native.Nat.{_<_};
 ghost use lib.Dec.{eqb, leb};
 ghost use lib.ListN.{length, getD};
-ghost use Rattle.paper.specs.Panel.Takes.{isSw, isWolff, entry};
+ghost use Rattle.paper.specs.Panel.Takes.{isSw, oneCluster, growsBy, entry};
 ghost use Rattle.paper.specs.Move.Moving.{flipBy, leastSize};
 ghost use Rattle.paper.specs.Component.Marks.{Flags};
 ghost use Rattle.choose.specs.Chosen.{
@@ -46,26 +46,28 @@ fn least_size(mode: Mode) -> u32
     }
 }
 
-// The label of Wolff's component.
+// The label of the one component that moves. Grow's list has a 1 at its members in place of a label.
 fn home(form: Form, seed: usize, labels: &[u32]) -> u32
-    requires { ⌜ (isWolff form ≡ true → seed < length (now labels)) ⌝ }
-    ensures { λ r. ⌜ r ≡ cond (isWolff form) (getD (now (labels .entry)) seed 0) 0 ⌝ }
+    requires { ⌜ (oneCluster form ≡ true → seed < length (now labels)) ⌝ }
+    ensures { λ r. ⌜ r ≡ cond (oneCluster form) (cond (growsBy form) 1 (getD (now (labels .entry)) seed 0)) 0 ⌝ }
 {
     match form {
         Form::Sw => 0,
         Form::Wolff => labels[seed],
         Form::Observe => 0,
+        Form::Grow => 1,
     }
 }
 
 // Does the form move the component with this label and size?
 fn reaches(form: Form, least: u32, size: u32, label: u32, home: u32) -> bool
-    ensures { λ r. ⌜ r ≡ cond (isSw form) (leb least size) (isWolff form && eqb label home) ⌝ }
+    ensures { λ r. ⌜ r ≡ cond (isSw form) (leb least size) (oneCluster form && eqb label home) ⌝ }
 {
     match form {
         Form::Sw => least <= size,
         Form::Wolff => label == home,
         Form::Observe => false,
+        Form::Grow => label == home,
     }
 }
 
@@ -103,6 +105,7 @@ fn flip_at(form: Form, flips: &[u8], label: usize) -> bool
         Form::Sw => flips[label] == 1,
         Form::Wolff => true,
         Form::Observe => false,
+        Form::Grow => true,
     }
 }
 
@@ -137,11 +140,12 @@ fn entry_of(form: Form, label: usize) -> usize
         Form::Sw => label,
         Form::Wolff => 0,
         Form::Observe => 0,
+        Form::Grow => 0,
     }
 }
 
 // On two bits, the exclusive or is the flip of those that the grey number has.
-fn grey_column(grey: u8, column: u8) -> u8
+pub fn grey_column(grey: u8, column: u8) -> u8
     requires { ⌜ Grey grey column ⌝ }
     ensures { λ r. ⌜ r ≡ greyed grey column ⌝ }
 {

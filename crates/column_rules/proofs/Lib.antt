@@ -1,6 +1,5 @@
--- Laws for the tables of 256: one place's test, arrays in the making, whole flips, and the look-up of every site.
-pub mod Rules
-pub mod Bytes
+-- Laws for the rules on columns: the first bits of a byte, flips, tables in the making, and the look-up of every site.
+pub mod Bits
 pub mod Flips
+pub mod Bytes
 pub mod Marking
-pub mod Products

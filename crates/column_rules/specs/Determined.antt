@@ -7,25 +7,24 @@ use native.Mathlib.Omega.{arith}
 use native.Mathlib.Decide.{decLt}
 use lib.ListN.{length, getD}
 use lib.Seq.{ext-getD}
-use lib.IntN.{ℤ, pos}
+use lib.IntN.{ℤ}
 use Rattle.lemmas.specs.Tells.{Tells, tells-determined}
-use Rattle.lemmas.specs.Stores.{Filled, filled-unique}
 use Rattle.paper.specs.declared.Group.{Group}
 use Rattle.paper.specs.declared.Mode.{Mode}
 use Rattle.paper.specs.Site.Acting.{pairDiffers, testBy}
 use Rattle.paper.specs.Component.Marks.{Flags}
-use Rattle.columns.specs.Column.{flipped}
+use Rattle.columns.specs.Column.{shown}
 use Rattle.columns.specs.Determined.{columns-unique}
-use Rattle.column_rules.specs.Tables.{spinAt, Table, actsEntry, flipEntry, SomeMarked, Looked}
+use Rattle.column_rules.specs.Tables.{Table, actsEntry, flipEntry, SomeMarked, Looked}
 use Rattle.column_rules.specs.Laws.{SomeSite}
 use Rattle.column_rules.specs.Sight.{actsAt, Sights}
 
-module _ (g : Group) (p : List ℤ) (r s : Bool) where
-  pub any-pair-differs-determined : r ≡ pairDiffers (g .len / 2) (spinAt p) → s ≡ pairDiffers (g .len / 2) (spinAt p) → r ≡ s
+module _ (g : Group) (x : ℕ) (r s : Bool) where
+  pub any-pair-differs-determined : r ≡ pairDiffers (g .len / 2) (shown x) → s ≡ pairDiffers (g .len / 2) (shown x) → r ≡ s
   any-pair-differs-determined a b = a ∙ sym b
 
-  pub acts-site-determined : (mode : Mode) → r ≡ testBy mode (g .len) (spinAt p) → s ≡ testBy mode (g .len) (spinAt p) → r ≡ s
-  acts-site-determined mode a b = a ∙ sym b
+  pub acts-column-determined : (mode : Mode) → r ≡ testBy mode (g .len) (shown x) → s ≡ testBy mode (g .len) (shown x) → r ≡ s
+  acts-column-determined mode a b = a ∙ sym b
 
 -- ---- tables
 pub table-unique : (m : ℕ) (f : ℕ → ℕ) (r s : List ℕ) → Table m f r → Table m f s → r ≡ s
@@ -42,12 +41,8 @@ module _ (mode : Mode) (g : Group) (r s : List ℕ) where
   pub flip-table-determined : Table (g .len) (flipEntry mode (g .len)) r → Table (g .len) (flipEntry mode (g .len)) s → r ≡ s
   flip-table-determined = table-unique (g .len) (flipEntry mode (g .len)) r s
 
-module _ (p : List ℤ) (g : Group) (mode : Mode) (r s : List ℤ) where
-  abbrev pub Flip : List ℤ → Type 0
-  Flip q = Filled (pos 0) (flipped mode (g .len) (spinAt p)) (g .len) p q
-
-  pub flip-group-site-determined : Flip r → Flip s → r ≡ s
-  flip-group-site-determined = filled-unique (pos 0) (flipped mode (g .len) (spinAt p)) (g .len) p r s
+pub flip-group-site-determined : (x : ℕ) (g : Group) (mode : Mode) (r s : ℕ) → r ≡ flipEntry mode (g .len) x → s ≡ flipEntry mode (g .len) x → r ≡ s
+flip-group-site-determined x g mode r s a b = a ∙ sym b
 
 -- ---- the look-up: the lent bytes and the result
 pub record SameLooked (acts : List ℕ) (r : Bool) (acts′ : List ℕ) (r′ : Bool) : Type 0 where

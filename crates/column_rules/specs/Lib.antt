@@ -2,4 +2,5 @@
 pub mod Tables
 pub mod Laws
 pub mod Sight
+pub mod Acted
 pub mod Determined

@@ -6,6 +6,7 @@ use mathlib.Core.List.{List}
 use lib.Dec.{eqb}
 use lib.ListN.{length, getD}
 use lib.IntN.{ℤ}
+use lib.Bits.{bitXor}
 use Rattle.lemmas.specs.Counts.{bit}
 use Rattle.lemmas.specs.Tells.{Tells}
 use Rattle.paper.specs.declared.Group.{Group}
@@ -15,8 +16,9 @@ use Rattle.paper.specs.Panel.Takes.{isGperm}
 use Rattle.paper.specs.Site.Acting.{gauge, testBy, acts, SomeActs, NoneActs}
 use Rattle.paper.specs.Component.Marks.{Flags}
 use Rattle.paper.specs.Refusal.Rules.{Spin}
-use Rattle.columns.specs.Column.{Inside, Spinning, Columns}
-use Rattle.column_rules.specs.Laws.{SomeSite, none-passes, gauge-spin}
+use Rattle.columns.specs.Column.{shown, columnOf, Inside, Spinning, Columns}
+use Rattle.columns.specs.Gauge.{gaugeOf, gauge-column}
+use Rattle.column_rules.specs.Laws.{SomeSite, none-passes, gauge-spin, test-column}
 
 -- the group's pattern at the site i as the mode sees it, with the reference site q
 abbrev pub seenBy : Mode → ℕ → Group → ℕ → List ℤ → ℕ → Pattern
@@ -58,6 +60,22 @@ pub record Sights (mode : Mode) (n : ℕ) (g : Group) (q : ℕ) (xs : List ℤ) 
 module _ (mode : Mode) (n : ℕ) (g : Group) (q : ℕ) (xs : List ℤ) (spins : Spinning n g xs) (reference : isGperm mode ≡ true → q < n) where
   pub seen-spin : (i k : ℕ) → i < n → k < g .len → Spin (seenBy mode n g q xs i k)
   seen-spin i k hi hk = gauge-spin mode (patternOf n g xs q) (patternOf n g xs i) k (λ e. spins q k (reference e) hk) (spins i k hi hk)
+
+-- a site's column, seen through the gauge of the reference site, acts just if the site does
+module _ {mode : Mode} {n : ℕ} {g : Group} {q : ℕ} {xs : List ℤ} (p : Sighted mode n g q xs) {i column gauge : ℕ} (below : i < n) where
+  pub column-acts :
+      column ≡ columnOf (g .len) (patternOf n g xs i) → gauge ≡ gaugeOf mode (g .len) (columnOf (g .len) (patternOf n g xs q))
+      → testBy mode (g .len) (shown (bitXor column gauge)) ≡ actsAt mode n g q xs i
+  column-acts ec eg =
+      (λ j. testBy mode (g .len) (shown (bitXor (ec j) (eg j))))
+      ∙ (ap (λ (x : ℕ). testBy mode (g .len) (shown x)) (gauge-column mode (g .len) (patternOf n g xs q) (patternOf n g xs i) at-reference here)
+      ∙ test-column mode (g .len) (seenBy mode n g q xs i) (λ k h. seen-spin mode n g q xs (p .spins) (p .reference) i k below h) (p .size-low))
+    where
+      at-reference : isGperm mode ≡ true → (k : ℕ) → k < g .len → Spin (patternOf n g xs q k)
+      at-reference e k h = p .spins q k (p .reference e) h
+
+      here : (k : ℕ) → k < g .len → Spin (patternOf n g xs i k)
+      here k h = p .spins i k below h
 
 -- the same flags are those of the call's acting sites
 pub acts-flags : (c : Call) (xs : List ℤ) (flags : List ℕ) → Flags (c .lattice .n) (λ i. testBy (c .mode) (size c) (seenAt c xs i)) flags

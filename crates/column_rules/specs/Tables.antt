@@ -1,36 +1,21 @@
--- What the rules are worked out on: a pattern in an array, tables over all columns, and the bytes that a look-up leaves.
+-- What the rules are worked out on: tables over all columns, and the bytes that a look-up leaves.
 use Prim.Native.Nat.{ℕ, _^_, _≤_, _<_}
 use mathlib.Core.Path.{_≡_}
 use mathlib.Core.Bool.{Bool}
 use mathlib.Core.List.{List}
 use lib.ListN.{length, getD}
 use lib.Bits.{bitXor}
-use lib.IntN.{ℤ, pos}
 use Rattle.lemmas.specs.Counts.{bit}
 use Rattle.lemmas.specs.Tells.{Tells}
 use Rattle.paper.specs.declared.Group.{Group}
 use Rattle.paper.specs.declared.Mode.{Mode}
-use Rattle.paper.specs.Panel.Input.{Pattern}
 use Rattle.paper.specs.Site.Acting.{testBy}
-use Rattle.columns.specs.Column.{shown, columnOf, flipped, Inside, Spinning}
-use Rattle.columns.specs.Rows.{Signs}
-
--- the pattern that an array holds
-abbrev pub spinAt : List ℤ → Pattern
-spinAt p k = getD p k (pos 0)
+use Rattle.columns.specs.Column.{shown, columnOf, flipped}
 
 -- a group of one to eight systems
 pub record Sized (g : Group) : Type 0 where
   pub some : 1 ≤ g .len
   pub few : g .len ≤ 8
-
--- what reading one site asks: the group's rows of spins, a sign for each member, and a site
-pub record Readable (n : ℕ) (g : Group) (xs ss : List ℤ) (i : ℕ) : Type 0 where
-  pub few : g .len ≤ 8
-  pub inside : Inside n g xs
-  pub spins : Spinning n g xs
-  pub signs : Signs (g .len) ss
-  pub below : i < n
 
 -- a byte for each of the 256 columns: f x at a column x of m systems, and else 0
 pub record Table (m : ℕ) (f : ℕ → ℕ) (table : List ℕ) : Type 0 where

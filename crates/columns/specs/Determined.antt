@@ -1,5 +1,5 @@
 -- How tight the promises are: any two results that a function's promise allows for one input are equal.
-use Prim.Native.Nat.{ℕ, _/_, _%_, _<_}
+use Prim.Native.Nat.{ℕ, _+_, _*_, _/_, _%_, _<_}
 use mathlib.Core.Path.{_≡_, sym, _∙_}
 use mathlib.Core.Logic.{_⊎_, inl, inr, _≢_}
 use mathlib.Core.List.{List}
@@ -9,13 +9,13 @@ use native.Mathlib.Nat.{div-add-mod', mod-lt}
 use lib.ListN.{length, getD}
 use lib.Seq.{ext-getD}
 use lib.IntN.{ℤ, pos}
-use Rattle.lemmas.specs.Places.{Placed, place}
+use Rattle.lemmas.specs.Places.{Placed, Unplaced, place}
 use Rattle.paper.specs.declared.Group.{Group}
 use Rattle.paper.specs.declared.Mode.{Mode}
 use Rattle.paper.specs.Panel.Input.{Pattern, member, spin, patternOf}
 use Rattle.columns.specs.Column.{shown, columnOf, Columns}
 use Rattle.columns.specs.Gauge.{gaugeOf}
-use Rattle.columns.specs.Rows.{Signed, Written}
+use Rattle.columns.specs.Rows.{Signed, Written, SiteWritten}
 
 pub permute-group-site-determined :
     (column : ℕ) (g : Group) (perm : List ℕ) (r r′ : ℕ)
@@ -72,3 +72,24 @@ signs-determined mode n g xs reference r r′ s s′ = ext-getD (pos 0) r r′ (
     at : (k : ℕ) → k < length r → Dec (k < g .len) → getD r k (pos 0) ≡ getD r′ k (pos 0)
     at k h (yes l) = s .at k l ∙ sym (s′ .at k l)
     at k h (no l) = let b : k < 8 = omega (arith, s .long) in s .rest k (omega arith) b ∙ sym (s′ .rest k (omega arith) b)
+
+-- ---- one site
+module _ (n : ℕ) (g : Group) (xs : List ℤ) (i : ℕ) where
+  pub column-at-determined : (r r′ : ℕ) → r ≡ columnOf (g .len) (patternOf n g xs i) → r′ ≡ columnOf (g .len) (patternOf n g xs i) → r ≡ r′
+  column-at-determined r r′ e e′ = e ∙ sym e′
+
+  pub gauge-at-determined :
+      (mode : Mode) (r r′ : ℕ)
+      → r ≡ gaugeOf mode (g .len) (columnOf (g .len) (patternOf n g xs i))
+      → r′ ≡ gaugeOf mode (g .len) (columnOf (g .len) (patternOf n g xs i))
+      → r ≡ r′
+  gauge-at-determined mode r r′ e e′ = e ∙ sym e′
+
+  pub write-site-determined :
+      (column : ℕ) (ys zs : List ℤ) → SiteWritten n (g .len) g i column xs ys → SiteWritten n (g .len) g i column xs zs → ys ≡ zs
+  write-site-determined column ys zs w v =
+      ext-getD (pos 0) ys zs (w .long ∙ sym (v .long)) (λ x h. at x (place (g .len) (λ k. member g k * n + i) x))
+    where
+      at : (x : ℕ) → Placed (g .len) (λ k. member g k * n + i) x ⊎ Unplaced (g .len) (λ k. member g k * n + i) x → getD ys x (pos 0) ≡ getD zs x (pos 0)
+      at x (inl r) = rw (r .2) (w .group (r .0) (r .1) ∙ sym (v .group (r .0) (r .1)))
+      at x (inr r) = w .others x r ∙ sym (v .others x r)

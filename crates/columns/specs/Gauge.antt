@@ -22,6 +22,10 @@ use Rattle.columns.specs.Column.{code, code-lt, code-ext, isUp, shown, c
 abbrev pub gaugeOf : Mode → ℕ → ℕ → ℕ
 gaugeOf mode m x = cond (isGperm mode) (columnOf m (λ k. negℤ (shown x k))) 0
 
+-- the permutation p of a column, seen and written through a gauge
+abbrev pub permutedBy : ℕ → ℕ → (ℕ → ℕ) → ℕ → ℕ
+permutedBy m gauge p x = bitXor (columnOf m (λ k. shown (bitXor x gauge) (p k))) gauge
+
 -- what `gauge` asks
 pub record Gaugeable (mode : Mode) (g : Group) (reference : ℕ) (cols : List ℕ) : Type 0 where
   pub few : g .len ≤ 8

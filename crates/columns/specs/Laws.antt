@@ -1,21 +1,22 @@
 -- What callers of the functions on columns need of their promises.
-use Prim.Native.Nat.{ℕ, _<_}
+use Prim.Native.Nat.{ℕ, _+_, _*_, _/_, _%_, _<_}
 use mathlib.Core.Path.{_≡_, refl, sym, _∙_, ap}
-use mathlib.Core.Logic.{inl}
+use mathlib.Core.Logic.{inl, _≢_}
 use mathlib.Core.Bool.{true, false}
 use mathlib.Core.List.{List}
 use lib.ListN.{getD}
 use lib.IntN.{ℤ, pos, _*ℤ_, one, *ℤ-one, *ℤ-comm}
 use Rattle.lemmas.specs.Bools.{never}
+use Rattle.lemmas.specs.Cells.{row-of, column-of}
 use Rattle.paper.specs.declared.Group.{Group}
 use Rattle.paper.specs.declared.Mode.{Mode}
 use Rattle.paper.specs.declared.Mode.the-variants.{Houd, Pair, Perm, Gperm, Jorg, Cmr}
-use Rattle.paper.specs.Panel.Input.{Pattern, patternOf}
+use Rattle.paper.specs.Panel.Input.{Pattern, member, spin, patternOf}
 use Rattle.paper.specs.Panel.Takes.{isGperm}
 use Rattle.paper.specs.Site.Acting.{gauge}
 use Rattle.paper.specs.Refusal.Rules.{Spin}
 use Rattle.columns.specs.Column.{columnOf, shown, shown-column, shown-spin, signBy, Columns, Spinning}
-use Rattle.columns.specs.Rows.{Signed, Signs, signed, Written}
+use Rattle.columns.specs.Rows.{Signed, Signs, signed, Written, SiteWritten}
 
 -- ---- signs
 
@@ -85,3 +86,11 @@ pub written-columns :
     → Columns n (g .len) f cols
     → (i k : ℕ) → i < n → k < g .len → Spin (f i k) → patternOf n g ys i k ≡ f i k
 written-columns w c i k h l s = w .group i k h l ∙ columns-shown c i k h l s
+
+-- one site written: what was at another site, and what another system had, is there still
+module _ {n : ℕ} {g : Group} {i column : ℕ} {xs ys : List ℤ} (w : SiteWritten n (g .len) g i column xs ys) (site : i < n) where
+  pub other-sites : (j t : ℕ) → j < n → j ≢ i → spin n ys t j ≡ spin n xs t j
+  other-sites j t h ne = w .others (t * n + j) (λ k l e. ne (sym (column-of n t j h) ∙ (ap (λ (x : ℕ). x % n) e ∙ column-of n (member g k) i site)))
+
+  pub other-systems : (j t : ℕ) → j < n → ((k : ℕ) → k < g .len → t ≢ member g k) → spin n ys t j ≡ spin n xs t j
+  other-systems j t h o = w .others (t * n + j) (λ k l e. o k l (sym (row-of n t j h) ∙ (ap (λ (x : ℕ). x / n) e ∙ row-of n (member g k) i site)))

@@ -1,9 +1,10 @@
 -- What the functions on columns ask and promise.
-use Prim.Native.Nat.{ℕ, _+_, _*_, _≤_, _<_}
+use Prim.Native.Nat.{ℕ, _+_, _*_, _^_, _≤_, _<_}
 use mathlib.Core.Path.{_≡_}
 use mathlib.Core.Logic.{_≢_}
-use mathlib.Core.Bool.{true}
+use mathlib.Core.Bool.{Bool, true, cond}
 use mathlib.Core.List.{List}
+use lib.Dec.{ltb}
 use lib.ListN.{length, getD}
 use lib.IntN.{ℤ, pos, _*ℤ_}
 use Rattle.lemmas.specs.Counts.{bit}
@@ -62,6 +63,34 @@ pub record Written (n m : ℕ) (g : Group) (cols : List ℕ) (xs ys : List ℤ) 
   pub others : (i t : ℕ) → i < n → ((k : ℕ) → k < m → t ≢ member g k) → spin n ys t i ≡ spin n xs t i
   -- with no sites there are no rows
   pub empty : n ≡ 0 → ys ≡ xs
+
+-- ---- one site
+
+-- what column_at asks: the group's rows, and a site
+pub record SiteIn (n : ℕ) (g : Group) (xs : List ℤ) (i : ℕ) : Type 0 where
+  pub few : g .len ≤ 8
+  pub inside : Inside n g xs
+  pub below : i < n
+
+-- what the bit of one member asks: of the group's, the spin is there
+pub record MemberIn (n m k s : ℕ) (xs : List ℤ) (i : ℕ) : Type 0 where
+  pub place : k < 8
+  pub inside : k < m → s * n + i < length xs
+
+-- the bit k of a column of m members, where b tells whether it is set
+abbrev pub bitIn : ℕ → ℕ → Bool → ℕ
+bitIn m k b = cond (ltb k m) (bit b * 2 ^ k) 0
+
+-- what write_site asks
+pub record SiteOut (n : ℕ) (g : Group) (xs : List ℤ) (i : ℕ) : Type 0 where
+  pub site : SiteIn n g xs i
+  pub distinct : Distinct (g .len) (member g)
+
+-- ys is xs with the spins of the first m members at the site i written from the column
+pub record SiteWritten (n m : ℕ) (g : Group) (i column : ℕ) (xs ys : List ℤ) : Type 0 where
+  pub long : length ys ≡ length xs
+  pub group : (k : ℕ) → k < m → patternOf n g ys i k ≡ shown column k
+  pub others : (x : ℕ) → ((k : ℕ) → k < m → x ≢ member g k * n + i) → getD ys x (pos 0) ≡ getD xs x (pos 0)
 
 -- ---- what the functions on one row ask and promise
 

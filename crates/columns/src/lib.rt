@@ -4,11 +4,12 @@ ghost use Prim.Native.Nat.{_*_, _≤_, _<_};
 ghost use lib.ListN.{getD};
 ghost use lib.IntN.{pos, negℤ};
 ghost use Rattle.lemmas.specs.Counts.{bit};
-ghost use Rattle.paper.specs.Panel.Input.{patternOf};
+ghost use Rattle.paper.specs.Panel.Input.{spin, patternOf};
 ghost use Rattle.columns.specs.Column.{shown, isUp, columnOf, Columns};
 ghost use Rattle.lemmas.specs.Stores.{Whole};
 ghost use Rattle.columns.specs.Gauge.{gaugeOf, Gaugeable};
 ghost use Rattle.columns.specs.Rows.{Signable, Signed, Places, Packable, Writable, Written, Adds, Fills, added};
+ghost use Rattle.columns.specs.Rows.{SiteIn, SiteOut, SiteWritten, MemberIn, bitIn};
 use lemmas::bytes::clear;
 use paper::Group;
 use paper::Mode;
@@ -132,6 +133,46 @@ pub fn write_rows(spins: &mut [i8], n: usize, group: Group, cols: &[u8])
     }
 }
 
+// The bit of the member k, which is the system s, in the column of a site. Past the group there is none.
+fn member_bit(spins: &[i8], n: usize, len: usize, k: usize, s: usize, i: usize) -> u8
+    requires { ⌜ MemberIn n len k s (now spins) i ⌝ }
+    ensures { λ r. ⌜ r ≡ bitIn len k (isUp (spin n (now (spins .entry)) s i)) ⌝ }
+{
+    if k < len {
+        return weigh(spins[s * n + i], 1u8 << k);
+    }
+    0
+}
+
+// One site's column. There is no loop, which would copy the group to memory to find a member in it.
+pub fn column_at(spins: &[i8], n: usize, group: Group, i: usize) -> u8
+    requires { ⌜ SiteIn n group (now spins) i ⌝ }
+    ensures { λ r. ⌜ r ≡ columnOf (group .len) (patternOf n group (now (spins .entry)) i) ⌝ }
+{
+    let len = group.len;
+    let s = group.systems;
+    let a = member_bit(spins, n, len, 0, s[0], i) + member_bit(spins, n, len, 1, s[1], i);
+    let b = member_bit(spins, n, len, 2, s[2], i) + member_bit(spins, n, len, 3, s[3], i);
+    let c = member_bit(spins, n, len, 4, s[4], i) + member_bit(spins, n, len, 5, s[5], i);
+    let d = member_bit(spins, n, len, 6, s[6], i) + member_bit(spins, n, len, 7, s[7], i);
+    (a + b) + (c + d)
+}
+
+// Writes the group's spins at one site from a column.
+pub fn write_site(spins: &mut [i8], n: usize, group: Group, i: usize, column: u8)
+    requires { ⌜ SiteOut n group (now spins) i ⌝ }
+    ensures { λ _. ⌜ SiteWritten n (group .len) group i column (now (spins .entry)) (now (spins .exit)) ⌝ }
+{
+    let len = group.len;
+    let mut k: usize = 0;
+    while k < len {
+        let s = group.systems[k];
+        let v = pick(column, k);
+        spins[s * n + i] = v;
+        k += 1;
+    }
+}
+
 // A column with each of the group's spins negated.
 fn negated(column: u8, group: Group) -> u8
     requires { ⌜ group .len ≤ 8 ⌝ }
@@ -154,6 +195,18 @@ pub fn gauge(mode: Mode, group: Group, reference: usize, cols: &[u8]) -> u8
 {
     if mode.is_gperm() {
         negated(cols[reference], group)
+    } else {
+        0
+    }
+}
+
+// The same byte from the rows: no other site is read.
+pub fn gauge_at(mode: Mode, spins: &[i8], n: usize, group: Group, reference: usize) -> u8
+    requires { ⌜ Signable mode n group (now spins) reference ⌝ }
+    ensures { λ r. ⌜ r ≡ gaugeOf mode (group .len) (columnOf (group .len) (patternOf n group (now (spins .entry)) reference)) ⌝ }
+{
+    if mode.is_gperm() {
+        negated(column_at(spins, n, group, reference), group)
     } else {
         0
     }

@@ -7,7 +7,7 @@ use lib.IntN.{ℤ, _*ℤ_}
 use Rattle.lemmas.specs.Sums.{sum, sum-ext}
 use Rattle.paper.specs.Component.Links.{Linked.stay, Linked.along}
 use Rattle.paper.specs.declared.Form.{Form}
-use Rattle.paper.specs.declared.Form.the-variants.{Sw, Wolff, Observe}
+use Rattle.paper.specs.declared.Form.the-variants.{Sw, Wolff, Observe, Grow}
 use Rattle.paper.specs.Panel.Input.{graph, Call, Choices, pattern, size, ahead}
 use Rattle.paper.specs.Site.Acting.{acts}
 use Rattle.paper.specs.Site.Bonds.{holds}
@@ -29,6 +29,7 @@ same-reached :
 same-reached Sw c l i j e = rw e refl
 same-reached Wolff c l i j e = rw e refl
 same-reached Observe c l i j e = refl
+same-reached Grow c l i j e = rw e refl
 
 module _ {c : Call} {p : Choices} {xs : List ℤ} {l : List ℕ} {ys : List ℤ} (s : Step c p xs l ys) where
   -- one permutation of the places turns both sites

@@ -7,9 +7,10 @@ use mathlib.Core.List.{List}
 use native.Mathlib.Omega.{arith}
 use native.Mathlib.Decide.{ℕ-discrete}
 use lib.IntN.{ℤ}
-use Rattle.lemmas.specs.Bools.{never}
+use Rattle.lemmas.specs.Bools.{never, and-right}
 use Rattle.lemmas.specs.Places.{Placed, place}
 use Rattle.paper.specs.Panel.Input.{graph, Call, Choices, Buffers, spin, size, system}
+use Rattle.paper.specs.Panel.Takes.{labelsBy}
 use Rattle.paper.specs.Site.Acting.{acts, SomeActs, NoneActs}
 use Rattle.paper.specs.Site.Bonds.{holds}
 use Rattle.paper.specs.Component.Labels.{Labels}
@@ -18,6 +19,7 @@ use Rattle.paper.specs.Move.Moving.{final}
 use Rattle.paper.specs.Refusal.Rules.{Spin, AllSystems, Spins, Exact, Chosen, Seeded}
 use Rattle.paper.specs.Refusal.Kept.{Sound, Fit, Valid, valid-kept}
 use Rattle.paper.specs.Answer.Move.{Seen}
+use Rattle.laws.specs.Forms.{forms-apart}
 use Rattle.laws.specs.Unique.{Outside}
 use Rattle.laws.specs.MovesExist.{write, moves-exist}
 use Rattle.demand3.specs.Statement.{Reversible, Move, Outcome}
@@ -60,15 +62,26 @@ some-or-none f (suc m) = go (f m) refl (some-or-none f m)
         last i h (no q) = r i (omega arith)
 
 module _
-    {c : Call} {r : Choices} {d : Buffers} (v : Reversible (c .mode) (size c)) (k : Valid c r d) (l counts sizes : List ℕ)
+    {c : Call} {r : Choices} {d : Buffers} (v : Reversible (c .mode) (size c)) (f : labelsBy (c .form) ≡ true) (k : Valid c r d)
+    (l counts sizes : List ℕ)
     (labels : Labels (graph c) (holds c (d .spins)) l) (tally : Counted (acts c (d .spins)) l counts) (four : Largest (acts c (d .spins)) l sizes)
   where
     left : List ℤ → Buffers
-    left ys = record { spins = ys; labels = l; greyLabels = d .greyLabels; counts = counts; sizes = sizes }
+    left ys = record { spins = ys; labels = l; greyLabels = d .greyLabels; counts = counts; sizes = sizes; members = d .members }
 
     seen : (ys : List ℤ) → Seen c d (left ys)
     unfolding left
-    seen ys = record { labels = labels; grey-labels = λ t. never (sym (no-greys c v) ∙ t); grey-kept = λ _. refl; counts = tally; sizes = four }
+    seen ys = record {
+      all = λ _. record {
+        labels = labels;
+        grey-labels = λ t. never (sym (no-greys c v) ∙ t);
+        grey-kept = λ _. refl;
+        counts = tally;
+        sizes = four;
+        members-kept = refl;
+      };
+      one = forms-apart (c .form) f;
+    }
 
     outcome-of : Outcome c r d
     unfolding left seen
@@ -78,82 +91,87 @@ module _
         go (inl q) = outcome (left (write c (d .spins) (final c r (d .spins) l (d .greyLabels)))) (Move.moved (record {
           valid = valid-kept c r d k;
           some = record { site = q .0; below = q .1; does = q .2 };
-          moved = moves-exist c r (d .spins) l (d .greyLabels) (k .sound .grouped) (k .sound .exact .spins);
+          moved = λ _. moves-exist c r (d .spins) l (d .greyLabels) (k .sound .grouped) (k .sound .exact .spins);
+          turned = forms-apart (c .form) f;
           seen = seen _;
         }))
         go (inr q) = outcome (left (d .spins)) (Move.idle (record { valid = valid-kept c r d k; none = q; still = refl; seen = seen (d .spins) }))
 
 -- ---- other choices: on the buffers that a move was lent, and on any that have the spins that it left
-module _ {c : Call} {p : Choices} {b b′ : Buffers} (v : Reversible (c .mode) (size c)) (m : Move c p b b′) where
-  sound : Sound c p b
-  sound = valid-move m .sound
+module _
+    {c : Call} {p : Choices} {b b′ : Buffers} (v : Reversible (c .mode) (size c)) (f : labelsBy (c .form) ≡ true) (m : Move c p b b′)
+  where
+    sound : Sound c p b
+    sound = valid-move m .sound
 
-  fit : Fit c p (b .spins)
-  fit = valid-move m .fit
+    fit : Fit c p (b .spins)
+    fit = valid-move m .fit
 
-  pub instead : {q : Choices} → Exact c q b → Chosen c q → Outcome c q b
-  instead {q} e h = outcome-of v valid (b′ .labels) (b′ .counts) (b′ .sizes) (seen-of m .labels) (seen-of m .counts) (seen-of m .sizes)
-    where
-      valid : Valid c q b
-      valid = record {
-        sound = record {
-          ranged = sound .ranged;
-          exact = e;
-          spins = sound .spins;
-          inverse = sound .inverse;
-          grouped = sound .grouped;
-          couplings = sound .couplings;
-          warm = sound .warm;
-        };
-        fit = record { cuts = fit .cuts; chosen = h; seeded = fit .seeded };
-      }
+    pub instead : {q : Choices} → Exact c q b → Chosen c q → Outcome c q b
+    instead {q} e h = outcome-of v f valid (b′ .labels) (b′ .counts) (b′ .sizes) (seen-of f m .labels) (seen-of f m .counts) (seen-of f m .sizes)
+      where
+        valid : Valid c q b
+        valid = record {
+          sound = record {
+            ranged = sound .ranged;
+            exact = e;
+            spins = sound .spins;
+            inverse = sound .inverse;
+            grouped = sound .grouped;
+            couplings = sound .couplings;
+            warm = sound .warm;
+          };
+          fit = record { cuts = fit .cuts; chosen = h; seeded = fit .seeded };
+        }
 
-  pub next : {q : Choices} {d : Buffers} → d .spins ≡ b′ .spins → Exact c q d → Chosen c q → Outcome c q d
-  next {q} {d} same e h =
-      outcome-of v valid (b′ .labels) (b′ .counts) (b′ .sizes) (rw same (labels-kept (step v m)))
-      (rw same (counts-kept (step v m) (seen-of m .counts))) (rw same (sizes-kept (step v m) (seen-of m .sizes)))
-    where
-      valid : Valid c q d
-      valid = record {
-        sound = record {
-          ranged = sound .ranged;
-          exact = e;
-          spins = rw same (spins-after (step v m) (sound .spins));
-          inverse = sound .inverse;
-          grouped = sound .grouped;
-          couplings = sound .couplings;
-          warm = sound .warm;
-        };
-        fit = record { cuts = fit .cuts; chosen = h; seeded = rw same (seeded-after (step v m) (fit .seeded)) };
-      }
+    pub next : {q : Choices} {d : Buffers} → d .spins ≡ b′ .spins → Exact c q d → Chosen c q → Outcome c q d
+    next {q} {d} same e h =
+        outcome-of v f valid (b′ .labels) (b′ .counts) (b′ .sizes) (rw same (labels-kept (step v f m)))
+        (rw same (counts-kept (step v f m) (seen-of f m .counts))) (rw same (sizes-kept (step v f m) (seen-of f m .sizes)))
+      where
+        valid : Valid c q d
+        valid = record {
+          sound = record {
+            ranged = sound .ranged;
+            exact = e;
+            spins = rw same (spins-after (step v f m) (sound .spins));
+            inverse = sound .inverse;
+            grouped = sound .grouped;
+            couplings = sound .couplings;
+            warm = sound .warm;
+          };
+          fit = record { cuts = fit .cuts; chosen = h; seeded = rw same (seeded-after (step v f m) (fit .seeded)) };
+        }
 
-  -- the lengths: of the buffers that were lent, and of what they hold now
-  pub exact-instead : {q : Choices} → Sized c q → Exact c q b
-  exact-instead z = let e = sound .exact in record {
-    spins = e .spins;
-    fwd = e .fwd;
-    bwd = e .bwd;
-    couplings = e .couplings;
-    cuts = e .cuts;
-    choices = z .choices;
-    greys = λ t. never (sym (no-greys c v) ∙ t);
-    labels = e .labels;
-    grey-labels = e .grey-labels;
-    counts = e .counts;
-    sizes = e .sizes;
-  }
+    -- the lengths: of the buffers that were lent, and of what they hold now
+    pub exact-instead : {q : Choices} → Sized c q → Exact c q b
+    exact-instead z = let e = sound .exact in record {
+      spins = e .spins;
+      fwd = e .fwd;
+      bwd = e .bwd;
+      couplings = e .couplings;
+      cuts = e .cuts;
+      choices = z .choices;
+      greys = λ t. never (sym (no-greys c v) ∙ t);
+      labels = e .labels;
+      grey-labels = e .grey-labels;
+      counts = e .counts;
+      sizes = e .sizes;
+      members = e .members;
+    }
 
-  pub exact-next : {q : Choices} → Sized c q → Exact c q b′
-  exact-next z = let e = sound .exact in record {
-    spins = step v m .long ∙ e .spins;
-    fwd = e .fwd;
-    bwd = e .bwd;
-    couplings = e .couplings;
-    cuts = e .cuts;
-    choices = z .choices;
-    greys = λ t. never (sym (no-greys c v) ∙ t);
-    labels = seen-of m .labels .long;
-    grey-labels = λ t. never (sym (no-greys c v) ∙ t);
-    counts = rw (seen-of m .labels .long) at (seen-of m .counts .long);
-    sizes = seen-of m .sizes .long;
-  }
+    pub exact-next : {q : Choices} → Sized c q → Exact c q b′
+    exact-next z = let e = sound .exact in record {
+      spins = step v f m .long ∙ e .spins;
+      fwd = e .fwd;
+      bwd = e .bwd;
+      couplings = e .couplings;
+      cuts = e .cuts;
+      choices = z .choices;
+      greys = λ t. never (sym (no-greys c v) ∙ t);
+      labels = λ _. seen-of f m .labels .long;
+      grey-labels = λ t. never (sym (no-greys c v) ∙ and-right (labelsBy (c .form)) _ t);
+      counts = λ _. rw (seen-of f m .labels .long) at (seen-of f m .counts .long);
+      sizes = λ _. seen-of f m .sizes .long;
+      members = forms-apart (c .form) f;
+    }

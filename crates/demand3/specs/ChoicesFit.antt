@@ -9,9 +9,9 @@ use lib.ListN.{length, getD}
 use Rattle.lemmas.specs.Bools.{never, and-left, and-right, and-no}
 use Rattle.lemmas.specs.Cells.{table-at, length-table}
 use Rattle.paper.specs.declared.Form.{Form}
-use Rattle.paper.specs.declared.Form.the-variants.{Sw, Wolff, Observe}
+use Rattle.paper.specs.declared.Form.the-variants.{Sw, Wolff, Observe, Grow}
 use Rattle.paper.specs.Panel.Input.{Call, Choices, size}
-use Rattle.paper.specs.Panel.Takes.{isPerm, isSw, isWolff, moves, takesFlips, takesPerms, takesChoices, takesGreys, entries, choiceBytes}
+use Rattle.paper.specs.Panel.Takes.{isPerm, isSw, oneCluster, moves, takesFlips, takesPerms, takesChoices, takesGreys, entries, choiceBytes}
 use Rattle.paper.specs.Move.Moving.{chosen}
 use Rattle.paper.specs.Refusal.Rules.{When, NotIdentity, permRow, Chosen}
 use Rattle.laws.specs.Choices.{flips-taken, flips-bytes}
@@ -24,12 +24,13 @@ use Rattle.demand3.specs.ChoiceRows.{identity-row}
 small : (x : ℕ) → x % 2 ≤ 1
 small x = le-of-suc-le-suc (mod-lt x (omega arith))
 
-one-entry : (f : Form) (n : ℕ) → isWolff f ≡ true → 0 < entries f n
+one-entry : (f : Form) (n : ℕ) → oneCluster f ≡ true → 0 < entries f n
 one-entry Sw n e = never e
 one-entry Wolff n e = omega arith
 one-entry Observe n e = never e
+one-entry Grow n e = omega arith
 
-wolff-no : (f : Form) → f ≡ Sw → (b : Bool) → (b && isWolff f) ≡ false
+wolff-no : (f : Form) → f ≡ Sw → (b : Bool) → (b && oneCluster f) ≡ false
 wolff-no f e true = rw e refl
 wolff-no f e false = refl
 
@@ -48,12 +49,12 @@ module _ (c : Call) (v : Reversible (c .mode) (size c)) where
   pub no-greys : takesGreys c ≡ false
   no-greys = rw (not-cmr (c .mode) (size c) v) (and-no (moves (c .form)))
 
-  no-greys-wolff : (takesGreys c && isWolff (c .form)) ≡ true → takesGreys c ≡ true
+  no-greys-wolff : (takesGreys c && oneCluster (c .form)) ≡ true → takesGreys c ≡ true
   no-greys-wolff t = and-left (takesGreys c) _ t
 
   module _ {p q : Choices} (hp : Chosen c p) (hq : Chosen c q) where
     pub composite-chosen :
-        When (takesPerms c && isWolff (c .form)) (NotIdentity (size c) (λ k. permRow c p 0 (permRow c q 0 k)))
+        When (takesPerms c && oneCluster (c .form)) (NotIdentity (size c) (λ k. permRow c p 0 (permRow c q 0 k)))
         → Chosen c (composite c p q)
     composite-chosen w = record {
       perms = λ t r hr. composite-row c (permuting c t) r hr p q (hp .perms t r hr) (hq .perms t r hr);
@@ -128,6 +129,7 @@ by-kind f true n m rows flips a b t = a
 by-kind Sw false n m rows flips a b t = omega (arith, b refl)
 by-kind Wolff false n m rows flips a b t = never t
 by-kind Observe false n m rows flips a b t = never t
+by-kind Grow false n m rows flips a b t = never t
 
 module _ (c : Call) where
   sized : (rows flips : List ℕ) → length rows ≡ entries (c .form) (c .lattice .n) * size c

@@ -1,4 +1,4 @@
--- What an accepted call of a reversible mode tells, all of it from the rules that it keeps.
+-- What an accepted call of a reversible mode and a form that labels tells, all of it from the rules that it keeps.
 use Prim.Native.Nat.{ℕ, _<_}
 use mathlib.Core.Path.{_≡_, refl, _∙_, ap}
 use mathlib.Core.Bool.{true, false}
@@ -8,14 +8,14 @@ use lib.ListN.{length}
 use lib.IntN.{ℤ}
 use Rattle.lemmas.specs.Bools.{and-left, and-no}
 use Rattle.paper.specs.Panel.Input.{graph, Call, Choices, Buffers, pattern, size, ahead}
-use Rattle.paper.specs.Panel.Takes.{moves, isCmr, takesPerms, takesReference}
+use Rattle.paper.specs.Panel.Takes.{labelsBy, moves, isCmr, takesPerms, takesReference}
 use Rattle.paper.specs.Site.Acting.{acts}
 use Rattle.paper.specs.Site.Bonds.{holds}
 use Rattle.paper.specs.Component.Labels.{Labels}
 use Rattle.paper.specs.Move.Moving.{reached, reachedBy, after, final}
 use Rattle.paper.specs.Refusal.Rules.{Permutes}
 use Rattle.paper.specs.Refusal.Kept.{Valid, valid-of}
-use Rattle.paper.specs.Answer.Move.{Seen}
+use Rattle.paper.specs.Answer.Move.{SeenAll}
 use Rattle.laws.specs.Unique.{GroupIs, OthersOf}
 use Rattle.laws.specs.Patterns.{Spinning}
 use Rattle.laws.specs.Entries.{permOf, perms-of, spin-of}
@@ -71,20 +71,26 @@ module _ {c : Call} {p : Choices} {b : Buffers} (valid : Valid c p b) where
     others = others;
   }
 
-pub seen-of : {c : Call} {p : Choices} {b b′ : Buffers} → Move c p b b′ → Seen c b b′
-seen-of (Move.idle w) = w .seen
-seen-of (Move.moved w) = w .seen
+pub seen-of : {c : Call} {p : Choices} {b b′ : Buffers} → labelsBy (c .form) ≡ true → Move c p b b′ → SeenAll c b b′
+seen-of f (Move.idle w) = w .seen .all f
+seen-of f (Move.moved w) = w .seen .all f
 
 pub valid-move : {c : Call} {p : Choices} {b b′ : Buffers} → Move c p b b′ → Valid c p b
 valid-move {c} {p} {b} (Move.idle w) = valid-of c p b (w .valid)
 valid-move {c} {p} {b} (Move.moved w) = valid-of c p b (w .valid)
 
-pub step : {c : Call} {p : Choices} {b b′ : Buffers} → Reversible (c .mode) (size c) → Move c p b b′ → Step c p (b .spins) (b′ .labels) (b′ .spins)
-step {c} {p} {b} {b′} v (Move.idle w) =
-    step-of (valid-of c p b (w .valid)) (b′ .labels) (b′ .spins) v (w .seen .labels) (ap length (w .still))
+pub step :
+    {c : Call} {p : Choices} {b b′ : Buffers}
+    → Reversible (c .mode) (size c)
+    → labelsBy (c .form) ≡ true
+    → Move c p b b′
+    → Step c p (b .spins) (b′ .labels) (b′ .spins)
+step {c} {p} {b} {b′} v f (Move.idle w) =
+    step-of (valid-of c p b (w .valid)) (b′ .labels) (b′ .spins) v (w .seen .all f .labels) (ap length (w .still))
     (λ i k hi hk. rw (w .still, reached-no c (b .spins) (b′ .labels) i (w .none i hi)) refl)
     (λ i t hi h. rw (w .still) refl)
-step {c} {p} {b} {b′} v (Move.moved w) =
-    step-of (valid-of c p b (w .valid)) (b′ .labels) (b′ .spins) v (w .seen .labels) (w .moved .long)
-    (λ i k hi hk. w .moved .group i k hi hk ∙ final-after c p (b .spins) (b′ .labels) (b′ .greyLabels) i k (not-cmr (c .mode) (size c) v))
-    (w .moved .others)
+step {c} {p} {b} {b′} v f (Move.moved w) =
+    let m = w .moved f in
+    step-of (valid-of c p b (w .valid)) (b′ .labels) (b′ .spins) v (w .seen .all f .labels) (m .long)
+    (λ i k hi hk. m .group i k hi hk ∙ final-after c p (b .spins) (b′ .labels) (b′ .greyLabels) i k (not-cmr (c .mode) (size c) v))
+    (m .others)

@@ -1,4 +1,4 @@
--- Demand 3 holds for every call of its modes, and stops at row 12.
+-- Demand 3 holds for every call of its modes in the forms that label, and stops at row 12. What grows has Wolff's spins (`GrowsAsWolff` of `laws`).
 use Prim.Native.Nat.{ℕ, _<_}
 use mathlib.Core.Path.{_≡_, refl, sym, _∙_}
 use mathlib.Core.Bool.{Bool, true, false, _&&_}
@@ -9,7 +9,7 @@ use Rattle.lemmas.specs.Bools.{never, and-right}
 use Rattle.lemmas.specs.Ints.{same-is}
 use Rattle.paper.specs.declared.Form.the-variants.{Sw}
 use Rattle.paper.specs.Panel.Input.{graph, Call, Choices, Buffers, size}
-use Rattle.paper.specs.Panel.Takes.{isPerm, isWolff, moves, takesPerms}
+use Rattle.paper.specs.Panel.Takes.{isPerm, oneCluster, labelsBy, moves, takesPerms}
 use Rattle.paper.specs.Site.Bonds.{holds}
 use Rattle.paper.specs.Site.Energy.{bondSum}
 use Rattle.paper.specs.Component.Labels.{Joined, Labels}
@@ -28,7 +28,7 @@ use Rattle.demand3.specs.ChoicesFit.{identity-chosen, identity-stays, id
 use Rattle.demand3.specs.Such.{move-of, own}
 use Rattle.demand3.specs.Chain.{instead, next, exact-instead, exact-next}
 
-module _ (c : Call) (v : Reversible (c .mode) (size c)) where
+module _ (c : Call) (v : Reversible (c .mode) (size c)) (f : labelsBy (c .form) ≡ true) where
   joined :
       (l : List ℕ) (h₁ h₂ : ℕ → ℕ → Bool)
       → Labels (graph c) h₁ l
@@ -54,26 +54,26 @@ module _ (c : Call) (v : Reversible (c .mode) (size c)) where
   }
     where
       s : Step c p (b .spins) (b′ .labels) (b′ .spins)
-      s = step v (move-of m)
+      s = step v f (move-of m)
 
   module _ {p q : Choices} {b b′ d d′ : Buffers} (w : Two c p q b b′ d d′) where
     first : Step c p (b .spins) (b′ .labels) (b′ .spins)
-    first = step v (move-of (w .first))
+    first = step v f (move-of (w .first))
 
     second : Step c q (b′ .spins) (d′ .labels) (d′ .spins)
-    second = rw (w .handed) at (step v (move-of (w .second)))
+    second = rw (w .handed) at (step v f (move-of (w .second)))
 
     module _ {r : Choices} {e e′ : Buffers} (m : Such c r e e′) (same : e .spins ≡ b .spins) where
       third : Step c r (b .spins) (e′ .labels) (e′ .spins)
-      third = rw same at (step v (move-of m))
+      third = rw same at (step v f (move-of m))
 
     outputs : SameOutputs b′ d′
     outputs = record {
       labels = labels;
-      counts = counts-unique (d′ .labels) (d′ .counts) (b′ .counts) (rw (w .handed) at (seen-of (move-of (w .second)) .counts))
-          (rw labels (counts-kept first (seen-of (move-of (w .first)) .counts)));
-      sizes = sizes-unique (d′ .labels) (d′ .sizes) (b′ .sizes) (rw (w .handed) at (seen-of (move-of (w .second)) .sizes))
-          (rw labels (sizes-kept first (seen-of (move-of (w .first)) .sizes)));
+      counts = counts-unique (d′ .labels) (d′ .counts) (b′ .counts) (rw (w .handed) at (seen-of f (move-of (w .second)) .counts))
+          (rw labels (counts-kept first (seen-of f (move-of (w .first)) .counts)));
+      sizes = sizes-unique (d′ .labels) (d′ .sizes) (b′ .sizes) (rw (w .handed) at (seen-of f (move-of (w .second)) .sizes))
+          (rw labels (sizes-kept first (seen-of f (move-of (w .first)) .sizes)));
     }
       where
         labels : d′ .labels ≡ b′ .labels
@@ -87,47 +87,47 @@ module _ (c : Call) (v : Reversible (c .mode) (size c)) where
 
     -- one move choosing the composite, where that is a choice and composes
     one :
-        When (takesPerms c && isWolff (c .form)) (NotIdentity (size c) (λ k. permRow c p 0 (permRow c q 0 k)))
+        When (takesPerms c && oneCluster (c .form)) (NotIdentity (size c) (λ k. permRow c p 0 (permRow c q 0 k)))
         → moves (c .form) ≡ true
         → (isPerm (c .mode) ≡ false → c .form ≡ Sw)
         → Leaves c (composite c p q) b (d′ .spins)
-    one moving f sw =
+    one moving moving-form sw =
         let m = move-of (w .first) in
-        let o = instead v m (exact-instead v m (composite-sized c p q)) (composite-chosen c v chosen-first chosen-second moving) in
-        let is = composed-all first (composite-is c v chosen-first chosen-second f sw) in
-        record { outcome = o; bytes = sym (two-then first second (step v (own o)) is) }
+        let o = instead v f m (exact-instead v f m (composite-sized c p q)) (composite-chosen c v chosen-first chosen-second moving) in
+        let is = composed-all first (composite-is c v chosen-first chosen-second moving-form sw) in
+        record { outcome = o; bytes = sym (two-then first second (step v f (own o)) is) }
 
-pub demand3 : (c : Call) → Reversible (c .mode) (size c) → Demand3 c
-demand3 c v = record {
-  keeps = keeps c v;
-  next = λ m. next v (move-of m);
-  outputs = outputs c v;
-  composes-at = λ w m same i k hi hk h. then-at (first c v w) (second c v w) (third c v w m same) i k hi hk (λ _. h);
-  composes = λ w m same. two-then (first c v w) (second c v w) (third c v w m same);
-  one-sw = λ sw w. one c v w (λ t. never (rw sw at (and-right (takesPerms c) (isWolff (c .form)) t))) (rw sw refl) (λ _. sw);
-  one-wolff = λ wolff perm w moving. one c v w (λ _. moving) (rw wolff refl) (λ e. never (sym e ∙ perm));
-  restores-at = λ w i k hi hk h. back-at (first c v w) (second c v w) i k hi hk (λ _. h);
-  restores = λ w. two-back (first c v w) (second c v w);
-  restores-wolff = λ wolff flips w. two-back (first c v w) (second c v w) (cancels-all (first c v w) (wolff-cancels c v flips _ _ wolff));
-  inverse-there = λ f m. undone f (move-of m);
-  inverse-restores = λ f w. two-back (first c v w) (second c v w) (cancels-all (first c v w) (inverse-cancels c v (chosen-first c v w) f));
+pub demand3 : (c : Call) → Reversible (c .mode) (size c) → labelsBy (c .form) ≡ true → Demand3 c
+demand3 c v f = record {
+  keeps = keeps c v f;
+  next = λ m. next v f (move-of m);
+  outputs = outputs c v f;
+  composes-at = λ w m same i k hi hk h. then-at (first c v f w) (second c v f w) (third c v f w m same) i k hi hk (λ _. h);
+  composes = λ w m same. two-then (first c v f w) (second c v f w) (third c v f w m same);
+  one-sw = λ sw w. one c v f w (λ t. never (rw sw at (and-right (takesPerms c) (oneCluster (c .form)) t))) (rw sw refl) (λ _. sw);
+  one-wolff = λ wolff perm w moving. one c v f w (λ _. moving) (rw wolff refl) (λ e. never (sym e ∙ perm));
+  restores-at = λ w i k hi hk h. back-at (first c v f w) (second c v f w) i k hi hk (λ _. h);
+  restores = λ w. two-back (first c v f w) (second c v f w);
+  restores-wolff = λ wolff flips w. two-back (first c v f w) (second c v f w) (cancels-all (first c v f w) (wolff-cancels c v flips _ _ wolff));
+  inverse-there = λ g m. undone g (move-of m);
+  inverse-restores = λ g w. two-back (first c v f w) (second c v f w) (cancels-all (first c v f w) (inverse-cancels c v (chosen-first c v f w) g));
   identity-there = λ sw m. rest sw (move-of m);
-  identity-still = λ sw m. none-moved (step v (move-of m)) (identity-stays c v sw);
+  identity-still = λ sw m. none-moved (step v f (move-of m)) (identity-stays c v sw);
 }
   where
     undone : {p : Choices} {b b′ : Buffers} → moves (c .form) ≡ true → Move c p b b′ → Leaves c (inverse c p) b′ (b .spins)
-    undone {p} {b} {b′} f m =
+    undone {p} {b} {b′} g m =
         let h = valid-move m .fit .chosen in
-        let o = next v m refl (exact-next v m (inverse-sized c p (record { choices = valid-move m .sound .exact .choices }))) (inverse-chosen c v h) in
+        let o = next v f m refl (exact-next v f m (inverse-sized c p (record { choices = valid-move m .sound .exact .choices }))) (inverse-chosen c v h) in
         record {
           outcome = o;
-          bytes = two-back (step v m) (step v (own o)) (cancels-all (step v m) (inverse-cancels c v h f));
+          bytes = two-back (step v f m) (step v f (own o)) (cancels-all (step v f m) (inverse-cancels c v h g));
         }
 
     rest : {p : Choices} {b b′ : Buffers} → c .form ≡ Sw → Move c p b b′ → Leaves c (identity c) b (b .spins)
     rest {p} {b} {b′} sw m =
-        let o = instead v m (exact-instead v m (identity-sized c)) (identity-chosen c v (valid-move m .fit .chosen) sw) in
-        record { outcome = o; bytes = none-moved (step v (own o)) (identity-stays c v sw) }
+        let o = instead v f m (exact-instead v f m (identity-sized c)) (identity-chosen c v (valid-move m .fit .chosen) sw) in
+        record { outcome = o; bytes = none-moved (step v f (own o)) (identity-stays c v sw) }
 
 pub boundary : Boundary
 boundary = record {

@@ -17,7 +17,7 @@ use Rattle.paper.specs.Component.Links.{Linked.stay}
 use Rattle.paper.specs.Component.Sizes.{counted, sizeOf}
 use Rattle.paper.specs.Refusal.Rule.{Kept, Broken}
 use Rattle.paper.specs.Refusal.Verdict.{Verdict}
-use Rattle.paper.specs.Answer.Move.{Answers, Seen, Accepted, accepted-zero}
+use Rattle.paper.specs.Answer.Move.{Answers, SeenAll, Accepted, accepted-zero}
 use Rattle.paper.specs.Answer.Frame.{bytes, signed, frameLattice, frameCall, frameChoices, frameBuffers, HasBack, frameRules, refusal, FrameAnswers}
 use Rattle.frame_lines.specs.declared.Sizes.{Sizes}
 use Rattle.frame_lines.specs.Spelling.{line2, line3, spellingRules, valueRules, Spelling, spelling-of, misspelt, misvalued, all-kept}
@@ -83,7 +83,7 @@ module _ (text out : List ℕ) (m : ℕ) (out′ : List ℕ) where
   })
 
 -- ---- what an accepted move leaves is held by two bytes
-pub seen-small : (c : Call) (b b′ : Buffers) → Seen c b b′ → c .lattice .n ≤ 4096 → TwoByte (b′ .labels) (b′ .counts)
+pub seen-small : (c : Call) (b b′ : Buffers) → SeenAll c b b′ → c .lattice .n ≤ 4096 → TwoByte (b′ .labels) (b′ .counts)
 seen-small c b b′ v h = record { small-labels = labels; small-counts = counts }
   where
     few : length (b′ .labels) ≤ 4096

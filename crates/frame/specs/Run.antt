@@ -84,7 +84,8 @@ pub record PermMoved (n d s : ℕ) (g : Group) (fwd perms : List ℕ) (b : Buffe
   pub long : length bwd ≡ n * d
   pub reversed : Reversed n d fwd bwd
   pub grey : List ℕ
-  pub answers : Answers (permCall n d s fwd bwd g) (choicesOf perms []) b r (buffersOf spins labels grey counts sizes)
+  pub members : List ℕ
+  pub answers : Answers (permCall n d s fwd bwd g) (choicesOf perms []) b r (buffersOf spins labels grey counts sizes members)
 
 -- what is written for a move's answer
 abbrev pub answerText : Answer → List ℕ → List ℕ → List ℤ → List ℕ
@@ -104,8 +105,10 @@ refused-small {c} {p} {b} {r} k = broken-small (rules c p b) r (omega arith) (k 
 pub writable : {n d s : ℕ} {g : Group} {fwd perms : List ℕ} {b : Buffers} (r : Answer) {bwd : List ℕ} {spins : List ℤ} {labels counts sizes : List ℕ}
     → n ≤ 4096 → PermMoved n d s g fwd perms b r bwd spins labels counts sizes → Writable r labels counts
 writable (Refused c) h m = refused-small (m .answers)
-writable {b = b} Idle {spins = spins} {labels} {counts} {sizes} h m = seen-small _ b (buffersOf spins labels (m .grey) counts sizes) (m .answers .seen) h
-writable {b = b} Moved {spins = spins} {labels} {counts} {sizes} h m = seen-small _ b (buffersOf spins labels (m .grey) counts sizes) (m .answers .seen) h
+writable {b = b} Idle {spins = spins} {labels} {counts} {sizes} h m =
+    seen-small _ b (buffersOf spins labels (m .grey) counts sizes (m .members)) (m .answers .seen .all refl) h
+writable {b = b} Moved {spins = spins} {labels} {counts} {sizes} h m =
+    seen-small _ b (buffersOf spins labels (m .grey) counts sizes (m .members)) (m .answers .seen .all refl) h
 
 -- the move ran, and its answer is written
 pub record MoveWritten (n d s : ℕ) (g : Group) (fwd perms : List ℕ) (b : Buffers) (out : List ℕ) (w : Written) (out′ : List ℕ) : Type 0 where
@@ -187,7 +190,7 @@ zeros-part (suc m) (x ∷ xs) l h = λ i. h 0 (omega arith) i ∷ zeros-part m x
 
 -- the same on what was read
 abbrev pub buffersRead : Sizes → List ℤ → List ℕ → List ℕ → List ℕ → Buffers
-buffersRead z spins labels counts sizes = buffersOf (take (z .s * z .n) spins) (take (z .n) labels) [] (take (z .n + 1) counts) sizes
+buffersRead z spins labels counts sizes = buffersOf (take (z .s * z .n) spins) (take (z .n) labels) [] (take (z .n + 1) counts) sizes []
 
 module _ {text : List ℕ} {b : Held} {z : Sizes} {g : Group} {a : Held} (h : Readout text b z g a)
     {bwd labels counts sizes : List ℕ} (k : Blank bwd labels counts sizes) (few : z .n ≤ 256) where
@@ -207,7 +210,7 @@ module _ {text : List ℕ} {b : Held} {z : Sizes} {g : Group} {a : Held} (h : Re
   panel-answers v = record {
     answer = answerText (v .answer) (v .after .labels) (v .after .counts) (v .after .spins);
     answers = moves-answer text (v .bwd) (h .spelt) (moved .long) (moved .reversed) (v .answer)
-        (buffersOf (v .after .spins) (v .after .labels) (moved .grey) (v .after .counts) (v .after .sizes)) (moved .answers);
+        (buffersOf (v .after .spins) (v .after .labels) (moved .grey) (v .after .counts) (v .after .sizes) (moved .members)) (moved .answers);
     written = v .written;
   }
     where
@@ -218,8 +221,8 @@ module _ {text : List ℕ} {b : Held} {z : Sizes} {g : Group} {a : Held} (h : Re
         where
           buffers : buffersRead z (a .spins) labels counts sizes ≡ frameBuffers text
           buffers =
-              (λ i. buffersOf (spins-part h i) (is-labels i) [] (is-counts i) (is-sizes i))
-              ∙ (λ i. buffersOf (frameBuffers text .spins) (table (h .sizes i .n) (λ k. 0)) [] (table (h .sizes i .n + 1) (λ k. 0)) (table 4 (λ k. 0)))
+              (λ i. buffersOf (spins-part h i) (is-labels i) [] (is-counts i) (is-sizes i) [])
+              ∙ (λ i. buffersOf (frameBuffers text .spins) (table (h .sizes i .n) (λ k. 0)) [] (table (h .sizes i .n + 1) (λ k. 0)) (table 4 (λ k. 0)) [])
 
 -- ---- from what the reading found
 pub misread-answers : (text : List ℕ) (b : Held) (f : Found) (g : Group) (a : Held) (r : ℕ) {out : List ℕ} {w : Written} {out′ : List ℕ}

@@ -43,10 +43,11 @@ module _ (text bwd : List ℕ) (s : Spelling text) (long : length bwd ≡ frameL
     cuts = λ e. never e;
     choices = λ e. s .perms-line .long;
     greys = λ e. never e;
-    labels = length-table (frameLattice text [] .n) (λ k. 0);
+    labels = λ e. length-table (frameLattice text [] .n) (λ k. 0);
     grey-labels = λ e. never e;
-    counts = length-table (frameLattice text [] .n + 1) (λ k. 0);
-    sizes = length-table 4 (λ k. 0);
+    counts = λ e. length-table (frameLattice text [] .n + 1) (λ k. 0);
+    sizes = λ e. length-table 4 (λ k. 0);
+    members = λ e. never e;
   }
 
   chosen-of : Chosen (frameCall text bwd) (frameChoices text) → Chosen (frameCall text []) (frameChoices text)

@@ -14,7 +14,7 @@ ghost use Rattle.frame_lines.specs.Reading.{Held, Readout};
 ghost use Rattle.frame_lines.specs.Writing.{WrittenAs};
 ghost use Rattle.frame.specs.Run.{PermMoved, Writable, answerText, MoveWritten, PanelGiven, RunAs};
 
-// The move takes no couplings, cuts or grey numbers: they are empty.
+// The move takes no couplings, cuts, grey numbers or members: they are empty.
 fn perm_move(
     n: usize,
     d: usize,
@@ -30,13 +30,14 @@ fn perm_move(
 ) -> Answer
     requires { ⌜ Turnable n d (now fwd) (now bwd) ⌝ }
     ensures { λ r. ⌜ PermMoved n d s group (now (fwd .entry)) (now (perms .entry))
-        (buffersOf (now (spins .entry)) (now (labels .entry)) [] (now (counts .entry)) (now (sizes .entry)))
+        (buffersOf (now (spins .entry)) (now (labels .entry)) [] (now (counts .entry)) (now (sizes .entry)) [])
         r (now (bwd .exit)) (now (spins .exit)) (now (labels .exit)) (now (counts .exit)) (now (sizes .exit)) ⌝ }
 {
     lattice::backward(n, d, fwd, bwd);
     let couplings = [0i32; 1];
     let cuts = [0f32; 1];
     let mut grey_labels = [0u32; 1];
+    let mut members = [0u8; 1];
     let t = Task {
         mode: Mode::Perm,
         form: Form::Sw,
@@ -61,6 +62,7 @@ fn perm_move(
         &mut grey_labels[..0],
         counts,
         sizes,
+        &mut members[..0],
     )
 }
 
@@ -92,7 +94,7 @@ fn move_and_write(
 ) -> Written
     requires { ⌜ Turnable n d (now fwd) (now bwd) ⌝ }
     ensures { λ w. ⌜ MoveWritten n d s group (now (fwd .entry)) (now (perms .entry))
-        (buffersOf (now (spins .entry)) (now (labels .entry)) [] (now (counts .entry)) (now (sizes .entry)))
+        (buffersOf (now (spins .entry)) (now (labels .entry)) [] (now (counts .entry)) (now (sizes .entry)) [])
         (now (out .entry)) w (now (out .exit)) ⌝ }
 {
     let r = perm_move(

@@ -19,7 +19,7 @@ use Rattle.frame_lines.specs.Words.{twoBytes-length}
 
 -- the answer of a move that left these labels, counts and spins
 abbrev pub resultOf : List ℕ → List ℕ → List ℤ → List ℕ
-resultOf labels counts spins = result (record { spins = spins; labels = labels; greyLabels = []; counts = counts; sizes = [] })
+resultOf labels counts spins = result (record { spins = spins; labels = labels; greyLabels = []; counts = counts; sizes = []; members = [] })
 
 -- labels and counts that two bytes hold
 pub record TwoByte (labels counts : List ℕ) : Type 0 where

@@ -17,7 +17,7 @@ use Rattle.paper.specs.Site.Bonds.{holds}
 use Rattle.paper.specs.Component.Labels.{Joined, Labels}
 use Rattle.paper.specs.Component.Marks.{marked}
 use Rattle.paper.specs.Component.Sizes.{labelOf, counted, sizeOf, Counted}
-use Rattle.paper.specs.Answer.Move.{Seen}
+use Rattle.paper.specs.Answer.Move.{SeenAll}
 use Rattle.laws.specs.Unique.{same-label, label-lt}
 use Rattle.laws.specs.Counting.{acts-one}
 use Rattle.label.specs.Contract.{graphOf, Labelled}
@@ -117,8 +117,8 @@ counts-total t holding mark l counts h one k =
     flat : (i : ℕ) → i < t .n → labelOf l (labelOf l i) ≡ labelOf l i
     flat i il = sym (same-label t holding l h i (labelOf l i) il (label-lt t holding l h i il) .1 (h .joined i il))
 
--- and so in every move it is the number of acting sites, since these are whole components
-pub acting-total : (c : Call) (b b′ : Buffers) → Seen c b b′
+-- and so in every move that labels it is the number of acting sites, since these are whole components
+pub acting-total : (c : Call) (b b′ : Buffers) → SeenAll c b b′
     → total (λ s. s * getD (b′ .counts) s 0) (c .lattice .n + 1) ≡ countWhere (acts c (b .spins)) (c .lattice .n)
 acting-total c b b′ s =
     counts-total (graph c) (holds c (b .spins)) (acts c (b .spins)) (b′ .labels) (b′ .counts) (s .labels) (λ i j w. acts-one c (b .spins) w) (s .counts)

@@ -1,7 +1,7 @@
 -- A move's answer on one list of spins is its answer on another with the same rows of its group.
 use Prim.Native.Nat.{ℕ, _<_}
-use mathlib.Core.Path.{_≡_, sym, _∙_, ap}
-use mathlib.Core.Bool.{true}
+use mathlib.Core.Path.{_≡_, refl, sym, _∙_, ap}
+use mathlib.Core.Bool.{Bool, true, false}
 use mathlib.Core.List.{List}
 use native.Mathlib.Omega.{arith}
 use lib.ListN.{length}
@@ -10,21 +10,22 @@ use Rattle.lemmas.specs.Bools.{and-right}
 use Rattle.paper.specs.declared.Answer.{Answer}
 use Rattle.paper.specs.declared.Answer.the-variants.{Idle, Moved}
 use Rattle.paper.specs.Panel.Input.{graph, Call, Choices, Buffers, pattern, size}
-use Rattle.paper.specs.Panel.Takes.{moves, isPerm, takesGreys}
+use Rattle.paper.specs.Panel.Takes.{isCmr, isPerm, growsBy, moves}
 use Rattle.paper.specs.Site.Acting.{acts, SomeActs}
 use Rattle.paper.specs.Site.Bonds.{holds, holdsGrey}
 use Rattle.paper.specs.Component.Labels.{Labels}
 use Rattle.paper.specs.Component.Sizes.{labelOf}
-use Rattle.paper.specs.Move.Moving.{reached, final, Moves}
+use Rattle.paper.specs.Move.Moving.{reached, Moves}
 use Rattle.paper.specs.Refusal.Rules.{AllSystems, Spins, Exact, Seeded, Permutes}
 use Rattle.paper.specs.Refusal.Kept.{Valid, valid-of, valid-kept}
-use Rattle.paper.specs.Answer.Move.{Seen, Goes, Answers, Accepted, Accepted.idle, Accepted.moved}
-use Rattle.laws.specs.Unique.{GroupIs, OthersOf, label-lt, spins-equal, labels-ext, counts-ext, sizes-ext}
-use Rattle.laws.specs.Entries.{permOf, form-moves, perms-of}
+use Rattle.paper.specs.Answer.Move.{SeenAll, SeenOne, Seen, memberBonds, Turns, Answers, Accepted, Accepted.idle, Accepted.moved}
+use Rattle.laws.specs.Forms.{grows-one, grows-moves}
+use Rattle.laws.specs.Unique.{HoldAlike, GroupIs, OthersOf, label-lt, spins-equal, labels-ext, members-ext, counts-ext, sizes-ext}
+use Rattle.laws.specs.Entries.{permOf, form-moves, perms-of, perms-grown}
 use Rattle.laws.specs.Local.{Agree, Alike, acts-local, holds-local, grey-local, final-local}
 
 abbrev pub withSpins : Buffers → List ℤ → Buffers
-withSpins b xs = record { spins = xs; labels = b .labels; greyLabels = b .greyLabels; counts = b .counts; sizes = b .sizes }
+withSpins b xs = record { spins = xs; labels = b .labels; greyLabels = b .greyLabels; counts = b .counts; sizes = b .sizes; members = b .members }
 
 -- ys has the group's rows of `to` and the other rows of xs
 pub record Rows (c : Call) (xs to ys : List ℤ) : Type 0 where
@@ -70,6 +71,7 @@ module _ {c : Call} {p : Choices} {b : Buffers} {xs : List ℤ} (s : Instead c b
     grey-labels = e .grey-labels;
     counts = e .counts;
     sizes = e .sizes;
+    members = e .members;
   }
 
   seeded-there : Seeded c xs
@@ -92,23 +94,49 @@ module _ {c : Call} {p : Choices} {b : Buffers} {xs : List ℤ} (s : Instead c b
     fit = record { cuts = v .fit .cuts; chosen = v .fit .chosen; seeded = seeded-there };
   }
 
-  seen-there : {b′ : Buffers} → Seen c b b′ → (ys : List ℤ) → Seen c (withSpins b xs) (withSpins b′ ys)
-  seen-there {b′} w ys = record {
+  -- the same bonds hold
+  blue : HoldAlike (graph c) (holds c (b .spins)) (holds c xs)
+  blue i e hi he = sym (holds-local c xs (b .spins) alike i e hi he)
+
+  grey : isCmr (c .mode) ≡ true → HoldAlike (graph c) (holdsGrey c (b .spins)) (holdsGrey c xs)
+  grey t i e hi he = sym (grey-local c xs (b .spins) alike t i e hi he)
+
+  bonds : HoldAlike (graph c) (memberBonds c (b .spins)) (memberBonds c xs)
+  bonds i e hi he = go (isCmr (c .mode)) refl
+    where
+      go : (t : Bool) → isCmr (c .mode) ≡ t → memberBonds c (b .spins) i e ≡ memberBonds c xs i e
+      go true q = rw q (grey q i e hi he)
+      go false q = rw q (blue i e hi he)
+
+  all-there : {b′ : Buffers} → SeenAll c b b′ → (ys : List ℤ) → SeenAll c (withSpins b xs) (withSpins b′ ys)
+  all-there {b′} w ys = record {
     labels = labels-ext (graph c) (holds c (b .spins)) (holds c xs) (b′ .labels) blue (w .labels);
-    grey-labels = λ t. labels-ext (graph c) (holdsGrey c (b .spins)) (holdsGrey c xs) (b′ .greyLabels) (grey t) (w .grey-labels t);
+    grey-labels = λ t.
+        labels-ext (graph c) (holdsGrey c (b .spins)) (holdsGrey c xs) (b′ .greyLabels) (grey (and-right (moves (c .form)) _ t)) (w .grey-labels t);
     grey-kept = w .grey-kept;
     counts = counts-ext (b′ .labels) marks (w .counts);
     sizes = sizes-ext (b′ .labels) marks (w .sizes);
+    members-kept = w .members-kept;
   }
     where
       marks : (i : ℕ) → i < length (b′ .labels) → acts c (b .spins) i ≡ acts c xs i
       marks i h = sym (acts-same i (rw (w .labels .long) at h))
 
-      blue : (i e : ℕ) → i < c .lattice .n → e < c .lattice .d → holds c (b .spins) i e ≡ holds c xs i e
-      blue i e hi he = sym (holds-local c xs (b .spins) alike i e hi he)
+  one-there : {b′ : Buffers} → growsBy (c .form) ≡ true → SeenOne c b b′ → (ys : List ℤ) → SeenOne c (withSpins b xs) (withSpins b′ ys)
+  one-there {b′} g w ys = record {
+    members = λ t. members-ext (graph c) (memberBonds c (b .spins)) (memberBonds c xs) (c .seed) (b′ .members) bonds (w .members (sym seed ∙ t));
+    none = λ t. w .none (sym seed ∙ t);
+    labels-kept = w .labels-kept;
+    grey-kept = w .grey-kept;
+    counts-kept = w .counts-kept;
+    sizes-kept = w .sizes-kept;
+  }
+    where
+      seed : acts c xs (c .seed) ≡ acts c (b .spins) (c .seed)
+      seed = acts-same (c .seed) (v .fit .seeded .below (grows-one (c .form) g))
 
-      grey : takesGreys c ≡ true → (i e : ℕ) → i < c .lattice .n → e < c .lattice .d → holdsGrey c (b .spins) i e ≡ holdsGrey c xs i e
-      grey t i e hi he = sym (grey-local c xs (b .spins) alike (and-right (moves (c .form)) _ t) i e hi he)
+  seen-there : {b′ : Buffers} → Seen c b b′ → (ys : List ℤ) → Seen c (withSpins b xs) (withSpins b′ ys)
+  seen-there w ys = record { all = λ t. all-there (w .all t) ys; one = λ t. one-there t (w .one t) ys }
 
   perms-at :
       (l : List ℕ)
@@ -123,20 +151,23 @@ module _ {c : Call} {p : Choices} {b : Buffers} {xs : List ℤ} (s : Instead c b
       perms-of v (rw (form-moves (c .form) c l i (and-right (acts c xs i) _ e), q)) (labelOf l i)
       (label-lt (graph c) (holds c (b .spins)) l h i hi)
 
-  moved-there : {b′ : Buffers} → Goes c p b b′ → (ys : List ℤ) → Rows c xs (b′ .spins) ys → Moves c p xs (b′ .labels) (b′ .greyLabels) ys
-  moved-there {b′} w ys r = record {
+  -- the choices are right wherever the list l says that a site is reached
+  abbrev PermsAt : List ℕ → Type 0
+  PermsAt l = (i : ℕ) → i < c .lattice .n → reached c xs l i ≡ true → isPerm (c .mode) ≡ true → Permutes (size c) (permOf c p (labelOf l i))
+
+  moves-there : (l g : List ℕ) {zs : List ℤ} → PermsAt l → Moves c p (b .spins) l g zs → (ys : List ℤ) → Rows c xs zs ys → Moves c p xs l g ys
+  moves-there l g perms w ys r = record {
     long = r .long;
-    group = λ i k hi hk. r .group i hi k hk ∙ (w .moved .group i k hi hk ∙ sym (same-final i k hi hk));
+    group = λ i k hi hk. r .group i hi k hk ∙ (w .group i k hi hk ∙ sym (final-local c xs (b .spins) alike p l g i k hi hk (perms i hi)));
     others = r .others;
   }
-    where
-      same-final :
-          (i k : ℕ)
-          → i < c .lattice .n
-          → k < size c
-          → final c p xs (b′ .labels) (b′ .greyLabels) i k ≡ final c p (b .spins) (b′ .labels) (b′ .greyLabels) i k
-      same-final i k hi hk =
-          final-local c xs (b .spins) alike p (b′ .labels) (b′ .greyLabels) i k hi hk (perms-at (b′ .labels) (w .seen .labels) i hi)
+
+  turned-there : {m : List ℕ} {zs : List ℤ} → growsBy (c .form) ≡ true → Turns c p (b .spins) m zs → (ys : List ℤ) → Rows c xs zs ys → Turns c p xs m ys
+  turned-there {m} g w ys r = record {
+    blue = w .blue;
+    joined = members-ext (graph c) (holds c (b .spins)) (holds c xs) (c .seed) (w .blue) blue (w .joined);
+    moved = moves-there (w .blue) m (λ i hi e q. perms-grown v g (rw (grows-moves (c .form) g, q)) (labelOf (w .blue) i)) (w .moved) ys r;
+  }
 
 -- whatever the other systems' rows are
 module _
@@ -160,6 +191,7 @@ module _
     local Moved moved w ys r = let v = valid-of c p b (w .valid) in record {
       valid = valid-kept c p (withSpins b xs) (valid-there s v);
       some = some-back s v (w .some);
-      moved = moved-there s v w ys r;
+      moved = λ t. moves-there s v (b′ .labels) (b′ .greyLabels) (perms-at s v (b′ .labels) (w .seen .all t .labels)) (w .moved t) ys r;
+      turned = λ t. turned-there s v t (w .turned t) ys r;
       seen = seen-there s v (w .seen) ys;
     }

@@ -8,10 +8,11 @@ use native.Mathlib.Omega.{arith}
 use native.Mathlib.Decide.{decLt}
 use native.Mathlib.Nat.{mul-le-mul-right}
 use lib.ListN.{length, getD, List·getD-eq-default}
+use lib.Seq.{ext-getD}
 use lib.IntN.{ℤ, pos}
 use Rattle.paper.specs.declared.Answer.the-variants.{Idle, Moved}
 use Rattle.paper.specs.Panel.Input.{Graph, leadsTo, graph, Call, Choices, Buffers, spin, pattern, size, system}
-use Rattle.paper.specs.Panel.Takes.{takesGreys}
+use Rattle.paper.specs.Panel.Takes.{labelsBy, takesGreys}
 use Rattle.paper.specs.Site.Acting.{acts, NoneActs}
 use Rattle.paper.specs.Site.Bonds.{holds, holdsGrey}
 use Rattle.paper.specs.Component.Links.{Linked.stay, Linked.along, Linked.against}
@@ -23,6 +24,7 @@ use Rattle.paper.specs.Refusal.Rules.{When, rules}
 use Rattle.paper.specs.Refusal.Kept.{valid-of}
 use Rattle.paper.specs.Refusal.Verdict.{Verdict}
 use Rattle.paper.specs.Answer.Move.{Seen, Answers}
+use Rattle.laws.specs.Forms.{forms-apart}
 use Rattle.laws.specs.Unique.{OthersOf}
 use Rattle.laws.specs.Decided.{Decided, denies, le, lt, eq, same, is, iff, both, either, implies, when, all, some}
 use Rattle.laws.specs.Verdicts.{someActs, refusalOf, verdict}
@@ -97,7 +99,12 @@ largest mark l sizes =
     iff (λ (a, b). record { long = a; each = b }) (λ r. (r .long, r .each))
     (both (eq (length sizes) 4) (all 4 (λ t. rank mark l t (getD sizes t 0))))
 
--- ---- the answer: what is computed of it, with the parents of each site in its component and in its grey component
+abbrev pub alike : (xs ys : List ℕ) → Decided (xs ≡ ys)
+alike xs ys =
+    iff (λ (a, b). ext-getD 0 xs ys a b) (λ e. (ap length e, λ i h. ap (λ (z : List ℕ). getD z i 0) e))
+    (both (eq (length xs) (length ys)) (all (length xs) (λ i. eq (getD xs i 0) (getD ys i 0))))
+
+-- ---- the answer of a form that labels: what is computed of it, with the parents of each site in its component and in its grey component
 abbrev pub Untouched : Call → List ℤ → List ℤ → ℕ → Type 0
 Untouched c xs ys t = (i : ℕ) → i < c .lattice .n → spin (c .lattice .n) ys t i ≡ spin (c .lattice .n) xs t i
 
@@ -105,6 +112,7 @@ abbrev pub InGroup : Call → ℕ → Type 0
 InGroup c t = (k : ℕ) × (k < size c) × (t ≡ system c k)
 
 pub record Worked (c : Call) (p : Choices) (b b′ : Buffers) (blue grey : List ℕ) : Type 0 where
+  pub labelled : labelsBy (c .form) ≡ true
   pub accepted : refusalOf c p b ≡ 0
   pub long : length (b′ .spins) ≡ length (b .spins)
   pub group :
@@ -118,11 +126,13 @@ pub record Worked (c : Call) (p : Choices) (b b′ : Buffers) (blue grey : List 
   pub grey-labels : When (takesGreys c) (Forest (graph c) (holdsGrey c (b .spins)) grey (b′ .greyLabels))
   pub counts : Counted (acts c (b .spins)) (b′ .labels) (b′ .counts)
   pub sizes : Largest (acts c (b .spins)) (b′ .labels) (b′ .sizes)
+  pub members : b′ .members ≡ b .members
 
 abbrev pub worked : (c : Call) (p : Choices) (b b′ : Buffers) (blue grey : List ℕ) → Decided (Worked c p b b′ blue grey)
 worked c p b b′ blue grey =
     iff
-    (λ (x1, (x2, (x3, (x4, (x5, (x6, (x7, x8))))))). record {
+    (λ (x0, (x1, (x2, (x3, (x4, (x5, (x6, (x7, (x8, x9))))))))). record {
+      labelled = x0;
       accepted = x1;
       long = x2;
       group = x3;
@@ -131,8 +141,13 @@ worked c p b b′ blue grey =
       grey-labels = x6;
       counts = x7;
       sizes = x8;
+      members = x9;
     })
-    (λ r. (r .accepted, (r .long, (r .group, (r .others, (r .labels, (r .grey-labels, (r .counts, r .sizes))))))))
+    (λ r. (
+      r .labelled,
+      (r .accepted, (r .long, (r .group, (r .others, (r .labels, (r .grey-labels, (r .counts, (r .sizes, r .members)))))))),
+    ))
+    (both (is (labelsBy (c .form)))
     (both (eq (refusalOf c p b) 0)
     (both (eq (length (b′ .spins)) (length (b .spins)))
     (both (all (c .lattice .n) (λ i. all (size c) (λ k. same (pattern c (b′ .spins) i k) (final c p (b .spins) (b′ .labels) (b′ .greyLabels) i k))))
@@ -142,7 +157,8 @@ worked c p b b′ blue grey =
     (both (forest (graph c) (holds c (b .spins)) blue (b′ .labels))
     (both (when (takesGreys c) (forest (graph c) (holdsGrey c (b .spins)) grey (b′ .greyLabels)))
     (both (counted (acts c (b .spins)) (b′ .labels) (b′ .counts))
-    (largest (acts c (b .spins)) (b′ .labels) (b′ .sizes)))))))))
+    (both (largest (acts c (b .spins)) (b′ .labels) (b′ .sizes))
+    (alike (b′ .members) (b .members)))))))))))
 
 module _
     (c : Call) (p : Choices) (b b′ : Buffers) (blue grey : List ℕ)
@@ -156,11 +172,15 @@ module _
 
     seen : Seen c b b′
     seen = record {
-      labels = labels-by (w .labels);
-      grey-labels = λ t. labels-by (w .grey-labels t);
-      grey-kept = grey-kept;
-      counts = w .counts;
-      sizes = w .sizes;
+      all = λ _. record {
+        labels = labels-by (w .labels);
+        grey-labels = λ t. labels-by (w .grey-labels t);
+        grey-kept = grey-kept;
+        counts = w .counts;
+        sizes = w .sizes;
+        members-kept = w .members;
+      };
+      one = forms-apart (c .form) (w .labelled);
     }
 
     others : OthersOf c (b .spins) (b′ .spins)
@@ -183,7 +203,8 @@ module _
     goes-by e = record {
       valid = kept;
       some = someActs c (b .spins) .holds e;
-      moved = record { long = w .long; group = λ i k hi hk. w .group i hi k hk; others = others };
+      moved = λ _. record { long = w .long; group = λ i k hi hk. w .group i hi k hk; others = others };
+      turned = forms-apart (c .form) (w .labelled);
       seen = seen;
     }
 

@@ -6,7 +6,7 @@ use native.Mathlib.Omega.{arith}
 use Rattle.lemmas.specs.Bools.{and-right, never, or-right}
 use Rattle.paper.specs.declared.Mode.{Mode}
 use Rattle.paper.specs.declared.Form.{Form}
-use Rattle.paper.specs.declared.Form.the-variants.{Sw, Wolff, Observe}
+use Rattle.paper.specs.declared.Form.the-variants.{Sw, Wolff, Observe, Grow}
 use Rattle.paper.specs.Panel.Takes.{isPerm, isSw, moves, flipsBy, permsBy, choicesBy, entries, choiceBytes}
 
 pub flips-taken : (m : Mode) (f : Form) → flipsBy m f ≡ true → choicesBy m f ≡ true
@@ -23,6 +23,7 @@ flips-bytes m f n s = go f (isPerm m)
     go Sw false e = omega arith
     go Wolff p e = never e
     go Observe p e = never e
+    go Grow p e = never e
 
 pub perms-bytes : (m : Mode) (f : Form) (n s : ℕ) → permsBy m f ≡ true → choiceBytes m f n s ≡ entries f n * s
 perms-bytes m f n s e = rw (and-right (moves f) (isPerm m) e) refl

@@ -15,12 +15,15 @@ use Rattle.paper.specs.declared.Mode.{Mode}
 use Rattle.paper.specs.declared.Mode.the-variants.{Houd, Pair, Perm, Gperm, Jorg, Cmr}
 use Rattle.paper.specs.declared.Answer.the-variants.{Idle}
 use Rattle.paper.specs.Panel.Input.{graph, ahead, Call, Choices, Buffers}
+use Rattle.paper.specs.Panel.Takes.{growsBy, labelsBy}
 use Rattle.paper.specs.Site.Acting.{acts}
 use Rattle.paper.specs.Site.Bonds.{bothAct, holdsBy, holds}
 use Rattle.paper.specs.Component.Links.{Linked.stay, Linked.along, Linked.against}
 use Rattle.paper.specs.Component.Labels.{Bond, Joined}
 use Rattle.paper.specs.Component.Sizes.{labelOf, counted, sizeOf, atLeast}
-use Rattle.paper.specs.Answer.Move.{Answers}
+use Rattle.paper.specs.Refusal.Kept.{valid-of}
+use Rattle.paper.specs.Answer.Move.{SeenAll, Answers}
+use Rattle.laws.specs.Forms.{grows-one}
 
 -- ---- acts is one on a component
 module _ (c : Call) (xs : List ℤ) where
@@ -56,22 +59,29 @@ module _ (c : Call) (xs : List ℤ) where
   both-act (along b r) ne = (bond-acts b .0, sym (acts-one (along b r)) ∙ bond-acts b .0)
   both-act (against b r) ne = (bond-acts b .1, sym (acts-one (against b r)) ∙ bond-acts b .1)
 
--- ---- an idle move: every count and every size is 0
+-- ---- an idle move: every count and every size is 0, and so is every member's byte
 module _ (c : Call) (p : Choices) (b b′ : Buffers) (w : Answers c p b Idle b′) where
+  pub idle-members : growsBy (c .form) ≡ true → (i : ℕ) → i < c .lattice .n → getD (b′ .members) i 0 ≡ 0
+  idle-members g = w .seen .one g .none (w .none (c .seed) (valid-of c p b (w .valid) .fit .seeded .below (grows-one (c .form) g))) .zeros
+
+module _ (c : Call) (p : Choices) (b b′ : Buffers) (w : Answers c p b Idle b′) (labelled : labelsBy (c .form) ≡ true) where
+  seen : SeenAll c b b′
+  seen = w .seen .all labelled
+
   none : (test : ℕ → Bool) → countWhere (λ r. counted (acts c (b .spins)) (b′ .labels) r && test (sizeOf (b′ .labels) r)) (length (b′ .labels)) ≡ 0
   none test =
       count-zero (λ r. counted (acts c (b .spins)) (b′ .labels) r && test (sizeOf (b′ .labels) r)) (length (b′ .labels))
-      (λ r h. off (eqb (labelOf (b′ .labels) r) r) _ _ (w .none r (rw (w .seen .labels .long) at h)))
+      (λ r h. off (eqb (labelOf (b′ .labels) r) r) _ _ (w .none r (rw (seen .labels .long) at h)))
     where
       off : (own mark tested : Bool) → mark ≡ false → ((own && mark) && tested) ≡ false
       off true mark tested e = rw e refl
       off false mark tested e = refl
 
   pub idle-counts : (s : ℕ) → s ≤ c .lattice .n → getD (b′ .counts) s 0 ≡ 0
-  idle-counts s h = w .seen .counts .each s (rw (w .seen .labels .long) h) ∙ none (λ x. eqb x s)
+  idle-counts s h = seen .counts .each s (rw (seen .labels .long) h) ∙ none (λ x. eqb x s)
 
   pub idle-sizes : (t : ℕ) → t < 4 → getD (b′ .sizes) t 0 ≡ 0
-  idle-sizes t h = go (getD (b′ .sizes) t 0) (w .seen .sizes .each t h .reached)
+  idle-sizes t h = go (getD (b′ .sizes) t 0) (seen .sizes .each t h .reached)
     where
       go : (a : ℕ) → (a ≡ 0) ⊎ (t < atLeast (acts c (b .spins)) (b′ .labels) a) → a ≡ 0
       go a (inl e) = e

@@ -8,8 +8,8 @@ use Rattle.lemmas.specs.Bools.{never, and-left}
 use Rattle.paper.specs.Panel.Input.{Call, Choices, size, Buffers, pattern, system}
 use Rattle.paper.specs.Move.Moving.{flipBy, permAt, reachedBy}
 use Rattle.paper.specs.declared.Form.{Form}
-use Rattle.paper.specs.declared.Form.the-variants.{Sw, Wolff, Observe}
-use Rattle.paper.specs.Panel.Takes.{moves, takesPerms, entry, entries}
+use Rattle.paper.specs.declared.Form.the-variants.{Sw, Wolff, Observe, Grow}
+use Rattle.paper.specs.Panel.Takes.{growsBy, moves, takesPerms, entry, entries}
 use Rattle.paper.specs.Refusal.Rule.{Kept}
 use Rattle.paper.specs.Refusal.Rules.{Permutes, rules}
 use Rattle.paper.specs.Refusal.Kept.{Valid, valid-of}
@@ -27,11 +27,20 @@ pub form-moves : (f : Form) (c : Call) (l : List ℕ) (i : ℕ) → reachedBy f 
 form-moves Sw c l i e = refl
 form-moves Wolff c l i e = refl
 form-moves Observe c l i e = e
+form-moves Grow c l i e = refl
 
 pub entry-lt : (f : Form) (n r : ℕ) → moves f ≡ true → r < n → entry f r < entries f n
 entry-lt Sw n r e h = h
 entry-lt Wolff n r e h = omega arith
 entry-lt Observe n r e h = never e
+entry-lt Grow n r e h = omega arith
+
+-- grow has one entry, whatever a list of members says of a site
+grown-entry : (f : Form) (n r : ℕ) → growsBy f ≡ true → entry f r < entries f n
+grown-entry Sw n r g = never g
+grown-entry Wolff n r g = never g
+grown-entry Observe n r g = never g
+grown-entry Grow n r g = omega arith
 
 module _ {c : Call} {p : Choices} {b : Buffers} (valid : Valid c p b) where
   pub spin-of : (i : ℕ) → i < c .lattice .n → Spinning (size c) (pattern c (b .spins) i)
@@ -39,6 +48,9 @@ module _ {c : Call} {p : Choices} {b : Buffers} (valid : Valid c p b) where
 
   pub perms-of : takesPerms c ≡ true → (r : ℕ) → r < c .lattice .n → Permutes (size c) (permOf c p r)
   perms-of e r h = valid .fit .chosen .perms e (entry (c .form) r) (entry-lt (c .form) (c .lattice .n) r (and-left (moves (c .form)) _ e) h)
+
+  pub perms-grown : growsBy (c .form) ≡ true → takesPerms c ≡ true → (r : ℕ) → Permutes (size c) (permOf c p r)
+  perms-grown g e r = valid .fit .chosen .perms e (entry (c .form) r) (grown-entry (c .form) (c .lattice .n) r g)
 
 pub rows :
     (c : Call) (p : Choices) (b : Buffers)

@@ -1,4 +1,5 @@
--- Laws of the definitions: patterns, choices and tests, then moves and their answers, then sweeps, then frames. Each file uses those above it.
+-- Laws of the definitions: forms, patterns, choices and tests, then moves and their answers, then sweeps, then frames. Each file uses those above it.
+pub mod Forms
 pub mod Choices
 pub mod Patterns
 pub mod Partners
@@ -19,6 +20,7 @@ pub mod Matched
 pub mod Untaken
 pub mod UntakenRules
 pub mod UntakenAnswers
+pub mod GrowsAsWolff
 pub mod SweepKept
 pub mod SweepVerdicts
 pub mod SweepTasks

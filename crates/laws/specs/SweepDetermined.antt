@@ -15,8 +15,9 @@ use Rattle.lemmas.specs.Places.{Placed, Unplaced, place}
 use Rattle.paper.specs.declared.SweepAnswer.{SweepAnswer}
 use Rattle.paper.specs.declared.SweepAnswer.the-variants.{Fault, Swept}
 use Rattle.paper.specs.Panel.Input.{Buffers, spin, pattern, system}
-use Rattle.paper.specs.Panel.Takes.{takesGreys}
+use Rattle.paper.specs.Panel.Takes.{growsBy, labelsBy, takesGreyLabels}
 use Rattle.paper.specs.Refusal.Rule.{broken-unique, broken-not-kept}
+use Rattle.paper.specs.Refusal.Rules.{When}
 use Rattle.paper.specs.Answer.Task.{Sweep, tasks, masked, part, taskCall, taskChoices, areas}
 use Rattle.paper.specs.Answer.Sweep.{common, sweepRules, Sweeps, SweepAnswers}
 use Rattle.laws.specs.SweepKept.{SweepValid, sweep-valid-of}
@@ -127,40 +128,47 @@ module _ (w : Sweep) (b y z : Buffers) (i₁ m₁ i₂ m₂ : ℕ) (p : Sweeps w
       cell : (t i : ℕ) → i < w .lattice .n → spin (w .lattice .n) (y .spins) t i ≡ spin (w .lattice .n) (z .spins) t i
       cell t i h = at t i h (locate w (tasks w) t)
 
-  -- a buffer whose tasks' parts have m elements
+  -- a buffer whose tasks' parts have m elements, and that is kept whole where it is not written
   part-same :
-      (m : ℕ) (f : Buffers → List ℕ)
+      (t : Bool) (m : ℕ) (f : Buffers → List ℕ)
       → 0 < m
-      → length (f b) ≡ tasks w * m
+      → When t (length (f b) ≡ tasks w * m)
       → length (f y) ≡ length (f b)
       → length (f z) ≡ length (f b)
       → ((k : ℕ) → k < tasks w → part k m (f y) ≡ part k m (f z))
+      → (t ≡ false → f y ≡ f b)
+      → (t ≡ false → f z ≡ f b)
       → f y ≡ f z
-  part-same m f some long ly lz same = parts-equal (tasks w) m (f y) (f z) some (ly ∙ long) (lz ∙ sym ly) same
+  part-same true m f some long ly lz same ky kz = parts-equal (tasks w) m (f y) (f z) some (ly ∙ long refl) (lz ∙ sym ly) same
+  part-same false m f some long ly lz same ky kz = ky refl ∙ sym (kz refl)
 
   labels-same : y .labels ≡ z .labels
   labels-same =
-      part-same (w .lattice .n) (λ v. v .labels) some (valid .exact .labels) (p .lengths .labels) (q .lengths .labels)
-      (areas-same (λ v. v .labels) (λ v xs xs′ k. refl))
+      part-same (labelsBy (w .form)) (w .lattice .n) (λ v. v .labels) some (valid .exact .labels) (p .lengths .labels) (q .lengths .labels)
+      (areas-same (λ v. v .labels) (λ v xs xs′ k. refl)) (p .kept .labels) (q .kept .labels)
 
-  grey-same : (t : Bool) → takesGreys (common w) ≡ t → y .greyLabels ≡ z .greyLabels
-  grey-same true e =
-      part-same (w .lattice .n) (λ v. v .greyLabels) some (valid .exact .grey-labels e) (p .lengths .grey-labels) (q .lengths .grey-labels)
-      (areas-same (λ v. v .greyLabels) (λ v xs xs′ k. refl))
-  grey-same false e = p .grey-kept e ∙ sym (q .grey-kept e)
+  grey-same : y .greyLabels ≡ z .greyLabels
+  grey-same =
+      part-same (takesGreyLabels (common w)) (w .lattice .n) (λ v. v .greyLabels) some (valid .exact .grey-labels) (p .lengths .grey-labels)
+      (q .lengths .grey-labels) (areas-same (λ v. v .greyLabels) (λ v xs xs′ k. refl)) (p .kept .grey-labels) (q .kept .grey-labels)
 
   counts-same : y .counts ≡ z .counts
   counts-same =
-      part-same (w .lattice .n + 1) (λ v. v .counts) (omega arith) (valid .exact .counts) (p .lengths .counts) (q .lengths .counts)
-      (areas-same (λ v. v .counts) (λ v xs xs′ k. refl))
+      part-same (labelsBy (w .form)) (w .lattice .n + 1) (λ v. v .counts) (omega arith) (valid .exact .counts) (p .lengths .counts) (q .lengths .counts)
+      (areas-same (λ v. v .counts) (λ v xs xs′ k. refl)) (p .kept .counts) (q .kept .counts)
 
   sizes-same : y .sizes ≡ z .sizes
   sizes-same =
-      part-same 4 (λ v. v .sizes) (omega arith) (valid .exact .sizes) (p .lengths .sizes) (q .lengths .sizes)
-      (areas-same (λ v. v .sizes) (λ v xs xs′ k. refl))
+      part-same (labelsBy (w .form)) 4 (λ v. v .sizes) (omega arith) (valid .exact .sizes) (p .lengths .sizes) (q .lengths .sizes)
+      (areas-same (λ v. v .sizes) (λ v xs xs′ k. refl)) (p .kept .sizes) (q .kept .sizes)
+
+  members-same : y .members ≡ z .members
+  members-same =
+      part-same (growsBy (w .form)) (w .lattice .n) (λ v. v .members) some (valid .exact .members) (p .lengths .members) (q .lengths .members)
+      (areas-same (λ v. v .members) (λ v xs xs′ k. refl)) (p .kept .members) (q .kept .members)
 
   buffers-same : y ≡ z
-  buffers-same = buffers-equal y z spins-same labels-same (grey-same (takesGreys (common w)) refl) counts-same sizes-same
+  buffers-same = buffers-equal y z spins-same labels-same grey-same counts-same sizes-same members-same
 
 pub record SameSweep (a₁ : SweepAnswer) (b₁ : Buffers) (a₂ : SweepAnswer) (b₂ : Buffers) : Type 0 where
   pub answer : a₁ ≡ a₂

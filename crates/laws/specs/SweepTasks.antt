@@ -63,10 +63,11 @@ module _ (w : Sweep) (b : Buffers) (v : Kept (sweepRules w b)) (k : ℕ) (below 
     cuts = λ t. part-length (tasks w) (w .lattice .n * w .lattice .d) k (w .cuts) below (e .cuts t);
     choices = λ t. part-length (tasks w) (choiceBytes (w .mode) (w .form) (w .lattice .n) (w .members)) k (w .choices) below (e .choices t);
     greys = λ t. part-length (tasks w) (entries (w .form) (w .lattice .n)) k (w .greys) below (e .greys t);
-    labels = part-length (tasks w) (w .lattice .n) k (b .labels) below (e .labels);
+    labels = λ t. part-length (tasks w) (w .lattice .n) k (b .labels) below (e .labels t);
     grey-labels = λ t. part-length (tasks w) (w .lattice .n) k (b .greyLabels) below (e .grey-labels t);
-    counts = part-length (tasks w) (w .lattice .n + 1) k (b .counts) below (e .counts);
-    sizes = part-length (tasks w) 4 k (b .sizes) below (e .sizes);
+    counts = λ t. part-length (tasks w) (w .lattice .n + 1) k (b .counts) below (e .counts t);
+    sizes = λ t. part-length (tasks w) 4 k (b .sizes) below (e .sizes t);
+    members = λ t. part-length (tasks w) (w .lattice .n) k (b .members) below (e .members t);
   }
 
   pub task-valid : masked w k ≡ false → Kept (rules (taskCall w k) (taskChoices w k) (areas w b (b .spins) k))

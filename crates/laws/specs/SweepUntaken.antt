@@ -120,6 +120,7 @@ module _ {w v : Sweep} (same : SameSwept w v) where
             grey-labels = h .grey-labels;
             counts = h .counts;
             sizes = h .sizes;
+            members = h .members;
           }),
           (λ h. record {
             spins = h .spins;
@@ -138,6 +139,7 @@ module _ {w v : Sweep} (same : SameSwept w v) where
             grey-labels = h .grey-labels;
             counts = h .counts;
             sizes = h .sizes;
+            members = h .members;
           }),
         )
 
@@ -207,7 +209,13 @@ module _ {w v : Sweep} (same : SameSwept w v) where
     each = λ k h e. done-there b b′ k h e (q .each k h e);
     skipped = q .skipped;
     others = q .others;
-    grey-kept = q .grey-kept;
+    kept = record {
+      labels = q .kept .labels;
+      grey-labels = q .kept .grey-labels;
+      counts = q .kept .counts;
+      sizes = q .kept .sizes;
+      members = q .kept .members;
+    };
   }
 
   alike : (b : Buffers) (r : SweepAnswer) (b′ : Buffers) → SweepAnswers w b r b′ → SweepAnswers v b r b′

@@ -8,7 +8,7 @@ use lib.Dec.{ltb}
 use lib.Ieee.{nan}
 use Rattle.lemmas.specs.Bools.{and-left, and-right}
 use Rattle.paper.specs.Panel.Input.{Buffers}
-use Rattle.paper.specs.Panel.Takes.{takesCuts, takesChoices, takesGreys, takesReference, takesSeed, entries, choiceBytes}
+use Rattle.paper.specs.Panel.Takes.{growsBy, labelsBy, takesCuts, takesChoices, takesGreys, takesGreyLabels, takesReference, takesSeed, entries, choiceBytes}
 use Rattle.paper.specs.Refusal.Rule.{Rule, Kept, Broken}
 use Rattle.paper.specs.Refusal.Rules.{choiceRules}
 use Rattle.paper.specs.Refusal.Verdict.{Verdict}
@@ -27,7 +27,7 @@ sweepRanged w =
 abbrev pub sweepExact : (w : Sweep) (b : Buffers) → Decided (SweepExact w b)
 sweepExact w b =
     iff
-    (λ (x1, (x2, (x3, (x4, (x5, (x6, (x7, (x8, (x9, (x10, (x11, (x12, (x13, (x14, (x15, x16))))))))))))))). record {
+    (λ (x1, (x2, (x3, (x4, (x5, (x6, (x7, (x8, (x9, (x10, (x11, (x12, (x13, (x14, (x15, (x16, x17)))))))))))))))). record {
       spins = x1;
       fwd = x2;
       bwd = x3;
@@ -44,6 +44,7 @@ sweepExact w b =
       grey-labels = x14;
       counts = x15;
       sizes = x16;
+      members = x17;
     })
     (λ r. (
       r .spins,
@@ -59,7 +60,7 @@ sweepExact w b =
                 r .couplings,
                 (
                   r .temperatures,
-                  (r .cuts, (r .choices, (r .greys, (r .references, (r .seeds, (r .labels, (r .grey-labels, (r .counts, r .sizes)))))))),
+                  (r .cuts, (r .choices, (r .greys, (r .references, (r .seeds, (r .labels, (r .grey-labels, (r .counts, (r .sizes, r .members))))))))),
                 ),
               ),
             ),
@@ -79,10 +80,11 @@ sweepExact w b =
     (both (when (takesGreys (common w)) (eq (length (w .greys)) (tasks w * entries (w .form) (w .lattice .n))))
     (both (when (takesReference (common w)) (eq (length (w .references)) (tasks w)))
     (both (when (takesSeed (common w)) (eq (length (w .seeds)) (tasks w)))
-    (both (eq (length (b .labels)) (tasks w * w .lattice .n))
-    (both (when (takesGreys (common w)) (eq (length (b .greyLabels)) (tasks w * w .lattice .n)))
-    (both (eq (length (b .counts)) (tasks w * (w .lattice .n + 1)))
-    (eq (length (b .sizes)) (tasks w * 4)))))))))))))))))
+    (both (when (labelsBy (w .form)) (eq (length (b .labels)) (tasks w * w .lattice .n)))
+    (both (when (takesGreyLabels (common w)) (eq (length (b .greyLabels)) (tasks w * w .lattice .n)))
+    (both (when (labelsBy (w .form)) (eq (length (b .counts)) (tasks w * (w .lattice .n + 1))))
+    (both (when (labelsBy (w .form)) (eq (length (b .sizes)) (tasks w * 4)))
+    (when (growsBy (w .form)) (eq (length (b .members)) (tasks w * w .lattice .n)))))))))))))))))))
 
 -- unmasked tasks in ascending order
 abbrev pub inTurn : (t : Bool) (rs : List Rule) → DecidedAll rs → DecidedAll (cond t [] rs)

@@ -1,6 +1,6 @@
--- Labels, counts, sizes and moved spins are each determined.
-use Prim.Native.Nat.{ℕ, _+_, _/_, _%_, _≤_, _<_}
-use mathlib.Core.Path.{_≡_, sym, _∙_, ap}
+-- Labels, members, counts, sizes and moved spins are each determined.
+use Prim.Native.Nat.{ℕ, zero, suc, _+_, _/_, _%_, _≤_, _<_}
+use mathlib.Core.Path.{_≡_, refl, sym, _∙_, ap}
 use mathlib.Core.Logic.{_⊎_, inl, inr, _↔_}
 use mathlib.Core.Bool.{Bool, true, false, _&&_}
 use mathlib.Core.List.{List}
@@ -18,6 +18,7 @@ use Rattle.lemmas.specs.Places.{Placed, Unplaced, place}
 use Rattle.paper.specs.Component.Links.{Linked.stay, trans, back, Linked.along, Within, bind}
 use Rattle.paper.specs.Panel.Input.{Graph, Call, Choices, Pattern, spin, pattern, size, system}
 use Rattle.paper.specs.Component.Labels.{Joined, Labels, Bond}
+use Rattle.paper.specs.Component.Members.{Members}
 use Rattle.paper.specs.Component.Sizes.{labelOf, counted, sizeOf, atLeast, Counted, Rank, Largest}
 use Rattle.paper.specs.Move.Moving.{Moves}
 
@@ -43,6 +44,26 @@ module _ (t : Graph) (holding : ℕ → ℕ → Bool) where
 
   pub label-lt : (l : List ℕ) → Labels t holding l → (i : ℕ) → i < t .n → getD l i 0 < t .n
   label-lt l h i il = lt-of-le-of-lt (h .least i i il il stay) il
+
+-- ---- members
+-- two bytes that are 1 together
+pub one-byte : (x y : ℕ) → x ≤ 1 → y ≤ 1 → (x ≡ 1 → y ≡ 1) → (y ≡ 1 → x ≡ 1) → x ≡ y
+one-byte zero zero a b f g = refl
+one-byte zero (suc zero) a b f g = g refl
+one-byte zero (suc (suc y)) a b f g = absurd (omega arith)
+one-byte (suc zero) zero a b f g = sym (f refl)
+one-byte (suc zero) (suc zero) a b f g = refl
+one-byte (suc zero) (suc (suc y)) a b f g = absurd (omega arith)
+one-byte (suc (suc x)) y a b f g = absurd (omega arith)
+
+pub members-unique : (t : Graph) (holding : ℕ → ℕ → Bool) (seed : ℕ) (l m : List ℕ) → Members t holding seed l → Members t holding seed m → l ≡ m
+members-unique t holding seed l m a b = ext-getD 0 l m (a .long ∙ sym (b .long)) (λ i h. at i (rw (a .long) at h))
+  where
+    at : (i : ℕ) → i < t .n → getD l i 0 ≡ getD m i 0
+    at i h =
+        one-byte (getD l i 0) (getD m i 0) (a .byte i h) (b .byte i h)
+        (λ e. b .marked i h (a .joined i h e))
+        (λ e. a .marked i h (b .joined i h e))
 
 -- ---- counts and sizes
 pub counts-unique : {mark : ℕ → Bool} (l c₁ c₂ : List ℕ) → Counted mark l c₁ → Counted mark l c₂ → c₁ ≡ c₂
@@ -134,8 +155,8 @@ moves-unique c p xs l g ys zs pos-n a b =
     (λ i k h q. a .group i k h q ∙ sym (b .group i k h q))
     (λ i t h q. a .others i t h q ∙ sym (b .others i t h q))
 
--- the labels depend on which bonds hold alone
-abbrev HoldAlike : Graph → (ℕ → ℕ → Bool) → (ℕ → ℕ → Bool) → Type 0
+-- labels and members depend on which bonds hold alone
+abbrev pub HoldAlike : Graph → (ℕ → ℕ → Bool) → (ℕ → ℕ → Bool) → Type 0
 HoldAlike t g h = (i e : ℕ) → i < t .n → e < t .d → g i e ≡ h i e
 
 carry : (t : Graph) (g h : ℕ → ℕ → Bool) → HoldAlike t g h → Within (Bond t g) (Bond t h)
@@ -149,4 +170,16 @@ labels-ext t h₁ h₂ l same w = record {
   long = w .long;
   joined = λ i hi. bind (carry t h₁ h₂ same) (w .joined i hi);
   least = λ i j hi hj q. w .least i j hi hj (bind (carry t h₂ h₁ (λ i e hi he. sym (same i e hi he))) q);
+}
+
+pub members-ext :
+    (t : Graph) (h₁ h₂ : ℕ → ℕ → Bool) (seed : ℕ) (l : List ℕ)
+    → HoldAlike t h₁ h₂
+    → Members t h₁ seed l
+    → Members t h₂ seed l
+members-ext t h₁ h₂ seed l same w = record {
+  long = w .long;
+  byte = w .byte;
+  joined = λ i hi e. bind (carry t h₁ h₂ same) (w .joined i hi e);
+  marked = λ i hi q. w .marked i hi (bind (carry t h₂ h₁ (λ i e hi he. sym (same i e hi he))) q);
 }

@@ -10,9 +10,9 @@ use Rattle.lemmas.specs.Bools.{and-right}
 use Rattle.paper.specs.declared.Mode.{Mode}
 use Rattle.paper.specs.declared.Mode.the-variants.{Houd, Pair, Perm, Gperm, Jorg, Cmr}
 use Rattle.paper.specs.declared.Form.{Form}
-use Rattle.paper.specs.declared.Form.the-variants.{Sw, Wolff, Observe}
+use Rattle.paper.specs.declared.Form.the-variants.{Sw, Wolff, Observe, Grow}
 use Rattle.paper.specs.Panel.Input.{Call, Choices, Buffers, Pattern, pattern, spin, size, ahead}
-use Rattle.paper.specs.Panel.Takes.{isPerm, isGperm, isCmr, isWolff, drawsBonds, flipsBy, takesCuts, takesGreys}
+use Rattle.paper.specs.Panel.Takes.{isPerm, isGperm, isCmr, oneCluster, drawsBonds, flipsBy, takesCuts, takesGreys}
 use Rattle.paper.specs.Site.Acting.{differs, pairDiffers, gauge, testBy, acts}
 use Rattle.paper.specs.Site.Bonds.{pairTerm, strength, couplingAt, kindAt, bothAct, holdsBy, holds, holdsGrey}
 use Rattle.paper.specs.Component.Sizes.{labelOf}
@@ -64,7 +64,7 @@ is-over {c} {a} h = λ i. record {
 }
 
 abbrev pub onto : Buffers → Buffers → Buffers
-onto b d = record { spins = b .spins; labels = d .labels; greyLabels = d .greyLabels; counts = d .counts; sizes = d .sizes }
+onto b d = record { spins = b .spins; labels = d .labels; greyLabels = d .greyLabels; counts = d .counts; sizes = d .sizes; members = d .members }
 
 -- ---- by cases of the mode or the form
 none-told : (m : Mode) (u w : Pattern) → testBy m 0 u ≡ testBy m 0 w
@@ -80,15 +80,17 @@ told : (m : Mode) (s : ℕ) (u w : Pattern) → Agree s u w → testBy m s u ≡
 told m zero u w e = none-told m u w
 told m (suc s) u w e = test-ext m (suc s) u w (omega arith) e
 
-seed-in : (f : Form) (m : Mode) (x y : ℕ) (l : List ℕ) (i : ℕ) → (isWolff f ≡ true → y ≡ x) → reachedBy f m y l i ≡ reachedBy f m x l i
+seed-in : (f : Form) (m : Mode) (x y : ℕ) (l : List ℕ) (i : ℕ) → (oneCluster f ≡ true → y ≡ x) → reachedBy f m y l i ≡ reachedBy f m x l i
 seed-in Sw m x y l i h = refl
 seed-in Wolff m x y l i h = rw (h refl)
 seed-in Observe m x y l i h = refl
+seed-in Grow m x y l i h = refl
 
 flip-in : (f : Form) (m : Mode) (x y : List ℕ) (r : ℕ) → isPerm m ≡ false → (flipsBy m f ≡ true → y ≡ x) → flipBy f y r ≡ flipBy f x r
 flip-in Sw m x y r e h = ap (λ (z : List ℕ). flipBy Sw z r) (h (rw e))
 flip-in Wolff m x y r e h = refl
 flip-in Observe m x y r e h = refl
+flip-in Grow m x y r e h = refl
 
 module _ (c a : Call) (p o : Choices) where
   choice-in :

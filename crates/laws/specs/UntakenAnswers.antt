@@ -1,8 +1,9 @@
 -- What a mode and form do not take does not matter: two moves that agree on all that is taken have the same answers.
 use Prim.Native.Nat.{ℕ, _<_}
 use mathlib.Core.Path.{_≡_, refl, sym, _∙_, ap, subst}
-use mathlib.Core.Logic.{_↔_}
+use mathlib.Core.Logic.{_⊎_, inl, inr, _↔_}
 use mathlib.Core.Bool.{Bool, true, false, cond}
+use mathlib.Core.List.{List}
 use lib.ListN.{length}
 use Rattle.lemmas.specs.Bools.{never, and-right}
 use Rattle.paper.specs.declared.Mode.{Mode}
@@ -10,22 +11,25 @@ use Rattle.paper.specs.declared.Mode.the-variants.{Houd, Pair, Perm, Gperm, Jor
 use Rattle.paper.specs.declared.Answer.{Answer}
 use Rattle.paper.specs.declared.Answer.the-variants.{Refused, Idle, Moved}
 use Rattle.paper.specs.Panel.Input.{graph, Call, Choices, Buffers, size}
-use Rattle.paper.specs.Panel.Takes.{isPerm, isCmr, moves, drawsBonds, takesGreys}
+use Rattle.paper.specs.Panel.Takes.{isPerm, isCmr, growsBy, labelsBy, moves, drawsBonds, takesGreys, takesGreyLabels}
 use Rattle.paper.specs.Site.Acting.{acts}
 use Rattle.paper.specs.Site.Bonds.{holds, holdsGrey}
+use Rattle.paper.specs.Component.Labels.{Labels}
+use Rattle.paper.specs.Component.Members.{Members}
 use Rattle.paper.specs.Component.Sizes.{labelOf}
 use Rattle.paper.specs.Move.Moving.{reached, Moves}
 use Rattle.paper.specs.Refusal.Rule.{Kept}
 use Rattle.paper.specs.Refusal.Rules.{Permutes, rules}
 use Rattle.paper.specs.Refusal.Kept.{Valid, valid-of}
-use Rattle.paper.specs.Answer.Move.{Seen, Answers}
+use Rattle.paper.specs.Answer.Move.{SeenAll, SeenOne, Seen, memberBonds, Turns, Answers}
 use Rattle.paper.specs.Answer.Same.{SameCall, SameTaken, SameLent, written, left}
-use Rattle.laws.specs.Unique.{label-lt, labels-ext, counts-ext, sizes-ext}
+use Rattle.laws.specs.Forms.{by-form, not-grows, grows-one, grows-moves}
+use Rattle.laws.specs.Unique.{HoldAlike, label-lt, labels-ext, members-ext, counts-ext, sizes-ext}
 use Rattle.laws.specs.Determined.{buffers-equal}
 use Rattle.laws.specs.Matched.{matched-kept, matched-broken}
 use Rattle.laws.specs.Untaken.{over, is-over, onto, acts-same, holds-same, grey-same, final-same, pattern-same}
-use Rattle.laws.specs.UntakenRules.{some-there, rules-same}
-use Rattle.laws.specs.Entries.{permOf, form-moves, perms-of}
+use Rattle.laws.specs.UntakenRules.{seed-acts, some-there, rules-same}
+use Rattle.laws.specs.Entries.{permOf, form-moves, perms-of, perms-grown}
 
 cmr-draws : (m : Mode) → isCmr m ≡ true → drawsBonds m ≡ true
 cmr-draws Houd e = never e
@@ -39,54 +43,112 @@ module _ {c a : Call} {p o : Choices} (same : SameTaken c p a o) {b d : Buffers}
   kept-there : Kept (rules c p b) → Kept (rules (over c a) o (onto b d))
   kept-there = matched-kept (rules c p b) (rules (over c a) o (onto b d)) (rules-same same lent)
 
-  module _ (v : Valid c p b) (b′ : Buffers) (w : Seen c b b′) where
-    seen-there : Seen (over c a) (onto b d) (written c (onto b d) b′)
-    seen-there = record {
-      labels = labels-ext (graph c) (holds c (b .spins)) (holds (over c a) (b .spins)) (b′ .labels) blue (w .labels);
-      grey-labels = λ t. rw t (labels-ext (graph c) (holdsGrey c (b .spins)) (holdsGrey (over c a) (b .spins)) (b′ .greyLabels) (grey t) (w .grey-labels t));
-      grey-kept = λ t. rw t refl;
-      counts = counts-ext (b′ .labels) marks (w .counts);
-      sizes = sizes-ext (b′ .labels) marks (w .sizes);
+  module _ (v : Valid c p b) (b′ : Buffers) where
+    -- the same bonds hold
+    blue : HoldAlike (graph c) (holds c (b .spins)) (holds (over c a) (b .spins))
+    blue i e hi he = sym (holds-same (same .call) (b .spins) (v .sound .ranged .cmr-two) i e)
+
+    grey : isCmr (c .mode) ≡ true → HoldAlike (graph c) (holdsGrey c (b .spins)) (holdsGrey (over c a) (b .spins))
+    grey q i e hi he = sym (grey-same (same .call) (b .spins) (v .sound .ranged .cmr-two) (cmr-draws (c .mode) q) q i e)
+
+    bonds : HoldAlike (graph c) (memberBonds c (b .spins)) (memberBonds (over c a) (b .spins))
+    bonds i e hi he = go (isCmr (c .mode)) refl
+      where
+        go : (t : Bool) → isCmr (c .mode) ≡ t → memberBonds c (b .spins) i e ≡ memberBonds (over c a) (b .spins) i e
+        go true q = rw q (grey q i e hi he)
+        go false q = rw q (blue i e hi he)
+
+    all-there : labelsBy (c .form) ≡ true → SeenAll c b b′ → SeenAll (over c a) (onto b d) (written c (onto b d) b′)
+    all-there l w = record {
+      labels = rw l (labels-ext (graph c) (holds c (b .spins)) (holds (over c a) (b .spins)) (b′ .labels) blue (w .labels));
+      grey-labels = λ t.
+          rw (l, t)
+          (labels-ext (graph c) (holdsGrey c (b .spins)) (holdsGrey (over c a) (b .spins)) (b′ .greyLabels) (grey (and-right (moves (c .form)) _ t))
+          (w .grey-labels t));
+      grey-kept = λ t. rw (l, t) refl;
+      counts = rw l (counts-ext (b′ .labels) marks (w .counts));
+      sizes = rw l (sizes-ext (b′ .labels) marks (w .sizes));
+      members-kept = rw (not-grows (c .form) l) refl;
     }
       where
         marks : (i : ℕ) → i < length (b′ .labels) → acts c (b .spins) i ≡ acts (over c a) (b .spins) i
         marks i _ = sym (acts-same (same .call) (b .spins) i)
 
-        blue : (i e : ℕ) → i < c .lattice .n → e < c .lattice .d → holds c (b .spins) i e ≡ holds (over c a) (b .spins) i e
-        blue i e hi he = sym (holds-same (same .call) (b .spins) (v .sound .ranged .cmr-two) i e)
+    -- the members of the same seed
+    members-there :
+        (g h : ℕ → ℕ → Bool) (l : List ℕ)
+        → growsBy (c .form) ≡ true
+        → HoldAlike (graph c) g h
+        → Members (graph c) g (c .seed) l
+        → Members (graph c) h (a .seed) l
+    members-there g h l t alike w =
+        subst (λ (s : ℕ). Members (graph c) h s l) (sym (same .call .seed (grows-one (c .form) t))) (members-ext (graph c) g h (c .seed) l alike w)
 
-        grey :
-            takesGreys c ≡ true
-            → (i e : ℕ)
-            → i < c .lattice .n
-            → e < c .lattice .d
-            → holdsGrey c (b .spins) i e ≡ holdsGrey (over c a) (b .spins) i e
-        grey t i e hi he =
-            let q = and-right (moves (c .form)) (isCmr (c .mode)) t in
-            sym (grey-same (same .call) (b .spins) (v .sound .ranged .cmr-two) (cmr-draws (c .mode) q) q i e)
+    one-there : growsBy (c .form) ≡ true → SeenOne c b b′ → SeenOne (over c a) (onto b d) (written c (onto b d) b′)
+    one-there g w = record {
+      members = λ t. rw g (members-there (memberBonds c (b .spins)) (memberBonds (over c a) (b .spins)) (b′ .members) g bonds (w .members (sym seed ∙ t)));
+      none = λ t. rw g (w .none (sym seed ∙ t));
+      labels-kept = rw g refl;
+      grey-kept = rw g refl;
+      counts-kept = rw g refl;
+      sizes-kept = rw g refl;
+    }
+      where
+        seed : acts (over c a) (b .spins) (a .seed) ≡ acts c (b .spins) (c .seed)
+        seed = seed-acts same (b .spins) (grows-one (c .form) g)
 
-    perms-at :
+    seen-there : Seen c b b′ → Seen (over c a) (onto b d) (written c (onto b d) b′)
+    seen-there w = record { all = λ t. all-there t (w .all t); one = λ t. one-there t (w .one t) }
+
+    -- the choices are right wherever the list l says that a site is reached
+    abbrev PermsAt : List ℕ → Type 0
+    PermsAt l =
         (i : ℕ)
         → i < c .lattice .n
-        → reached c (b .spins) (b′ .labels) i ≡ true
+        → reached c (b .spins) l i ≡ true
         → isPerm (c .mode) ≡ true
-        → Permutes (size c) (permOf c p (labelOf (b′ .labels) i))
-    unfolding reached
-    perms-at i hi e q =
-        perms-of v (rw (form-moves (c .form) c (b′ .labels) i (and-right (acts c (b .spins) i) _ e), q)) (labelOf (b′ .labels) i)
-        (label-lt (graph c) (holds c (b .spins)) (b′ .labels) (w .labels) i hi)
+        → Permutes (size c) (permOf c p (labelOf l i))
 
-    moved-there :
-        Moves c p (b .spins) (b′ .labels) (b′ .greyLabels) (b′ .spins)
-        → Moves (over c a) o (b .spins) (b′ .labels) (cond (takesGreys c) (b′ .greyLabels) (d .greyLabels)) (b′ .spins)
-    moved-there m = record {
+    perms-at : Labels (graph c) (holds c (b .spins)) (b′ .labels) → PermsAt (b′ .labels)
+    unfolding reached
+    perms-at w i hi e q =
+        perms-of v (rw (form-moves (c .form) c (b′ .labels) i (and-right (acts c (b .spins) i) _ e), q)) (labelOf (b′ .labels) i)
+        (label-lt (graph c) (holds c (b .spins)) (b′ .labels) w i hi)
+
+    moves-there :
+        (l g g′ : List ℕ)
+        → PermsAt l
+        → (takesGreys c ≡ true → g′ ≡ g)
+        → Moves c p (b .spins) l g (b′ .spins)
+        → Moves (over c a) o (b .spins) l g′ (b′ .spins)
+    moves-there l g g′ perms greys m = record {
       long = m .long;
       group = λ i k hi hk.
           pattern-same (same .call) (b′ .spins) i k hk
-          ∙ (m .group i k hi hk
-          ∙ sym (final-same (same .call) (b .spins) (same .choices) (b′ .labels) (b′ .greyLabels) _ i k (λ t. rw t refl) hk (perms-at i hi)));
+          ∙ (m .group i k hi hk ∙ sym (final-same (same .call) (b .spins) (same .choices) l g g′ i k greys hk (perms i hi)));
       others = λ i t hi out. m .others i t hi (λ k hk e. out k hk (e ∙ sym (same .call .systems k hk)));
     }
+
+    moved-there :
+        labelsBy (c .form) ≡ true
+        → Labels (graph c) (holds c (b .spins)) (b′ .labels)
+        → Moves c p (b .spins) (b′ .labels) (b′ .greyLabels) (b′ .spins)
+        → Moves (over c a) o (b .spins) (written c (onto b d) b′ .labels) (written c (onto b d) b′ .greyLabels) (b′ .spins)
+    moved-there l w m =
+        rw l
+        (moves-there (b′ .labels) (b′ .greyLabels) (cond (takesGreys c) (b′ .greyLabels) (d .greyLabels)) (perms-at w) (λ t. rw t refl) m)
+
+    turned-there :
+        growsBy (c .form) ≡ true
+        → Turns c p (b .spins) (b′ .members) (b′ .spins)
+        → Turns (over c a) o (b .spins) (written c (onto b d) b′ .members) (b′ .spins)
+    turned-there g w = rw g (record {
+      blue = w .blue;
+      joined = members-there (holds c (b .spins)) (holds (over c a) (b .spins)) (w .blue) g blue (w .joined);
+      moved =
+          moves-there (w .blue) (b′ .members) (b′ .members) (λ i hi e q. perms-grown v g (rw (grows-moves (c .form) g, q)) (labelOf (w .blue) i))
+          (λ _. refl) (w .moved);
+    })
 
   there : (r : Answer) (b′ : Buffers) → Answers c p b r b′ → Answers (over c a) o (onto b d) r (left c r (onto b d) b′)
   there (Refused r) b′ w = record {
@@ -102,7 +164,8 @@ module _ {c a : Call} {p o : Choices} (same : SameTaken c p a o) {b d : Buffers}
   there Moved b′ w = let v = valid-of c p b (w .valid) in record {
     valid = kept-there (w .valid);
     some = some-there same (b .spins) (w .some);
-    moved = moved-there v b′ (w .seen) (w .moved);
+    moved = λ t. moved-there v b′ t (w .seen .all t .labels) (w .moved t);
+    turned = λ t. turned-there v b′ t (w .turned t);
     seen = seen-there v b′ (w .seen);
   }
 
@@ -113,7 +176,7 @@ module _ {c a : Call} {p o : Choices} (same : SameTaken c p a o) {b d : Buffers}
       (subst (λ (z : Buffers). Answers (over c a) o z r (left c r z b′)) (sym is-onto) (there r b′ w))
     where
       is-onto : d ≡ onto b d
-      is-onto = buffers-equal d (onto b d) (lent .spins) refl refl refl refl
+      is-onto = buffers-equal d (onto b d) (lent .spins) refl refl refl refl refl
 
 -- ---- to agree is mutual
 module _ {c a : Call} (h : SameCall c a) where
@@ -151,19 +214,27 @@ taken-back h = record {
 
 -- ---- on the same buffers
 lent-itself : (c : Call) (b : Buffers) → SameLent c b b
-lent-itself c b = record { spins = refl; labels = refl; grey-labels = λ _. refl; counts = refl; sizes = refl }
+lent-itself c b = record { spins = refl; labels = λ _. refl; grey-labels = λ _. refl; counts = λ _. refl; sizes = λ _. refl; members = λ _. refl }
 
-written-itself : (c : Call) (b b′ : Buffers) → (takesGreys c ≡ false → b′ .greyLabels ≡ b .greyLabels) → written c b b′ ≡ b′
-written-itself c b b′ kept = buffers-equal (written c b b′) b′ refl refl (go (takesGreys c) refl) refl refl
+written-itself : (c : Call) (b b′ : Buffers) → Seen c b b′ → written c b b′ ≡ b′
+written-itself c b b′ w = go (by-form (c .form))
   where
-    go : (t : Bool) → takesGreys c ≡ t → cond (takesGreys c) (b′ .greyLabels) (b .greyLabels) ≡ b′ .greyLabels
-    go true e = rw e refl
-    go false e = rw e (sym (kept e))
+    greys : labelsBy (c .form) ≡ true → (t : Bool) → takesGreys c ≡ t → cond (takesGreyLabels c) (b′ .greyLabels) (b .greyLabels) ≡ b′ .greyLabels
+    greys l true e = rw (l, e) refl
+    greys l false e = rw (l, e) (sym (w .all l .grey-kept e))
+
+    go : (labelsBy (c .form) ≡ true) ⊎ (growsBy (c .form) ≡ true) → written c b b′ ≡ b′
+    go (inl l) =
+        buffers-equal (written c b b′) b′ refl (rw l refl) (greys l (takesGreys c) refl) (rw l refl) (rw l refl)
+        (rw (not-grows (c .form) l) (sym (w .all l .members-kept)))
+    go (inr g) = let k = w .one g in
+        buffers-equal (written c b b′) b′ refl (rw g (sym (k .labels-kept))) (rw g (sym (k .grey-kept))) (rw g (sym (k .counts-kept)))
+        (rw g (sym (k .sizes-kept))) (rw g refl)
 
 left-itself : (c : Call) (p : Choices) (b : Buffers) (r : Answer) (b′ : Buffers) → Answers c p b r b′ → left c r b b′ ≡ b′
 left-itself c p b (Refused r) b′ w = sym (w .kept)
-left-itself c p b Idle b′ w = written-itself c b b′ (w .seen .grey-kept)
-left-itself c p b Moved b′ w = written-itself c b b′ (w .seen .grey-kept)
+left-itself c p b Idle b′ w = written-itself c b b′ (w .seen)
+left-itself c p b Moved b′ w = written-itself c b b′ (w .seen)
 
 alike : {c a : Call} {p o : Choices} → SameTaken c p a o → (b : Buffers) (r : Answer) (b′ : Buffers) → Answers c p b r b′ → Answers a o b r b′
 alike {c} {a} {p} {o} same b r b′ w =

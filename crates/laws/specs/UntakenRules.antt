@@ -8,7 +8,7 @@ use lib.ListN.{length, getD}
 use lib.IntN.{ℤ}
 use Rattle.lemmas.specs.Bools.{and-left}
 use Rattle.paper.specs.Panel.Input.{Call, Choices, Buffers, size}
-use Rattle.paper.specs.Panel.Takes.{isWolff, entries, choiceBytes, takesCuts, takesFlips, takesPerms, takesChoices, takesGreys, takesReference, takesSeed}
+use Rattle.paper.specs.Panel.Takes.{oneCluster, entries, choiceBytes, takesCuts, takesFlips, takesPerms, takesChoices, takesGreys, takesReference, takesSeed}
 use Rattle.paper.specs.Site.Acting.{acts, SomeActs}
 use Rattle.paper.specs.Refusal.Rules.{Exact, Grouped, Permutes, SmallCouplings, Warm, Cuts, NotIdentity, Chosen, Seeded, choiceRules, rules}
 use Rattle.paper.specs.Answer.Same.{SameTaken, SameLent}
@@ -54,10 +54,10 @@ module _ {c a : Call} {p o : Choices} (same : SameTaken c p a o) where
   chosen-same : Chosen c p ↔ Chosen (over c a) o
   chosen-same =
       let perms = taken-same (takesPerms c) AllPermute perms-same in
-      let moving = taken-same (takesPerms c && isWolff (c .form)) FirstMoves (λ t. perms-same (and-left (takesPerms c) _ t)) in
+      let moving = taken-same (takesPerms c && oneCluster (c .form)) FirstMoves (λ t. perms-same (and-left (takesPerms c) _ t)) in
       let flips = taken-same (takesFlips c) AllFlips (λ t. same .choices .choices (flips-taken (c .mode) (c .form) t)) in
       let greys = taken-same (takesGreys c) AllGreys (same .choices .greys) in
-      let some = taken-same (takesGreys c && isWolff (c .form)) FirstGreys (λ t. same .choices .greys (and-left (takesGreys c) _ t)) in
+      let some = taken-same (takesGreys c && oneCluster (c .form)) FirstGreys (λ t. same .choices .greys (and-left (takesGreys c) _ t)) in
       let site = taken-same (takesReference c) InPanel (same .call .reference) in (
         (λ h. record {
           perms = perms .0 (h .perms);
@@ -85,7 +85,7 @@ module _ {c a : Call} {p o : Choices} (same : SameTaken c p a o) where
     some-back : SomeActs (over c a) xs → SomeActs c xs
     some-back q = record { site = q .site; below = q .below; does = sym (acts-same (same .call) xs (q .site)) ∙ q .does }
 
-    seed-acts : takesSeed c ≡ true → acts (over c a) xs (a .seed) ≡ acts c xs (c .seed)
+    pub seed-acts : takesSeed c ≡ true → acts (over c a) xs (a .seed) ≡ acts c xs (c .seed)
     seed-acts t = acts-same (same .call) xs (a .seed) ∙ ap (acts c xs) (same .call .seed t)
 
     seeded-same : Seeded c xs ↔ Seeded (over c a) xs
@@ -118,10 +118,11 @@ module _ {c a : Call} {p o : Choices} (same : SameTaken c p a o) where
             cuts = cuts .0 (h .cuts);
             choices = choices .0 (h .choices);
             greys = greys .0 (h .greys);
-            labels = lent .labels ∙ h .labels;
+            labels = λ t. lent .labels t ∙ h .labels t;
             grey-labels = λ t. lent .grey-labels t ∙ h .grey-labels t;
-            counts = lent .counts ∙ h .counts;
-            sizes = lent .sizes ∙ h .sizes;
+            counts = λ t. lent .counts t ∙ h .counts t;
+            sizes = λ t. lent .sizes t ∙ h .sizes t;
+            members = λ t. lent .members t ∙ h .members t;
           }),
           (λ h. record {
             spins = h .spins;
@@ -131,10 +132,11 @@ module _ {c a : Call} {p o : Choices} (same : SameTaken c p a o) where
             cuts = cuts .1 (h .cuts);
             choices = choices .1 (h .choices);
             greys = greys .1 (h .greys);
-            labels = sym (lent .labels) ∙ h .labels;
+            labels = λ t. sym (lent .labels t) ∙ h .labels t;
             grey-labels = λ t. sym (lent .grey-labels t) ∙ h .grey-labels t;
-            counts = sym (lent .counts) ∙ h .counts;
-            sizes = sym (lent .sizes) ∙ h .sizes;
+            counts = λ t. sym (lent .counts t) ∙ h .counts t;
+            sizes = λ t. sym (lent .sizes t) ∙ h .sizes t;
+            members = λ t. sym (lent .members t) ∙ h .members t;
           }),
         )
 

@@ -11,8 +11,8 @@ use Rattle.paper.specs.declared.Mode.{Mode}
 use Rattle.paper.specs.declared.Form.{Form}
 use Rattle.paper.specs.declared.Lengths.{Lengths}
 use Rattle.paper.specs.Panel.Input.{Lattice, Call, Choices, Buffers, size, member, spin}
-use Rattle.paper.specs.Panel.Takes.{isCmr, isWolff, drawsBonds, choicesBy, greysBy, entries, choiceBytes, takesCuts, takesFlips, takesPerms, takesGreys}
-use Rattle.paper.specs.Panel.Takes.{takesReference, takesSeed}
+use Rattle.paper.specs.Panel.Takes.{isCmr, oneCluster, growsBy, labelsBy, drawsBonds, choicesBy, greysBy, greyLabelsBy, entries, choiceBytes, takesCuts}
+use Rattle.paper.specs.Panel.Takes.{takesFlips, takesPerms, takesGreys, takesReference, takesSeed}
 use Rattle.paper.specs.Site.Acting.{acts, SomeActs}
 use Rattle.paper.specs.Refusal.Rule.{Kept, Broken}
 use Rattle.paper.specs.Refusal.Rules.{Sizes, Ranged, Fits, lengthsOf, AllSystems, Spins, Back, Inverse, Distinct, Grouped, SmallCouplings, Warm, isCut}
@@ -39,7 +39,7 @@ ranged n d s mode m =
 abbrev pub fits : (mode : Mode) (form : Form) (n d s m : ℕ) (l : Lengths) → Decided (Fits mode form n d s m l)
 fits mode form n d s m l =
     iff
-    (λ (a, (b, (c, (e, (f, (g, (i, (j, (k, (o, p)))))))))). record {
+    (λ (a, (b, (c, (e, (f, (g, (i, (j, (k, (o, (p, q))))))))))). record {
       spins = a;
       fwd = b;
       bwd = c;
@@ -51,6 +51,7 @@ fits mode form n d s m l =
       grey-labels = k;
       counts = o;
       sizes = p;
+      members = q;
     })
     (λ r. (
       r .spins,
@@ -58,7 +59,7 @@ fits mode form n d s m l =
         r .fwd,
         (
           r .bwd,
-          (r .couplings, (r .cuts, (r .choices, (r .greys, (r .labels, (r .grey-labels, (r .counts, r .sizes))))))),
+          (r .couplings, (r .cuts, (r .choices, (r .greys, (r .labels, (r .grey-labels, (r .counts, (r .sizes, r .members)))))))),
         ),
       ),
     ))
@@ -69,10 +70,11 @@ fits mode form n d s m l =
     (both (when (drawsBonds mode) (eq (l .cuts) (n * d)))
     (both (when (choicesBy mode form) (eq (l .choices) (choiceBytes mode form n m)))
     (both (when (greysBy mode form) (eq (l .greys) (entries form n)))
-    (both (eq (l .labels) n)
-    (both (when (greysBy mode form) (eq (l .«grey_labels») n))
-    (both (eq (l .counts) (n + 1))
-    (eq (l .sizes) 4)))))))))))
+    (both (when (labelsBy form) (eq (l .labels) n))
+    (both (when (greyLabelsBy mode form) (eq (l .«grey_labels») n))
+    (both (when (labelsBy form) (eq (l .counts) (n + 1)))
+    (both (when (labelsBy form) (eq (l .sizes) 4))
+    (when (growsBy form) (eq (l .members) n)))))))))))))
 
 -- ---- 3 to 7
 abbrev pub spins : (n s : ℕ) (xs : List ℤ) → Decided (Spins n (AllSystems s) xs)
@@ -126,10 +128,10 @@ chosen c p =
     (λ (a, (b, (d, (e, (f, g))))). record { perms = a; not-identity = b; flips = d; greys = e; grey-some = f; reference = g })
     (λ r. (r .perms, (r .not-identity, (r .flips, (r .greys, (r .grey-some, r .reference))))))
     (both (when (takesPerms c) (all (entries (c .form) (c .lattice .n)) (λ r. permutes (size c) (permRow c p r))))
-    (both (when (takesPerms c && isWolff (c .form)) (notIdentity (size c) (permRow c p 0)))
+    (both (when (takesPerms c && oneCluster (c .form)) (notIdentity (size c) (permRow c p 0)))
     (both (when (takesFlips c) (all (c .lattice .n) (λ r. le (getD (p .choices) r 0) 1)))
     (both (when (takesGreys c) (all (entries (c .form) (c .lattice .n)) (λ r. le (getD (p .greys) r 0) 3)))
-    (both (when (takesGreys c && isWolff (c .form)) (le 1 (getD (p .greys) 0 0)))
+    (both (when (takesGreys c && oneCluster (c .form)) (le 1 (getD (p .greys) 0 0)))
     (when (takesReference c) (lt (c .reference) (c .lattice .n))))))))
 
 abbrev pub someActs : (c : Call) (xs : List ℤ) → Decided (SomeActs c xs)

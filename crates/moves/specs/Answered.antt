@@ -2,7 +2,7 @@
 use Prim.Native.Nat.{ℕ, _*_, _≤_}
 use mathlib.Core.Path.{_≡_, refl, sym, _∙_}
 use mathlib.Core.Bool.{Bool, true, false, not}
-use mathlib.Core.List.{List}
+use mathlib.Core.List.{List, []}
 use native.Mathlib.Omega.{arith}
 use native.Mathlib.Nat.{mul-le-mul}
 use lib.ListN.{length, take, replicate}
@@ -17,12 +17,13 @@ use Rattle.paper.specs.declared.Mode.the-variants.{Houd, Pair, Perm, Gperm, Jor
 use Rattle.paper.specs.declared.Answer.the-variants.{Idle, Moved}
 use Rattle.paper.specs.Panel.Input.{Call, Choices, Buffers, size, graph}
 use Rattle.paper.specs.Panel.Made.{callOf, buffersOf}
-use Rattle.paper.specs.Panel.Takes.{isCmr, isPerm, moves, permsBy, greysBy, entries}
+use Rattle.paper.specs.Panel.Takes.{isCmr, isPerm, labelsBy, moves, permsBy, greysBy, entries}
 use Rattle.paper.specs.Site.Acting.{acts, SomeActs}
 use Rattle.paper.specs.Site.Bonds.{holds}
 use Rattle.paper.specs.Move.Moving.{Moves}
 use Rattle.paper.specs.Refusal.Kept.{Valid, valid-kept}
 use Rattle.paper.specs.Answer.Move.{Answers}
+use Rattle.laws.specs.Forms.{forms-apart}
 use Rattle.laws.specs.Choices.{flips-taken, perms-taken, flips-bytes, perms-bytes}
 use Rattle.laws.specs.Unique.{label-lt}
 use Rattle.column_rules.specs.Sight.{none-acts}
@@ -32,6 +33,41 @@ use Rattle.moves.specs.Steps.{LabelAsks, LabelLeaves, ChooseAsks, Choose
 use Rattle.moves.specs.Held.{grey-labels}
 use Rattle.moves.specs.Choices.{places-of, rows-of, columns-narrow}
 use Rattle.moves.specs.Finish.{no-move, observed, spins-back, final-columns}
+
+-- what a task asks. A form that labels takes no members, so these may be any
+pub record RunAsks (c : Call) (p : Choices) (xs : List ℤ) (labels greyLabels counts sizes : List ℕ) : Type 0 where
+  pub labelled : labelsBy (c .form) ≡ true
+  pub valid : Valid c p (buffersOf xs labels greyLabels counts sizes [])
+
+pub valid-with :
+    {c : Call} {p : Choices} {xs : List ℤ} {labels greyLabels counts sizes members : List ℕ} → labelsBy (c .form) ≡ true
+    → Valid c p (buffersOf xs labels greyLabels counts sizes members) → (others : List ℕ)
+    → Valid c p (buffersOf xs labels greyLabels counts sizes others)
+valid-with {c} f v others = let s = v .sound in let e = s .exact in record {
+  sound = record {
+    ranged = s .ranged;
+    exact = record {
+      spins = e .spins;
+      fwd = e .fwd;
+      bwd = e .bwd;
+      couplings = e .couplings;
+      cuts = e .cuts;
+      choices = e .choices;
+      greys = e .greys;
+      labels = e .labels;
+      grey-labels = e .grey-labels;
+      counts = e .counts;
+      sizes = e .sizes;
+      members = forms-apart (c .form) f;
+    };
+    spins = s .spins;
+    inverse = s .inverse;
+    grouped = s .grouped;
+    couplings = s .couplings;
+    warm = s .warm;
+  };
+  fit = v .fit;
+}
 
 -- in CMR every site acts
 acts-cmr : (m : Mode) (c : Call) (xs : List ℤ) → c .mode ≡ m → isCmr m ≡ true → acts c xs 0 ≡ true
@@ -49,7 +85,7 @@ area m k = take k (replicate m 0)
 
 module _
     (t : Task) (fwd bwd : List ℕ) (couplings : List ℤ) (cuts : List Float) (p : Choices) (b : Buffers)
-    (v : Valid (callOf t fwd bwd couplings cuts) p b)
+    (f : labelsBy (t .form) ≡ true) (v : Valid (callOf t fwd bwd couplings cuts) p b)
   where
     abbrev c : Call
     c = callOf t fwd bwd couplings cuts
@@ -77,9 +113,9 @@ module _
         holding-long = length-take-le (t .n * t .d) _ bonds-high;
         grey-long = length-take-le (t .n * t .d) _ bonds-high;
         tally-long = length-take-le (t .n) _ n-high;
-        labels-long = v .sound .exact .labels;
-        counts-long = v .sound .exact .counts;
-        sizes-long = v .sound .exact .sizes;
+        labels-long = v .sound .exact .labels f;
+        counts-long = v .sound .exact .counts f;
+        sizes-long = v .sound .exact .sizes f;
       };
     }
 
@@ -88,7 +124,7 @@ module _
       long = d .columns .long
 
       pub labels-kept : length l ≡ length (b .labels)
-      labels-kept = d .labelled .long ∙ sym (v .sound .exact .labels)
+      labels-kept = d .labelled .long ∙ sym (v .sound .exact .labels f)
 
       -- ---- choose and write
       pub choose-asks :
@@ -123,7 +159,7 @@ module _
           grey-long = d .grey-long;
           greys-long = v .sound .exact .greys (greying e);
           small = λ x h. v .fit .chosen .greys (greying e) x (rw (v .sound .exact .greys (greying e)) at h);
-          labels-long = v .sound .exact .grey-labels (greying e);
+          labels-long = v .sound .exact .grey-labels (rw f (greying e));
           two = tested .two e;
         };
       }
@@ -170,48 +206,62 @@ module _
 
           pub moved-answers :
               {ys : List ℤ} → not r ≡ false → moves (t .form) ≡ true → WriteLeaves t new (b .spins) ys
-              → Answers c p b Moved (buffersOf ys l greyLabels counts sizes)
+              → Answers c p b Moved (buffersOf ys l greyLabels counts sizes (b .members))
           moved-answers e moving o = record {
             valid = valid-kept c p b v;
             some = passed r e (d .some);
-            moved = moved-by moving o;
+            moved = λ _. moved-by moving o;
+            turned = forms-apart (t .form) f;
             seen = record {
-              labels = d .labelled;
-              grey-labels = λ q.
-                  let cmr = and-right (moves (t .form)) (isCmr (t .mode)) q in
-                  grey-labels c (b .spins) grey greyLabels (d .grey-held cmr moving) (w .grey-labels cmr);
-              grey-kept = λ q. w .grey-kept (rw moving at q);
-              counts = d .counted;
-              sizes = d .largest;
+              all = λ _. record {
+                labels = d .labelled;
+                grey-labels = λ q.
+                    let cmr = and-right (moves (t .form)) (isCmr (t .mode)) q in
+                    grey-labels c (b .spins) grey greyLabels (d .grey-held cmr moving) (w .grey-labels cmr);
+                grey-kept = λ q. w .grey-kept (rw moving at q);
+                counts = d .counted;
+                sizes = d .largest;
+                members-kept = refl;
+              };
+              one = forms-apart (t .form) f;
             };
           }
 
       pub observe-answers :
-          not r ≡ false → moves (t .form) ≡ false → Answers c p b Moved (buffersOf (b .spins) l (b .greyLabels) counts sizes)
+          not r ≡ false → moves (t .form) ≡ false → Answers c p b Moved (buffersOf (b .spins) l (b .greyLabels) counts sizes (b .members))
       observe-answers e resting = record {
         valid = valid-kept c p b v;
         some = passed r e (d .some);
-        moved = observed c p (b .spins) l (b .greyLabels) (no-move (t .form) resting);
+        moved = λ _. observed c p (b .spins) l (b .greyLabels) (no-move (t .form) resting);
+        turned = forms-apart (t .form) f;
         seen = record {
-          labels = d .labelled;
-          grey-labels = λ q. never (sym resting ∙ and-left (moves (t .form)) (isCmr (t .mode)) q);
-          grey-kept = λ _. refl;
-          counts = d .counted;
-          sizes = d .largest;
+          all = λ _. record {
+            labels = d .labelled;
+            grey-labels = λ q. never (sym resting ∙ and-left (moves (t .form)) (isCmr (t .mode)) q);
+            grey-kept = λ _. refl;
+            counts = d .counted;
+            sizes = d .largest;
+            members-kept = refl;
+          };
+          one = forms-apart (t .form) f;
         };
       }
 
-      pub idle-answers : not r ≡ true → Answers c p b Idle (buffersOf (b .spins) l (b .greyLabels) counts sizes)
+      pub idle-answers : not r ≡ true → Answers c p b Idle (buffersOf (b .spins) l (b .greyLabels) counts sizes (b .members))
       idle-answers e = record {
         valid = valid-kept c p b v;
         none = none-acts c (b .spins) (refused r e (d .some));
         still = refl;
         seen = record {
-          labels = d .labelled;
-          grey-labels = λ q. absurd (refused r e (d .some) (one-acts (and-right (moves (t .form)) (isCmr (t .mode)) q)));
-          grey-kept = λ _. refl;
-          counts = d .counted;
-          sizes = d .largest;
+          all = λ _. record {
+            labels = d .labelled;
+            grey-labels = λ q. absurd (refused r e (d .some) (one-acts (and-right (moves (t .form)) (isCmr (t .mode)) q)));
+            grey-kept = λ _. refl;
+            counts = d .counted;
+            sizes = d .largest;
+            members-kept = refl;
+          };
+          one = forms-apart (t .form) f;
         };
       }
         where

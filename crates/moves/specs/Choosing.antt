@@ -1,45 +1,21 @@
 -- The new columns that the choosing functions leave are those of the components' choices.
 use Prim.Native.Nat.{ℕ, _^_, _<_}
-use mathlib.Core.Path.{_≡_, refl, sym, _∙_, ap, subst}
+use mathlib.Core.Path.{_≡_, refl, _∙_, ap, subst}
 use mathlib.Core.Bool.{Bool, true, false, cond, _&&_}
 use mathlib.Core.List.{List}
 use lib.ListN.{length, getD}
-use Rattle.lemmas.specs.Bools.{never}
 use Rattle.paper.specs.declared.Task.{Task}
-use Rattle.paper.specs.declared.Mode.{Mode}
-use Rattle.paper.specs.declared.Mode.the-variants.{Houd, Pair, Perm, Gperm, Jorg, Cmr}
-use Rattle.paper.specs.declared.Form.{Form}
 use Rattle.paper.specs.Panel.Takes.{isPerm, isCmr}
 use Rattle.paper.specs.Component.Sizes.{labelOf}
 use Rattle.paper.specs.Component.Marks.{Flags}
-use Rattle.paper.specs.Move.Moving.{flipBy, permAt, greyAt}
-use Rattle.columns.specs.Column.{shown, columnOf, column-lt, flipped}
+use Rattle.paper.specs.Move.Moving.{flipBy, greyAt}
+use Rattle.columns.specs.Column.{shown, columnOf, flipped}
 use Rattle.columns.specs.Gauge.{gaugeOf}
 use Rattle.column_rules.specs.Tables.{Table}
-use Rattle.choose.specs.Chosen.{Becomes, reachedAt, flippedAt, permutedBy, permutedAt, greyed, greyedAt}
+use Rattle.choose.specs.Chosen.{Becomes, reachedAt, flippedAt, permutedAt, greyed, greyedAt}
 use Rattle.column_rules.specs.Sight.{flag-at}
-use Rattle.moves.specs.Moved.{choiceColumn}
+use Rattle.column_rules.specs.Acted.{choiceColumn, flip-choice, perm-choice, cmr-narrow}
 use Rattle.moves.specs.Steps.{chosenAt, finalAt}
-
-flip-choice :
-    (mode : Mode) (form : Form) (m g : ℕ) (choices : List ℕ) (r x : ℕ) → isPerm mode ≡ false
-    → cond (flipBy form choices r) (columnOf m (flipped mode m (shown x))) x ≡ choiceColumn mode form m g choices r x
-flip-choice Houd form m g choices r x e = refl
-flip-choice Pair form m g choices r x e = refl
-flip-choice Perm form m g choices r x e = never (sym e)
-flip-choice Gperm form m g choices r x e = never (sym e)
-flip-choice Jorg form m g choices r x e = refl
-flip-choice Cmr form m g choices r x e = refl
-
-perm-choice :
-    (mode : Mode) (form : Form) (m g : ℕ) (choices : List ℕ) (r x : ℕ) → isPerm mode ≡ true
-    → permutedBy m g (permAt form m choices r) x ≡ choiceColumn mode form m g choices r x
-perm-choice Houd form m g choices r x e = never e
-perm-choice Pair form m g choices r x e = never e
-perm-choice Perm form m g choices r x e = refl
-perm-choice Gperm form m g choices r x e = refl
-perm-choice Jorg form m g choices r x e = never e
-perm-choice Cmr form m g choices r x e = never e
 
 -- ---- `choose_columns`
 module _
@@ -76,21 +52,6 @@ module _
         (perm-choice (t .mode) (t .form) m g choices (labelOf labels i) (getD cols i 0) e))
 
 -- ---- with the grey half
--- in CMR the first choice is a flip
-cmr-narrow :
-    (mode : Mode) (form : Form) (m g : ℕ) (choices : List ℕ) (r x : ℕ) → isCmr mode ≡ true → x < 2 ^ m
-    → choiceColumn mode form m g choices r x < 2 ^ m
-cmr-narrow Houd form m g choices r x e h = never e
-cmr-narrow Pair form m g choices r x e h = never e
-cmr-narrow Perm form m g choices r x e h = never e
-cmr-narrow Gperm form m g choices r x e h = never e
-cmr-narrow Jorg form m g choices r x e h = never e
-cmr-narrow Cmr form m g choices r x e h = go (flipBy form choices r)
-  where
-    go : (f : Bool) → cond f (columnOf m (flipped Cmr m (shown x))) x < 2 ^ m
-    go true = column-lt m (flipped Cmr m (shown x))
-    go false = h
-
 module _ (t : Task) (acts labels choices : List ℕ) {cols mid : List ℕ} (b : Becomes (chosenAt t acts labels choices cols) cols mid) where
   pub mid-two : isCmr (t .mode) ≡ true → t .group .len ≡ 2 → (i : ℕ) → i < length cols → getD cols i 0 < 2 ^ t .group .len → getD mid i 0 < 4
   mid-two e two i l h = subst (λ (z : ℕ). getD mid i 0 < 2 ^ z) two (rw (b .at i l) (go (reachedAt (t .form) (t .mode) (t .seed) acts labels i)))

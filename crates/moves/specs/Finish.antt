@@ -9,7 +9,7 @@ use lib.Ieee.{Float}
 use Rattle.lemmas.specs.Bools.{never}
 use Rattle.paper.specs.declared.Task.{Task}
 use Rattle.paper.specs.declared.Form.{Form}
-use Rattle.paper.specs.declared.Form.the-variants.{Sw, Wolff, Observe}
+use Rattle.paper.specs.declared.Form.the-variants.{Sw, Wolff, Observe, Grow}
 use Rattle.paper.specs.Panel.Input.{Call, Choices, pattern, size}
 use Rattle.paper.specs.Panel.Made.{callOf}
 use Rattle.paper.specs.Panel.Takes.{isGperm, isCmr, moves, takesGreys}
@@ -24,7 +24,8 @@ use Rattle.columns.specs.Gauge.{gaugeOf, gauge-is}
 use Rattle.columns.specs.Laws.{columns-shown}
 use Rattle.choose.specs.Chosen.{Becomes, greyed}
 use Rattle.moves.specs.Tested.{TestedFor}
-use Rattle.moves.specs.Moved.{Rows, choiceColumn, chosen-column, after-spin}
+use Rattle.column_rules.specs.Acted.{choiceColumn}
+use Rattle.moves.specs.Moved.{Rows, chosen-column, after-spin}
 use Rattle.moves.specs.Steps.{chosenAt, finalAt}
 use Rattle.moves.specs.Choices.{reached-is}
 
@@ -40,6 +41,7 @@ pub no-move : (f : Form) → moves f ≡ false → f ≡ Observe
 no-move Sw e = never (sym e)
 no-move Wolff e = never (sym e)
 no-move Observe e = refl
+no-move Grow e = never (sym e)
 
 pub observed : (c : Call) (p : Choices) (xs : List ℤ) (l g : List ℕ) → c .form ≡ Observe → Moves c p xs l g xs
 unfolding final reached

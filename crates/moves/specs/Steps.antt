@@ -11,7 +11,7 @@ use Rattle.paper.specs.declared.Task.{Task}
 use Rattle.paper.specs.declared.Mode.{Mode}
 use Rattle.paper.specs.declared.Sampler.{Sampler}
 use Rattle.paper.specs.Panel.Input.{Call, pattern, member, graph, size}
-use Rattle.paper.specs.Panel.Takes.{isPerm, isGperm, isCmr, isDrawn, isWolff, moves, entries, flipsBy}
+use Rattle.paper.specs.Panel.Takes.{isPerm, isGperm, isCmr, isDrawn, oneCluster, moves, entries, flipsBy}
 use Rattle.paper.specs.Site.Acting.{acts, SomeActs}
 use Rattle.paper.specs.Site.Bonds.{samplerOf, holds, holdsGrey}
 use Rattle.paper.specs.Component.Labels.{Labels}
@@ -26,8 +26,8 @@ use Rattle.bonds.specs.Table as table
 use Rattle.bonds.specs.Table.{Coupled, ActiveIn, bothActing, jorgAt, blueAt}
 use Rattle.label.specs.Contract.{graphOf}
 use Rattle.choose.specs.Chosen.{Becomes, reachedAt, greyed}
+use Rattle.column_rules.specs.Acted.{choiceColumn}
 use Rattle.moves.specs.Tested.{Tested}
-use Rattle.moves.specs.Moved.{choiceColumn}
 
 -- ---- hold: the tables of bonds. The grey one is worked out where CMR moves
 -- the bonds that hold, worked out on marks of acting sites and on columns; in CMR the blue ones
@@ -89,7 +89,7 @@ pub record Choosable (t : Task) (flags labels tally choices reached cols : List 
   pub reached-long : length reached ≡ length cols
   pub below : (i : ℕ) → i < length cols → getD labels i 0 < length cols
   pub tallied : Sized labels tally
-  pub seeded : isWolff (t .form) ≡ true → t .seed < length cols
+  pub seeded : oneCluster (t .form) ≡ true → t .seed < length cols
   pub reference : isGperm (t .mode) ≡ true → t .reference < length cols
   pub moving : moves (t .form) ≡ true
   pub size-low : 1 ≤ t .group .len

@@ -5,9 +5,9 @@ use paper::Task;
 ghost use Prim.Native.Nat.{ℕ};
 ghost use mathlib.Core.List.{List};
 ghost use Rattle.paper.specs.Panel.Made.{callOf, choicesOf, buffersOf};
-ghost use Rattle.paper.specs.Refusal.Kept.{Valid};
 ghost use Rattle.paper.specs.Answer.Move.{Answers};
 ghost use Rattle.choose.specs.Chosen.{Becomes};
+ghost use Rattle.moves.specs.Answered.{RunAsks};
 ghost use Rattle.moves.specs.Steps.{
   HoldAsks,
   HoldLeaves,
@@ -171,7 +171,8 @@ fn write_task(t: Task, spins: &mut [i8], cols: &[u8])
     columns::write_rows(spins, t.n, group, cols);
 }
 
-// One task whose input is tested: labels, counts, sizes and spins as the paper has them. The work arrays are this call's own.
+// One task of a form that labels, whose input is tested: labels, counts, sizes and spins as the paper has them. It is lent no members, and keeps any. The
+// work arrays are this call's own.
 pub fn run_task(
     t: Task,
     spins: &mut [i8],
@@ -186,16 +187,16 @@ pub fn run_task(
     counts: &mut [u32],
     sizes: &mut [u32],
 ) -> Answer
-    requires { ⌜ Valid
+    requires { ⌜ RunAsks
         (callOf t (now fwd) (now bwd) (now couplings) (now cuts))
         (choicesOf (now choices) (now greys))
-        (buffersOf (now spins) (now labels) (now «grey_labels») (now counts) (now sizes)) ⌝ }
-    ensures { λ r. ⌜ Answers
+        (now spins) (now labels) (now «grey_labels») (now counts) (now sizes) ⌝ }
+    ensures { λ r. ⌜ ((members : List ℕ) → Answers
         (callOf t (now (fwd .entry)) (now (bwd .entry)) (now (couplings .entry)) (now (cuts .entry)))
         (choicesOf (now (choices .entry)) (now (greys .entry)))
-        (buffersOf (now (spins .entry)) (now (labels .entry)) (now («grey_labels» .entry)) (now (counts .entry)) (now (sizes .entry)))
+        (buffersOf (now (spins .entry)) (now (labels .entry)) (now («grey_labels» .entry)) (now (counts .entry)) (now (sizes .entry)) members)
         r
-        (buffersOf (now (spins .exit)) (now (labels .exit)) (now («grey_labels» .exit)) (now (counts .exit)) (now (sizes .exit))) ⌝ }
+        (buffersOf (now (spins .exit)) (now (labels .exit)) (now («grey_labels» .exit)) (now (counts .exit)) (now (sizes .exit)) members)) ⌝ }
 {
     let n = t.n;
     let bonds = n * t.d;

@@ -7,7 +7,8 @@ use Rattle.lemmas.specs.Determined.{one-value}
 use Rattle.paper.specs.declared.Mode.{Mode}
 use Rattle.paper.specs.declared.Form.{Form}
 use Rattle.paper.specs.declared.Sampler.{Sampler}
-use Rattle.paper.specs.Panel.Takes.{isPerm, isGperm, isCmr, isDrawn, isSw, isWolff, moves, flipsBy, permsBy, choicesBy, greysBy, entries, choiceWidth}
+use Rattle.paper.specs.Panel.Takes.{isPerm, isGperm, isCmr, isDrawn, isSw, oneCluster, growsBy, labelsBy, moves, flipsBy, permsBy, choicesBy, greysBy}
+use Rattle.paper.specs.Panel.Takes.{greyLabelsBy, entries, choiceWidth}
 use Rattle.paper.specs.Site.Bonds.{samplerOf}
 
 pub new-determined : (t : Float) (a b : Sampler) → a ≡ samplerOf t → b ≡ samplerOf t → a ≡ b
@@ -28,8 +29,14 @@ is-drawn-determined m a b = one-value
 pub is-sw-determined : (f : Form) (a b : Bool) → a ≡ isSw f → b ≡ isSw f → a ≡ b
 is-sw-determined f a b = one-value
 
-pub is-wolff-determined : (f : Form) (a b : Bool) → a ≡ isWolff f → b ≡ isWolff f → a ≡ b
-is-wolff-determined f a b = one-value
+pub one-cluster-determined : (f : Form) (a b : Bool) → a ≡ oneCluster f → b ≡ oneCluster f → a ≡ b
+one-cluster-determined f a b = one-value
+
+pub grows-determined : (f : Form) (a b : Bool) → a ≡ growsBy f → b ≡ growsBy f → a ≡ b
+grows-determined f a b = one-value
+
+pub labels-determined : (f : Form) (a b : Bool) → a ≡ labelsBy f → b ≡ labelsBy f → a ≡ b
+labels-determined f a b = one-value
 
 pub moves-determined : (f : Form) (a b : Bool) → a ≡ moves f → b ≡ moves f → a ≡ b
 moves-determined f a b = one-value
@@ -48,6 +55,9 @@ choice-width-determined m s a b = one-value
 
 pub takes-greys-determined : (m : Mode) (f : Form) (a b : Bool) → a ≡ greysBy m f → b ≡ greysBy m f → a ≡ b
 takes-greys-determined m f a b = one-value
+
+pub takes-grey-labels-determined : (m : Mode) (f : Form) (a b : Bool) → a ≡ greyLabelsBy m f → b ≡ greyLabelsBy m f → a ≡ b
+takes-grey-labels-determined m f a b = one-value
 
 pub entries-determined : (f : Form) (n a b : ℕ) → a ≡ entries f n → b ≡ entries f n → a ≡ b
 entries-determined f n a b = one-value

@@ -1,8 +1,8 @@
 // The types of document 01. Its definitions are in specs/, read in the order of specs/Lib.antt.
 ghost use mathlib.Core.Path.{_≡_};
 ghost use Rattle.paper.specs.Site.Bonds.{samplerOf};
-ghost use Rattle.paper.specs.Panel.Takes.{isPerm, isGperm, isCmr, isDrawn, isSw, isWolff, moves};
-ghost use Rattle.paper.specs.Panel.Takes.{flipsBy, permsBy, choicesBy, greysBy, entries, choiceWidth};
+ghost use Rattle.paper.specs.Panel.Takes.{isPerm, isGperm, isCmr, isDrawn, isSw, oneCluster, growsBy, labelsBy, moves};
+ghost use Rattle.paper.specs.Panel.Takes.{flipsBy, permsBy, choicesBy, greysBy, greyLabelsBy, entries, choiceWidth};
 
 // A group: its size and up to eight system numbers.
 pub struct Group {
@@ -23,6 +23,7 @@ pub enum Form {
     Sw,
     Wolff,
     Observe,
+    Grow,
 }
 
 impl Mode {
@@ -113,6 +114,12 @@ impl Mode {
     {
         form.moves() & self.is_cmr()
     }
+
+    pub fn takes_grey_labels(self, form: Form) -> bool
+        ensures { λ r. ⌜ r ≡ greyLabelsBy self form ⌝ }
+    {
+        form.labels() & self.takes_greys(form)
+    }
 }
 
 impl Form {
@@ -124,18 +131,39 @@ impl Form {
             Form::Sw => true,
             Form::Wolff => false,
             Form::Observe => false,
+            Form::Grow => false,
         }
     }
 
     // Moves the component of a seed.
-    pub fn is_wolff(self) -> bool
-        ensures { λ r. ⌜ r ≡ isWolff self ⌝ }
+    pub fn one_cluster(self) -> bool
+        ensures { λ r. ⌜ r ≡ oneCluster self ⌝ }
     {
         match self {
             Form::Sw => false,
             Form::Wolff => true,
             Form::Observe => false,
+            Form::Grow => true,
         }
+    }
+
+    // Finds that component alone and writes its members.
+    pub fn grows(self) -> bool
+        ensures { λ r. ⌜ r ≡ growsBy self ⌝ }
+    {
+        match self {
+            Form::Sw => false,
+            Form::Wolff => false,
+            Form::Observe => false,
+            Form::Grow => true,
+        }
+    }
+
+    // Finds every component and writes labels, counts and sizes.
+    pub fn labels(self) -> bool
+        ensures { λ r. ⌜ r ≡ labelsBy self ⌝ }
+    {
+        !self.grows()
     }
 
     // Moves at all.
@@ -146,6 +174,7 @@ impl Form {
             Form::Sw => true,
             Form::Wolff => true,
             Form::Observe => false,
+            Form::Grow => true,
         }
     }
 
@@ -157,6 +186,7 @@ impl Form {
             Form::Sw => n,
             Form::Wolff => 1,
             Form::Observe => 0,
+            Form::Grow => 1,
         }
     }
 }
@@ -199,6 +229,7 @@ pub struct Lengths {
     pub grey_labels: usize,
     pub counts: usize,
     pub sizes: usize,
+    pub members: usize,
 }
 
 pub enum Answer {

@@ -1,4 +1,4 @@
-// One case's call, and the comparison of all that it wrote. The outputs hold 65,535 before the call, as in the list.
+// One case's call, and the comparison of all that it wrote. The outputs hold 65,535 before the call, as in the list, which has no form that grows.
 use crate::fields::Seen;
 use crate::fields::byte;
 use crate::fields::fill_fractions;
@@ -163,6 +163,7 @@ pub(crate) fn step(
     let mut grey_area = [65535u32; 32];
     let mut counts_area = [65535u32; 36];
     let mut sizes_area = [65535u32; 16];
+    let mut members = [0u8; 1];
     let bonds = z.cuts;
     let sites = z.labels;
     let grey_sites = z.grey_labels;
@@ -190,6 +191,7 @@ pub(crate) fn step(
         grey_labels,
         counts,
         sizes,
+        &mut members[..0],
     );
     let end = past(d, z.greys);
     let got = of_step(answer);
@@ -217,6 +219,7 @@ fn update(
     let mut grey_area = [65535u32; 32];
     let mut counts_area = [65535u32; 36];
     let mut sizes_area = [65535u32; 16];
+    let mut members = [0u8; 1];
     let sites = z.labels;
     let grey_sites = z.grey_labels;
     let more = z.counts;
@@ -244,6 +247,7 @@ fn update(
         grey_labels,
         counts,
         sizes,
+        &mut members[..0],
     );
     let end = past(d, z.greys);
     let got = of_sweep(answer);

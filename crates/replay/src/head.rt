@@ -139,7 +139,7 @@ pub(crate) fn sizes_of(h: Head) -> Sizes
         temperatures: only(drawn, times),
         cuts: room(tasks, couplings, 128),
         references: only(mode.is_gperm(), tasks),
-        seeds: only(form.is_wolff(), tasks),
+        seeds: only(form.one_cluster(), tasks),
         choices: only(mode.takes_choices(form), bytes),
         greys: only(mode.takes_greys(form), picks),
         labels,

@@ -38,7 +38,7 @@ choosing flips greys = record { choices = flips; greys = greys }
 
 -- the outputs hold anything before the move
 abbrev buffers : List ℤ → List ℕ → List ℕ → List ℕ → List ℕ → Buffers
-buffers spins labels greyLabels counts sizes = record { spins = spins; labels = labels; greyLabels = greyLabels; counts = counts; sizes = sizes }
+buffers spins labels greyLabels counts sizes = record { spins = spins; labels = labels; greyLabels = greyLabels; counts = counts; sizes = sizes; members = [] }
 
 abbrev ring : List ℤ → Lattice
 ring couplings = line 3 2 (1 ∷ 2 ∷ 0 ∷ []) (2 ∷ 0 ∷ 1 ∷ []) couplings

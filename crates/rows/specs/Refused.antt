@@ -51,6 +51,7 @@ buffers ok = record {
   greyLabels = 0 ∷ 0 ∷ [];
   counts = cond (ok 2) (0 ∷ 0 ∷ 0 ∷ []) (0 ∷ 0 ∷ []);
   sizes = 0 ∷ 0 ∷ 0 ∷ 0 ∷ [];
+  members = [];
 }
 
 abbrev Refused : (ℕ → Bool) → ℕ → Type 0
@@ -99,7 +100,7 @@ abbrev permuting : List ℕ → Choices
 permuting p = record { choices = p; greys = [] }
 
 abbrev lent : List ℤ → Buffers
-lent spins = record { spins = spins; labels = 0 ∷ 0 ∷ []; greyLabels = []; counts = 0 ∷ 0 ∷ 0 ∷ []; sizes = 0 ∷ 0 ∷ 0 ∷ 0 ∷ [] }
+lent spins = record { spins = spins; labels = 0 ∷ 0 ∷ []; greyLabels = []; counts = 0 ∷ 0 ∷ 0 ∷ []; sizes = 0 ∷ 0 ∷ 0 ∷ 0 ∷ []; members = [] }
 
 pub record Seeds : Type 0 where
   -- site 0 acts and site 1 does not

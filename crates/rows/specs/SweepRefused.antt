@@ -44,6 +44,7 @@ lent = record {
   greyLabels = [];
   counts = 0 ∷ 0 ∷ 0 ∷ 0 ∷ [];
   sizes = 0 ∷ 0 ∷ 0 ∷ 0 ∷ 0 ∷ 0 ∷ 0 ∷ 0 ∷ [];
+  members = [];
 }
 
 abbrev warm : List Float

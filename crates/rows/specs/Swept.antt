@@ -60,6 +60,7 @@ before = record {
   greyLabels = [];
   counts = 9 ∷ 9 ∷ 9 ∷ 9 ∷ 9 ∷ 9 ∷ 9 ∷ 9 ∷ [];
   sizes = 9 ∷ 9 ∷ 9 ∷ 9 ∷ 9 ∷ 9 ∷ 9 ∷ 9 ∷ 9 ∷ 9 ∷ 9 ∷ 9 ∷ 9 ∷ 9 ∷ 9 ∷ 9 ∷ [];
+  members = [];
 }
 
 -- task 1 exchanged the systems 2 and 3, and task 3's areas are as they were
@@ -70,6 +71,7 @@ after = record {
   greyLabels = [];
   counts = 0 ∷ 0 ∷ 0 ∷ 1 ∷ 0 ∷ 1 ∷ 9 ∷ 9 ∷ [];
   sizes = 0 ∷ 0 ∷ 0 ∷ 0 ∷ 1 ∷ 0 ∷ 0 ∷ 0 ∷ 1 ∷ 0 ∷ 0 ∷ 0 ∷ 9 ∷ 9 ∷ 9 ∷ 9 ∷ [];
+  members = [];
 }
 
 -- task k's rows after the sweep are those of ys, by computing
@@ -162,11 +164,11 @@ unfolding table every any acts differs countWhere
 swept = record {
   valid = sweep-accepted-by sweep before refl;
   counts = refl;
-  lengths = record { spins = refl; labels = refl; counts = refl; sizes = refl; grey-labels = refl };
+  lengths = record { spins = refl; labels = refl; counts = refl; sizes = refl; grey-labels = refl; members = refl };
   each = each;
   skipped = skipped;
   others = others;
-  grey-kept = λ _. refl;
+  kept = record { labels = λ e. never (sym e); grey-labels = λ _. refl; counts = λ e. never (sym e); sizes = λ e. never (sym e); members = λ _. refl };
 }
 
 pub swept-only : (a : SweepAnswer) (z : Buffers) → SweepAnswers sweep before a z → SameSweep (Swept 1 2) after a z

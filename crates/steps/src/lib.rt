@@ -46,13 +46,16 @@ pub fn overlap_step(
     grey_labels: &mut [u32],
     counts: &mut [u32],
     sizes: &mut [u32],
+    members: &mut [u8],
 ) -> Answer
     ensures { λ r. ⌜ Answers
         (callOf t (now (fwd .entry)) (now (bwd .entry)) (now (couplings .entry)) (now (cuts .entry)))
         (choicesOf (now (choices .entry)) (now (greys .entry)))
-        (buffersOf (now (spins .entry)) (now (labels .entry)) (now («grey_labels» .entry)) (now (counts .entry)) (now (sizes .entry)))
+        (buffersOf (now (spins .entry)) (now (labels .entry)) (now («grey_labels» .entry)) (now (counts .entry)) (now (sizes .entry))
+        (now (members .entry)))
         r
-        (buffersOf (now (spins .exit)) (now (labels .exit)) (now («grey_labels» .exit)) (now (counts .exit)) (now (sizes .exit))) ⌝ }
+        (buffersOf (now (spins .exit)) (now (labels .exit)) (now («grey_labels» .exit)) (now (counts .exit)) (now (sizes .exit))
+        (now (members .exit))) ⌝ }
 {
     let l = Lengths {
         spins: spins.len(),
@@ -66,6 +69,7 @@ pub fn overlap_step(
         grey_labels: grey_labels.len(),
         counts: counts.len(),
         sizes: sizes.len(),
+        members: members.len(),
     };
     let fault = tests::panel::test_panel(t, spins, fwd, bwd, couplings, l);
     if fault != 0 {
@@ -74,6 +78,10 @@ pub fn overlap_step(
     let unfit = tests::choices::test_choices(t, spins, cuts, choices, greys);
     if unfit != 0 {
         return Answer::Refused(unfit);
+    }
+    let form = t.form;
+    if form.grows() {
+        return grow::run_grow(t, spins, fwd, bwd, couplings, cuts, choices, greys, members);
     }
     moves::run_task(
         t,
@@ -108,13 +116,14 @@ pub fn houdayer_step(
     labels: &mut [u32],
     counts: &mut [u32],
     sizes: &mut [u32],
+    members: &mut [u8],
 ) -> Answer
     ensures { λ r. ⌜ Answers
         (callOf (taskOf (modeOf rule) form n d s group (whole 1) reference seed) (now (fwd .entry)) (now (bwd .entry)) [] [])
         (choicesOf (now (choices .entry)) [])
-        (buffersOf (now (spins .entry)) (now (labels .entry)) [] (now (counts .entry)) (now (sizes .entry)))
+        (buffersOf (now (spins .entry)) (now (labels .entry)) [] (now (counts .entry)) (now (sizes .entry)) (now (members .entry)))
         r
-        (buffersOf (now (spins .exit)) (now (labels .exit)) [] (now (counts .exit)) (now (sizes .exit))) ⌝ }
+        (buffersOf (now (spins .exit)) (now (labels .exit)) [] (now (counts .exit)) (now (sizes .exit)) (now (members .exit))) ⌝ }
 {
     let couplings = [0i32; 1];
     let cuts = [0.0f32; 1];
@@ -144,6 +153,7 @@ pub fn houdayer_step(
         &mut grey_labels[..0],
         counts,
         sizes,
+        members,
     )
 }
 
@@ -165,13 +175,14 @@ pub fn jorg_step(
     labels: &mut [u32],
     counts: &mut [u32],
     sizes: &mut [u32],
+    members: &mut [u8],
 ) -> Answer
     ensures { λ r. ⌜ Answers
         (callOf (taskOf Jorg form n d s group temperature 0 seed) (now (fwd .entry)) (now (bwd .entry)) (now (couplings .entry)) (now (cuts .entry)))
         (choicesOf (now (choices .entry)) [])
-        (buffersOf (now (spins .entry)) (now (labels .entry)) [] (now (counts .entry)) (now (sizes .entry)))
+        (buffersOf (now (spins .entry)) (now (labels .entry)) [] (now (counts .entry)) (now (sizes .entry)) (now (members .entry)))
         r
-        (buffersOf (now (spins .exit)) (now (labels .exit)) [] (now (counts .exit)) (now (sizes .exit))) ⌝ }
+        (buffersOf (now (spins .exit)) (now (labels .exit)) [] (now (counts .exit)) (now (sizes .exit)) (now (members .exit))) ⌝ }
 {
     let mut grey_labels = [0u32; 1];
     let t = Task {
@@ -198,6 +209,7 @@ pub fn jorg_step(
         &mut grey_labels[..0],
         counts,
         sizes,
+        members,
     )
 }
 
@@ -221,13 +233,16 @@ pub fn cmr_step(
     grey_labels: &mut [u32],
     counts: &mut [u32],
     sizes: &mut [u32],
+    members: &mut [u8],
 ) -> Answer
     ensures { λ r. ⌜ Answers
         (callOf (taskOf Cmr form n d s group temperature 0 seed) (now (fwd .entry)) (now (bwd .entry)) (now (couplings .entry)) (now (cuts .entry)))
         (choicesOf (now (choices .entry)) (now (greys .entry)))
-        (buffersOf (now (spins .entry)) (now (labels .entry)) (now («grey_labels» .entry)) (now (counts .entry)) (now (sizes .entry)))
+        (buffersOf (now (spins .entry)) (now (labels .entry)) (now («grey_labels» .entry)) (now (counts .entry)) (now (sizes .entry))
+        (now (members .entry)))
         r
-        (buffersOf (now (spins .exit)) (now (labels .exit)) (now («grey_labels» .exit)) (now (counts .exit)) (now (sizes .exit))) ⌝ }
+        (buffersOf (now (spins .exit)) (now (labels .exit)) (now («grey_labels» .exit)) (now (counts .exit)) (now (sizes .exit))
+        (now (members .exit))) ⌝ }
 {
     let t = Task {
         mode: Mode::Cmr,
@@ -253,5 +268,6 @@ pub fn cmr_step(
         grey_labels,
         counts,
         sizes,
+        members,
     )
 }

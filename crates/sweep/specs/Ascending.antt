@@ -12,13 +12,12 @@ use Rattle.lemmas.specs.Counts.{bit, countWhere}
 use Rattle.paper.specs.declared.Answer.{Answer}
 use Rattle.paper.specs.declared.Answer.the-variants.{Refused, Idle, Moved}
 use Rattle.paper.specs.Panel.Input.{Call, Choices, Buffers, pattern, spin, system}
-use Rattle.paper.specs.Panel.Takes.{takesGreys}
 use Rattle.paper.specs.Refusal.Rule.{Kept}
 use Rattle.paper.specs.Refusal.Rules.{AllSystems, Spins, rules}
 use Rattle.paper.specs.Refusal.Kept.{Valid, valid-of, valid-kept}
 use Rattle.paper.specs.Answer.Move.{Answers, Accepted, Accepted.idle, Accepted.moved}
 use Rattle.paper.specs.Answer.Task.{Sweep, tasks, masked, taskCall, taskChoices, areas, idleTask}
-use Rattle.paper.specs.Answer.Sweep.{common, sweepRules, Done, SameLengths, Sweeps}
+use Rattle.paper.specs.Answer.Sweep.{common, sweepRules, Done, SameLengths, Unwritten, Sweeps}
 use Rattle.laws.specs.Determined.{determined, must-accept}
 use Rattle.laws.specs.Sanity.{others-kept}
 use Rattle.laws.specs.Local.{Agree}
@@ -60,21 +59,21 @@ pub record Ran (w : Sweep) (b : Buffers) (K idle moved : ℕ) (b′ : Buffers) :
   pub each : (k : ℕ) → k < K → masked w k ≡ false → Done w b b′ k
   pub still : (k : ℕ) → k < tasks w → (masked w k ≡ true) ⊎ (K ≤ k) → areas w b′ (b .spins) k ≡ areas w b (b .spins) k
   pub others : (i t : ℕ) → i < w .lattice .n → UnmovedTo w K t → spin (w .lattice .n) (b′ .spins) t i ≡ spin (w .lattice .n) (b .spins) t i
-  pub grey-kept : takesGreys (common w) ≡ false → b′ .greyLabels ≡ b .greyLabels
+  pub kept : Unwritten (common w) b b′
 
 -- the task K alone changed b to b′ and answered a
 pub record Steps (w : Sweep) (K : ℕ) (b : Buffers) (a : Answer) (b′ : Buffers) : Type 0 where
   pub answers : Answers (taskCall w K) (taskChoices w K) (areas w b (b .spins) K) a (areas w b′ (b′ .spins) K)
   pub lengths : SameLengths b b′
   pub apart : (k : ℕ) → k ≢ K → areas w b′ (b .spins) k ≡ areas w b (b .spins) k
-  pub grey-kept : takesGreys (common w) ≡ false → b′ .greyLabels ≡ b .greyLabels
+  pub kept : Unwritten (common w) b b′
 
 -- areas do not depend on the spins beside them
 respun : (w : Sweep) (b b′ : Buffers) (xs ys : List ℤ) (k : ℕ) → areas w b′ xs k ≡ areas w b xs k → areas w b′ ys k ≡ areas w b ys k
 respun w b b′ xs ys k e = ap (λ (z : Buffers). withSpins z ys) e
 
 same-lengths : (b : Buffers) → SameLengths b b
-same-lengths b = record { spins = refl; labels = refl; counts = refl; sizes = refl; grey-labels = refl }
+same-lengths b = record { spins = refl; labels = refl; counts = refl; sizes = refl; grey-labels = refl; members = refl }
 
 then-lengths : {a b c : Buffers} → SameLengths a b → SameLengths b c → SameLengths a c
 then-lengths p q = record {
@@ -83,6 +82,19 @@ then-lengths p q = record {
   counts = q .counts ∙ p .counts;
   sizes = q .sizes ∙ p .sizes;
   grey-labels = q .grey-labels ∙ p .grey-labels;
+  members = q .members ∙ p .members;
+}
+
+pub unwritten-none : (c : Call) (b : Buffers) → Unwritten c b b
+unwritten-none c b = record { labels = λ _. refl; grey-labels = λ _. refl; counts = λ _. refl; sizes = λ _. refl; members = λ _. refl }
+
+then-unwritten : {c : Call} {x y z : Buffers} → Unwritten c x y → Unwritten c y z → Unwritten c x z
+then-unwritten p q = record {
+  labels = λ e. q .labels e ∙ p .labels e;
+  grey-labels = λ e. q .grey-labels e ∙ p .grey-labels e;
+  counts = λ e. q .counts e ∙ p .counts e;
+  sizes = λ e. q .sizes e ∙ p .sizes e;
+  members = λ e. q .members e ∙ p .members e;
 }
 
 count-start : (f : ℕ → Bool) → 0 ≡ countWhere f 0
@@ -109,7 +121,7 @@ module _ (w : Sweep) (b : Buffers) (v : Kept (sweepRules w b)) where
     each = λ k l e. absurd (omega arith);
     still = λ k l q. refl;
     others = λ i t l o. refl;
-    grey-kept = λ e. refl;
+    kept = unwritten-none (common w) b;
   }
 
   pub ran-all : (ni nm : ℕ) (b′ : Buffers) → Ran w b (tasks w) ni nm b′ → Sweeps w b ni nm b′
@@ -120,7 +132,7 @@ module _ (w : Sweep) (b : Buffers) (v : Kept (sweepRules w b)) where
     each = h .each;
     skipped = λ k l e. h .still k l (inl e);
     others = h .others;
-    grey-kept = h .grey-kept;
+    kept = h .kept;
   }
 
   module _ (K ni nm : ℕ) (b′ : Buffers) (below : K < tasks w) (h : Ran w b K ni nm b′) where
@@ -139,7 +151,7 @@ module _ (w : Sweep) (b : Buffers) (v : Kept (sweepRules w b)) where
       each = λ k l q. before k l q (ℕ-discrete k K);
       still = λ k l q. h .still k l (weaker k q);
       others = λ i t l o. h .others i t l (λ k x q. o k x (omega arith));
-      grey-kept = h .grey-kept;
+      kept = h .kept;
     }
       where
         before : (k : ℕ) → k < K + 1 → masked w k ≡ false → Dec (k ≡ K) → Done w b b′ k
@@ -233,7 +245,7 @@ module _ (w : Sweep) (b : Buffers) (v : Kept (sweepRules w b)) where
         each = λ k l q. at k l q (ℕ-discrete k K);
         still = λ k l q. respun w b′ b″ (b′ .spins) (b .spins) k (s .apart k (ahead k q)) ∙ h .still k l (weaker k q);
         others = λ i t l o. out i t l (λ x q. o K x (omega arith) e q) ∙ h .others i t l (λ k x q. o k x (omega arith));
-        grey-kept = λ q. s .grey-kept q ∙ h .grey-kept q;
+        kept = then-unwritten (h .kept) (s .kept);
       }
         where
           at : (k : ℕ) → k < K + 1 → masked w k ≡ false → Dec (k ≡ K) → Done w b b″ k

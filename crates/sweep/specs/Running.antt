@@ -1,8 +1,8 @@
 -- A task's parts of the inputs, and its areas of the outputs.
 use Prim.Native.Nat.{ℕ, _+_, _-_, _*_}
-use mathlib.Core.Path.{_≡_, refl, sym, _∙_, ap}
-use mathlib.Core.Logic.{_≢_}
-use mathlib.Core.Bool.{false}
+use mathlib.Core.Path.{_≡_, refl, sym, _∙_, subst}
+use mathlib.Core.Logic.{_⊎_, inl, inr, _≢_}
+use mathlib.Core.Bool.{true, false}
 use mathlib.Core.List.{List}
 use lib.ListN.{length, take, drop}
 use lib.IntN.{ℤ}
@@ -10,19 +10,20 @@ use lib.Ieee.{Float}
 use Rattle.paper.specs.declared.Task.{Task}
 use Rattle.paper.specs.declared.Answer.{Answer}
 use Rattle.paper.specs.declared.Answer.the-variants.{Refused, Idle, Moved}
-use Rattle.paper.specs.Panel.Input.{Call, Buffers}
-use Rattle.paper.specs.Panel.Takes.{takesGreys, entries, choiceBytes}
+use Rattle.paper.specs.Panel.Input.{Call, Choices, Buffers}
+use Rattle.paper.specs.Panel.Takes.{growsBy, labelsBy, takesGreyLabels, entries, choiceBytes}
 use Rattle.paper.specs.Refusal.Kept.{Valid}
-use Rattle.paper.specs.Answer.Move.{Answers}
+use Rattle.paper.specs.Answer.Move.{Seen, Answers}
 use Rattle.paper.specs.Answer.Task.{Sweep, part, taskCall, taskChoices, areas}
-use Rattle.paper.specs.Answer.Sweep.{common}
+use Rattle.paper.specs.Answer.Sweep.{common, Unwritten}
 use Rattle.paper.specs.Panel.Made.{callOf, choicesOf, buffersOf}
 use Rattle.paper.specs.Answer.Made.{planOf}
+use Rattle.laws.specs.Forms.{by-form, labels-else, grows-else}
 use Rattle.laws.specs.Determined.{buffers-equal}
 use Rattle.tasks.specs.Plan.{Bounding, taskAt}
 use Rattle.tasks.specs.Parts.{back, lent-part, lent-length, back-length, back-own, back-other, back-same}
 use Rattle.sweep.specs.Spinning.{length-after}
-use Rattle.sweep.specs.Ascending.{Steps}
+use Rattle.sweep.specs.Ascending.{Steps, unwritten-none}
 
 -- these inputs are the task's
 pub record Parts (w : Sweep) (k : ℕ) (t : Task) (cs : List Float) (ps gs : List ℕ) : Type 0 where
@@ -41,66 +42,100 @@ module _ {w : Sweep} {k : ℕ} {t : Task} {cs : List Float} {ps gs : List ℕ} (
   pub answers-parts : (x y : Buffers) (r : Answer) → Answers callWith (choicesOf ps gs) x r y → Answers (taskCall w k) (taskChoices w k) x r y
   answers-parts x y r h = rw (e .task, e .cuts, e .choices, e .greys) at h
 
+-- ---- what the form does not write
+seen-unwritten : (c : Call) (b b′ : Buffers) → Seen c b b′ → Unwritten c b b′
+seen-unwritten c b b′ s = record {
+  labels = λ e. s .one (grows-else (c .form) e) .labels-kept;
+  grey-labels = grey (by-form (c .form));
+  counts = λ e. s .one (grows-else (c .form) e) .counts-kept;
+  sizes = λ e. s .one (grows-else (c .form) e) .sizes-kept;
+  members = λ e. s .all (labels-else (c .form) e) .members-kept;
+}
+  where
+    grey : (labelsBy (c .form) ≡ true) ⊎ (growsBy (c .form) ≡ true) → takesGreyLabels c ≡ false → b′ .greyLabels ≡ b .greyLabels
+    grey (inl f) e = s .all f .grey-kept (rw f at e)
+    grey (inr f) e = s .one f .grey-kept
+
+unwritten : (c : Call) (p : Choices) (b b′ : Buffers) (a : Answer) → Answers c p b a b′ → Unwritten c b b′
+unwritten c p b b′ (Refused r) w = subst (Unwritten c b) (sym (w .kept)) (unwritten-none c b)
+unwritten c p b b′ Idle w = seen-unwritten c b b′ (w .seen)
+unwritten c p b b′ Moved w = seen-unwritten c b b′ (w .seen)
+
 -- ---- the task's areas, lent and put back
-module _ (w : Sweep) (k : ℕ) (b : Buffers) {la lb ga gb ca cb za zb : ℕ} (hl : Bounding (length (b .labels)) k (w .lattice .n) la lb)
+module _
+    (w : Sweep) (k : ℕ) (b : Buffers) {la lb ga gb ca cb za zb ma mb : ℕ} (hl : Bounding (length (b .labels)) k (w .lattice .n) la lb)
     (hg : Bounding (length (b .greyLabels)) k (w .lattice .n) ga gb) (hc : Bounding (length (b .counts)) k (w .lattice .n + 1) ca cb)
-    (hz : Bounding (length (b .sizes)) k 4 za zb) where
-  abbrev pub lentAreas : Buffers
-  lentAreas =
-      buffersOf (b .spins) (take (lb - la) (drop la (b .labels))) (take (gb - ga) (drop ga (b .greyLabels))) (take (cb - ca) (drop ca (b .counts)))
-      (take (zb - za) (drop za (b .sizes)))
+    (hz : Bounding (length (b .sizes)) k 4 za zb) (hm : Bounding (length (b .members)) k (w .lattice .n) ma mb)
+  where
+    abbrev n : ℕ
+    n = w .lattice .n
 
-  pub areas-lent : areas w b (b .spins) k ≡ lentAreas
-  areas-lent =
-      buffers-equal _ _ refl (sym (lent-part (b .labels) k (w .lattice .n) la lb hl)) (sym (lent-part (b .greyLabels) k (w .lattice .n) ga gb hg))
-      (sym (lent-part (b .counts) k (w .lattice .n + 1) ca cb hc)) (sym (lent-part (b .sizes) k 4 za zb hz))
+    abbrev pub lentAreas : Buffers
+    lentAreas =
+        buffersOf (b .spins) (take (lb - la) (drop la (b .labels))) (take (gb - ga) (drop ga (b .greyLabels))) (take (cb - ca) (drop ca (b .counts)))
+        (take (zb - za) (drop za (b .sizes))) (take (mb - ma) (drop ma (b .members)))
 
-  module _ (xs : List ℤ) (ls gs cs zs : List ℕ) (kl : length ls ≡ length (lentAreas .labels)) (kg : length gs ≡ length (lentAreas .greyLabels))
-      (kc : length cs ≡ length (lentAreas .counts)) (kz : length zs ≡ length (lentAreas .sizes)) (r : Answer)
-      (h : Answers (taskCall w k) (taskChoices w k) lentAreas r (buffersOf xs ls gs cs zs)) where
-    el : length ls ≡ lb - la
-    el = kl ∙ lent-length (b .labels) k (w .lattice .n) la lb hl
+    pub areas-lent : areas w b (b .spins) k ≡ lentAreas
+    areas-lent =
+        buffers-equal _ _ refl (sym (lent-part (b .labels) k n la lb hl)) (sym (lent-part (b .greyLabels) k n ga gb hg))
+        (sym (lent-part (b .counts) k (n + 1) ca cb hc)) (sym (lent-part (b .sizes) k 4 za zb hz)) (sym (lent-part (b .members) k n ma mb hm))
 
-    eg : length gs ≡ gb - ga
-    eg = kg ∙ lent-length (b .greyLabels) k (w .lattice .n) ga gb hg
+    module _
+        (xs : List ℤ) (ls gs cs zs ms : List ℕ) (kl : length ls ≡ length (lentAreas .labels)) (kg : length gs ≡ length (lentAreas .greyLabels))
+        (kc : length cs ≡ length (lentAreas .counts)) (kz : length zs ≡ length (lentAreas .sizes)) (km : length ms ≡ length (lentAreas .members))
+        (r : Answer) (h : Answers (taskCall w k) (taskChoices w k) lentAreas r (buffersOf xs ls gs cs zs ms))
+      where
+        el : length ls ≡ lb - la
+        el = kl ∙ lent-length (b .labels) k n la lb hl
 
-    ec : length cs ≡ cb - ca
-    ec = kc ∙ lent-length (b .counts) k (w .lattice .n + 1) ca cb hc
+        eg : length gs ≡ gb - ga
+        eg = kg ∙ lent-length (b .greyLabels) k n ga gb hg
 
-    ez : length zs ≡ zb - za
-    ez = kz ∙ lent-length (b .sizes) k 4 za zb hz
+        ec : length cs ≡ cb - ca
+        ec = kc ∙ lent-length (b .counts) k (n + 1) ca cb hc
 
-    abbrev put : Buffers
-    put = buffersOf xs (back (b .labels) la lb ls) (back (b .greyLabels) ga gb gs) (back (b .counts) ca cb cs) (back (b .sizes) za zb zs)
+        ez : length zs ≡ zb - za
+        ez = kz ∙ lent-length (b .sizes) k 4 za zb hz
 
-    areas-put : areas w put xs k ≡ buffersOf xs ls gs cs zs
-    areas-put =
-        buffers-equal _ _ refl (back-own (b .labels) k (w .lattice .n) la lb hl ls el) (back-own (b .greyLabels) k (w .lattice .n) ga gb hg gs eg)
-        (back-own (b .counts) k (w .lattice .n + 1) ca cb hc cs ec) (back-own (b .sizes) k 4 za zb hz zs ez)
+        em : length ms ≡ mb - ma
+        em = km ∙ lent-length (b .members) k n ma mb hm
 
-    areas-apart : (j : ℕ) → j ≢ k → areas w put (b .spins) j ≡ areas w b (b .spins) j
-    areas-apart j ne =
-        buffers-equal _ _ refl (back-other (b .labels) k (w .lattice .n) la lb hl ls el 0 j ne)
-        (back-other (b .greyLabels) k (w .lattice .n) ga gb hg gs eg 0 j ne) (back-other (b .counts) k (w .lattice .n + 1) ca cb hc cs ec 0 j ne)
-        (back-other (b .sizes) k 4 za zb hz zs ez 0 j ne)
+        abbrev put : Buffers
+        put =
+            buffersOf xs (back (b .labels) la lb ls) (back (b .greyLabels) ga gb gs) (back (b .counts) ca cb cs) (back (b .sizes) za zb zs)
+            (back (b .members) ma mb ms)
 
-    grey-still :
-        (r : Answer) → Answers (taskCall w k) (taskChoices w k) lentAreas r (buffersOf xs ls gs cs zs) → takesGreys (common w) ≡ false
-        → gs ≡ take (gb - ga) (drop ga (b .greyLabels))
-    grey-still (Refused n) a e = ap (λ (z : Buffers). z .greyLabels) (a .kept)
-    grey-still Idle a e = a .seen .grey-kept e
-    grey-still Moved a e = a .seen .grey-kept e
+        areas-put : areas w put xs k ≡ buffersOf xs ls gs cs zs ms
+        areas-put =
+            buffers-equal _ _ refl (back-own (b .labels) k n la lb hl ls el) (back-own (b .greyLabels) k n ga gb hg gs eg)
+            (back-own (b .counts) k (n + 1) ca cb hc cs ec) (back-own (b .sizes) k 4 za zb hz zs ez) (back-own (b .members) k n ma mb hm ms em)
 
-    pub steps-put : Steps w k b r put
-    steps-put = record {
-      answers = rw (areas-lent, areas-put) h;
-      lengths = record {
-        spins = length-after (taskCall w k) (taskChoices w k) lentAreas (buffersOf xs ls gs cs zs) r h;
-        labels = back-length (b .labels) k (w .lattice .n) la lb hl ls el;
-        counts = back-length (b .counts) k (w .lattice .n + 1) ca cb hc cs ec;
-        sizes = back-length (b .sizes) k 4 za zb hz zs ez;
-        grey-labels = back-length (b .greyLabels) k (w .lattice .n) ga gb hg gs eg;
-      };
-      apart = areas-apart;
-      grey-kept = λ e. back-same (b .greyLabels) k (w .lattice .n) ga gb hg gs eg (grey-still r h e ∙ lent-part (b .greyLabels) k (w .lattice .n) ga gb hg);
-    }
+        areas-apart : (j : ℕ) → j ≢ k → areas w put (b .spins) j ≡ areas w b (b .spins) j
+        areas-apart j ne =
+            buffers-equal _ _ refl (back-other (b .labels) k n la lb hl ls el 0 j ne) (back-other (b .greyLabels) k n ga gb hg gs eg 0 j ne)
+            (back-other (b .counts) k (n + 1) ca cb hc cs ec 0 j ne) (back-other (b .sizes) k 4 za zb hz zs ez 0 j ne)
+            (back-other (b .members) k n ma mb hm ms em 0 j ne)
+
+        put-kept : Unwritten (taskCall w k) lentAreas (buffersOf xs ls gs cs zs ms) → Unwritten (common w) b put
+        put-kept u = record {
+          labels = λ e. back-same (b .labels) k n la lb hl ls el (u .labels e ∙ lent-part (b .labels) k n la lb hl);
+          grey-labels = λ e. back-same (b .greyLabels) k n ga gb hg gs eg (u .grey-labels e ∙ lent-part (b .greyLabels) k n ga gb hg);
+          counts = λ e. back-same (b .counts) k (n + 1) ca cb hc cs ec (u .counts e ∙ lent-part (b .counts) k (n + 1) ca cb hc);
+          sizes = λ e. back-same (b .sizes) k 4 za zb hz zs ez (u .sizes e ∙ lent-part (b .sizes) k 4 za zb hz);
+          members = λ e. back-same (b .members) k n ma mb hm ms em (u .members e ∙ lent-part (b .members) k n ma mb hm);
+        }
+
+        pub steps-put : Steps w k b r put
+        steps-put = record {
+          answers = rw (areas-lent, areas-put) h;
+          lengths = record {
+            spins = length-after (taskCall w k) (taskChoices w k) lentAreas (buffersOf xs ls gs cs zs ms) r h;
+            labels = back-length (b .labels) k n la lb hl ls el;
+            counts = back-length (b .counts) k (n + 1) ca cb hc cs ec;
+            sizes = back-length (b .sizes) k 4 za zb hz zs ez;
+            grey-labels = back-length (b .greyLabels) k n ga gb hg gs eg;
+            members = back-length (b .members) k n ma mb hm ms em;
+          };
+          apart = areas-apart;
+          kept = put-kept (unwritten (taskCall w k) (taskChoices w k) lentAreas (buffersOf xs ls gs cs zs ms) r h);
+        }

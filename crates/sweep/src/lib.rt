@@ -27,13 +27,16 @@ pub fn overlap_update(
     grey_labels: &mut [u32],
     counts: &mut [u32],
     sizes: &mut [u32],
+    members: &mut [u8],
 ) -> SweepAnswer
     ensures { λ r. ⌜ SweepAnswers
         (sweepOf plan (now (fwd .entry)) (now (bwd .entry)) (now (couplings .entry)) (now (order .entry)) (now (masks .entry))
         (now (temperatures .entry)) (now (cuts .entry)) (now (references .entry)) (now (seeds .entry))
         (now (choices .entry)) (now (greys .entry)))
-        (buffersOf (now (spins .entry)) (now (labels .entry)) (now («grey_labels» .entry)) (now (counts .entry)) (now (sizes .entry))) r
-        (buffersOf (now (spins .exit)) (now (labels .exit)) (now («grey_labels» .exit)) (now (counts .exit)) (now (sizes .exit))) ⌝ }
+        (buffersOf (now (spins .entry)) (now (labels .entry)) (now («grey_labels» .entry)) (now (counts .entry)) (now (sizes .entry))
+        (now (members .entry))) r
+        (buffersOf (now (spins .exit)) (now (labels .exit)) (now («grey_labels» .exit)) (now (counts .exit)) (now (sizes .exit))
+        (now (members .exit))) ⌝ }
 {
     let fault = sweep_tests::test_sweep(
         plan,
@@ -53,6 +56,7 @@ pub fn overlap_update(
         grey_labels,
         counts,
         sizes,
+        members,
     );
     if fault != 0 {
         return SweepAnswer::Fault(fault);
@@ -75,5 +79,6 @@ pub fn overlap_update(
         grey_labels,
         counts,
         sizes,
+        members,
     )
 }

@@ -7,8 +7,10 @@ use paper::Plan;
 use paper::SweepAnswer;
 use paper::Task;
 ghost use Rattle.paper.specs.Refusal.Rule.{Kept};
+ghost use Rattle.paper.specs.Refusal.Kept.{Valid};
+ghost use Rattle.paper.specs.Answer.Move.{Answers};
 ghost use Rattle.paper.specs.Answer.Sweep.{sweepRules, SweepAnswers};
-ghost use Rattle.paper.specs.Panel.Made.{buffersOf};
+ghost use Rattle.paper.specs.Panel.Made.{callOf, choicesOf, buffersOf};
 ghost use Rattle.paper.specs.Answer.Made.{sweepOf};
 ghost use Rattle.sweep.specs.Turning.{Growable, Added, Turn, Turned};
 
@@ -35,6 +37,55 @@ fn add(outcomes: Outcomes, answer: Answer) -> Outcomes
     }
 }
 
+// One task, whose input is tested. A form that grows is lent the members, any other what it labels.
+fn run_form(
+    t: Task,
+    spins: &mut [i8],
+    fwd: &[u32],
+    bwd: &[u32],
+    couplings: &[i32],
+    cuts: &[f32],
+    choices: &[u8],
+    greys: &[u8],
+    labels: &mut [u32],
+    grey_labels: &mut [u32],
+    counts: &mut [u32],
+    sizes: &mut [u32],
+    members: &mut [u8],
+) -> Answer
+    requires { ⌜ Valid
+        (callOf t (now fwd) (now bwd) (now couplings) (now cuts))
+        (choicesOf (now choices) (now greys))
+        (buffersOf (now spins) (now labels) (now «grey_labels») (now counts) (now sizes) (now members)) ⌝ }
+    ensures { λ r. ⌜ Answers
+        (callOf t (now (fwd .entry)) (now (bwd .entry)) (now (couplings .entry)) (now (cuts .entry)))
+        (choicesOf (now (choices .entry)) (now (greys .entry)))
+        (buffersOf (now (spins .entry)) (now (labels .entry)) (now («grey_labels» .entry)) (now (counts .entry)) (now (sizes .entry))
+        (now (members .entry)))
+        r
+        (buffersOf (now (spins .exit)) (now (labels .exit)) (now («grey_labels» .exit)) (now (counts .exit)) (now (sizes .exit))
+        (now (members .exit))) ⌝ }
+{
+    let form = t.form;
+    if form.grows() {
+        return grow::run_grow(t, spins, fwd, bwd, couplings, cuts, choices, greys, members);
+    }
+    moves::run_task(
+        t,
+        spins,
+        fwd,
+        bwd,
+        couplings,
+        cuts,
+        choices,
+        greys,
+        labels,
+        grey_labels,
+        counts,
+        sizes,
+    )
+}
+
 // The task k, unless it is masked, with its parts of the inputs and its areas of the outputs.
 fn step(
     outcomes: Outcomes,
@@ -56,17 +107,20 @@ fn step(
     grey_labels: &mut [u32],
     counts: &mut [u32],
     sizes: &mut [u32],
+    members: &mut [u8],
 ) -> Outcomes
     requires { ⌜ Turn
         (sweepOf plan (now fwd) (now bwd) (now couplings) (now order) (now masks) (now temperatures) (now cuts)
         (now references) (now seeds) (now choices) (now greys))
-        k outcomes (buffersOf (now spins) (now labels) (now «grey_labels») (now counts) (now sizes)) ⌝ }
+        k outcomes (buffersOf (now spins) (now labels) (now «grey_labels») (now counts) (now sizes) (now members)) ⌝ }
     ensures { λ r. ⌜ Turned
         (sweepOf plan (now (fwd .entry)) (now (bwd .entry)) (now (couplings .entry)) (now (order .entry)) (now (masks .entry))
         (now (temperatures .entry)) (now (cuts .entry)) (now (references .entry)) (now (seeds .entry))
         (now (choices .entry)) (now (greys .entry)))
-        k outcomes (buffersOf (now (spins .entry)) (now (labels .entry)) (now («grey_labels» .entry)) (now (counts .entry)) (now (sizes .entry))) r
-        (buffersOf (now (spins .exit)) (now (labels .exit)) (now («grey_labels» .exit)) (now (counts .exit)) (now (sizes .exit))) ⌝ }
+        k outcomes (buffersOf (now (spins .entry)) (now (labels .entry)) (now («grey_labels» .entry)) (now (counts .entry)) (now (sizes .entry))
+        (now (members .entry))) r
+        (buffersOf (now (spins .exit)) (now (labels .exit)) (now («grey_labels» .exit)) (now (counts .exit)) (now (sizes .exit))
+        (now (members .exit))) ⌝ }
 {
     if tasks::masked(plan, masks, k) {
         return outcomes;
@@ -84,7 +138,10 @@ fn step(
     let size = tasks::bounds(sizes.len(), k, 4);
     let g = size.start;
     let h = size.end;
-    let answer = moves::run_task(
+    let member = tasks::bounds(members.len(), k, n);
+    let i = member.start;
+    let j = member.end;
+    let answer = run_form(
         tasks::task_of(plan, order, temperatures, references, seeds, k),
         spins,
         fwd,
@@ -97,6 +154,7 @@ fn step(
         &mut grey_labels[c..d],
         &mut counts[e..f],
         &mut sizes[g..h],
+        &mut members[i..j],
     );
     add(outcomes, answer)
 }
@@ -120,17 +178,20 @@ pub fn run_tasks(
     grey_labels: &mut [u32],
     counts: &mut [u32],
     sizes: &mut [u32],
+    members: &mut [u8],
 ) -> SweepAnswer
     requires { ⌜ Kept (sweepRules
         (sweepOf plan (now fwd) (now bwd) (now couplings) (now order) (now masks) (now temperatures) (now cuts)
         (now references) (now seeds) (now choices) (now greys))
-        (buffersOf (now spins) (now labels) (now «grey_labels») (now counts) (now sizes))) ⌝ }
+        (buffersOf (now spins) (now labels) (now «grey_labels») (now counts) (now sizes) (now members))) ⌝ }
     ensures { λ r. ⌜ SweepAnswers
         (sweepOf plan (now (fwd .entry)) (now (bwd .entry)) (now (couplings .entry)) (now (order .entry)) (now (masks .entry))
         (now (temperatures .entry)) (now (cuts .entry)) (now (references .entry)) (now (seeds .entry))
         (now (choices .entry)) (now (greys .entry)))
-        (buffersOf (now (spins .entry)) (now (labels .entry)) (now («grey_labels» .entry)) (now (counts .entry)) (now (sizes .entry))) r
-        (buffersOf (now (spins .exit)) (now (labels .exit)) (now («grey_labels» .exit)) (now (counts .exit)) (now (sizes .exit))) ⌝ }
+        (buffersOf (now (spins .entry)) (now (labels .entry)) (now («grey_labels» .entry)) (now (counts .entry)) (now (sizes .entry))
+        (now (members .entry))) r
+        (buffersOf (now (spins .exit)) (now (labels .exit)) (now («grey_labels» .exit)) (now (counts .exit)) (now (sizes .exit))
+        (now (members .exit))) ⌝ }
 {
     let count = tasks::task_count(plan);
     let mut outcomes = Outcomes { idle: 0, moved: 0 };
@@ -156,6 +217,7 @@ pub fn run_tasks(
             grey_labels,
             counts,
             sizes,
+            members,
         );
         k += 1;
     }

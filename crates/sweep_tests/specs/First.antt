@@ -58,6 +58,7 @@ lengthsOf w b = record {
   «grey_labels» = length (b .greyLabels);
   counts = length (b .counts);
   sizes = length (b .sizes);
+  members = length (b .members);
 }
 
 abbrev pub ownLengths : Sweep → SweepLengths

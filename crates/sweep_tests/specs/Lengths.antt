@@ -2,7 +2,7 @@
 use mathlib.Core.Path.{_≡_}
 use Rattle.paper.specs.declared.Plan.{Plan}
 use Rattle.paper.specs.declared.Lengths.{Lengths}
-use Rattle.paper.specs.Panel.Takes.{drawsBonds, isGperm, isWolff}
+use Rattle.paper.specs.Panel.Takes.{drawsBonds, isGperm, oneCluster}
 use Rattle.paper.specs.Refusal.Rules.{When}
 use Rattle.tests.specs.Lengths.{FitsEach}
 use Rattle.tasks.specs.Plan.{tasksOf}
@@ -15,4 +15,4 @@ pub record Fitting (q : Plan) (l : Lengths) (o : SweepLengths) : Type 0 where
   pub masks : o .masks ≡ q .t
   pub temperatures : When (drawsBonds (q .mode)) (o .temperatures ≡ q .t)
   pub references : When (isGperm (q .mode)) (o .references ≡ tasksOf q)
-  pub seeds : When (isWolff (q .form)) (o .seeds ≡ tasksOf q)
+  pub seeds : When (oneCluster (q .form)) (o .seeds ≡ tasksOf q)

@@ -40,14 +40,15 @@ module _ (w : Sweep) (b : Buffers) where
           spins = e .spins;
           fwd = e .fwd;
           bwd = e .bwd;
-          labels = e .labels;
-          counts = e .counts;
-          sizes = e .sizes;
           couplings = e .couplings;
           cuts = e .cuts;
           choices = e .choices;
           greys = e .greys;
+          labels = e .labels;
           grey-labels = e .grey-labels;
+          counts = e .counts;
+          sizes = e .sizes;
+          members = e .members;
         };
     order = e .order;
     masks = e .masks;
@@ -74,6 +75,7 @@ module _ (w : Sweep) (b : Buffers) where
     grey-labels = a .grey-labels;
     counts = a .counts;
     sizes = a .sizes;
+    members = a .members;
   }
 
   -- a sweep whose numbers, or whose lengths, are refused

@@ -59,7 +59,7 @@ fn lengths_ok(plan: Plan, l: Lengths, o: SweepLengths) -> bool
         & (o.masks == t)
         & lattice::fits(mode.is_drawn(), o.temperatures, t)
         & lattice::fits(mode.is_gperm(), o.references, count)
-        & lattice::fits(form.is_wolff(), o.seeds, count)
+        & lattice::fits(form.one_cluster(), o.seeds, count)
 }
 
 fn test_panel(plan: Plan, spins: &[i8], fwd: &[u32], bwd: &[u32], order: &[u32]) -> u8
@@ -199,12 +199,14 @@ pub fn test_sweep(
     grey_labels: &[u32],
     counts: &[u32],
     sizes: &[u32],
+    members: &[u8],
 ) -> u8
     ensures { λ r. ⌜ Verdict (sweepRules
         (sweepOf plan (now (fwd .entry)) (now (bwd .entry)) (now (couplings .entry)) (now (order .entry)) (now (masks .entry))
         (now (temperatures .entry)) (now (cuts .entry)) (now (references .entry)) (now (seeds .entry))
         (now (choices .entry)) (now (greys .entry)))
-        (buffersOf (now (spins .entry)) (now (labels .entry)) (now («grey_labels» .entry)) (now (counts .entry)) (now (sizes .entry)))) r ⌝ }
+        (buffersOf (now (spins .entry)) (now (labels .entry)) (now («grey_labels» .entry)) (now (counts .entry)) (now (sizes .entry))
+        (now (members .entry)))) r ⌝ }
 {
     if !plan_ok(plan) {
         return 1;
@@ -221,6 +223,7 @@ pub fn test_sweep(
         grey_labels: grey_labels.len(),
         counts: counts.len(),
         sizes: sizes.len(),
+        members: members.len(),
     };
     let o = SweepLengths {
         order: order.len(),

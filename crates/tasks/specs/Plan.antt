@@ -11,7 +11,7 @@ use Rattle.paper.specs.declared.Group.{Group}
 use Rattle.paper.specs.declared.Plan.{Plan}
 use Rattle.paper.specs.declared.Task.{Task}
 use Rattle.paper.specs.declared.Form.{Form}
-use Rattle.paper.specs.declared.Form.the-variants.{Sw, Wolff, Observe}
+use Rattle.paper.specs.declared.Form.the-variants.{Sw, Wolff, Observe, Grow}
 use Rattle.paper.specs.Panel.Takes.{isPerm, entries, choiceBytes}
 use Rattle.paper.specs.Refusal.Rules.{Ranged}
 use Rattle.paper.specs.Answer.Task.{Sweep, tasks, masked, groupOf}
@@ -119,6 +119,7 @@ module _ (q : Plan) (h : Planned q) where
       go Sw = h .ranged .lattice .n-high
       go Wolff = omega arith
       go Observe = omega arith
+      go Grow = omega arith
 
   pub few-bonds : q .n * q .d ≤ 32768
   few-bonds = omega (arith, mul-le-mul (h .ranged .lattice .n-high) (h .ranged .lattice .d-high))

@@ -10,8 +10,8 @@ use Rattle.lemmas.specs.Tells.{Tells, Test, same, both}
 use Rattle.lemmas.specs.Bools.{never, and-left, and-right}
 use Rattle.paper.specs.declared.Task.{Task}
 use Rattle.paper.specs.declared.Form.{Form}
-use Rattle.paper.specs.declared.Form.the-variants.{Sw, Wolff, Observe}
-use Rattle.paper.specs.Panel.Takes.{isGperm, isWolff, flipsBy, permsBy, greysBy, entries}
+use Rattle.paper.specs.declared.Form.the-variants.{Sw, Wolff, Observe, Grow}
+use Rattle.paper.specs.Panel.Takes.{isGperm, oneCluster, flipsBy, permsBy, greysBy, entries}
 use Rattle.paper.specs.Refusal.Rules.{When, NotIdentity, Chosen}
 use Rattle.paper.specs.Panel.Made.{choicesOf}
 use Rattle.laws.specs.Choices.{flips-taken, perms-taken, flips-bytes, perms-bytes}
@@ -21,11 +21,13 @@ pub entries-few : (f : Form) (n : ℕ) → n ≤ 4096 → entries f n ≤ 4096
 entries-few Sw n h = h
 entries-few Wolff n h = omega arith
 entries-few Observe n h = omega arith
+entries-few Grow n h = omega arith
 
-pub entries-one : (f : Form) (n : ℕ) → isWolff f ≡ true → entries f n ≡ 1
+pub entries-one : (f : Form) (n : ℕ) → oneCluster f ≡ true → entries f n ≡ 1
 entries-one Sw n e = never e
 entries-one Wolff n e = refl
 entries-one Observe n e = never e
+entries-one Grow n e = refl
 
 -- the bytes of a buffer are those of its n entries
 module _ (xs : List ℕ) (n top : ℕ) (taken : Bool) (long : When taken (length xs ≡ n)) where
@@ -56,10 +58,10 @@ module _ (t : Task) (choices greys : List ℕ) (h : Long t choices greys) where
   abbrev byGreys : Bool
   byGreys = greysBy (t .mode) (t .form)
 
-  pub one-grey : When (byGreys && isWolff (t .form)) (1 ≤ length greys)
+  pub one-grey : When (byGreys && oneCluster (t .form)) (1 ≤ length greys)
   one-grey e =
-      let q = h .greys-long (and-left byGreys (isWolff (t .form)) e) in
-      let o = entries-one (t .form) (t .n) (and-right byGreys (isWolff (t .form)) e) in
+      let q = h .greys-long (and-left byGreys (oneCluster (t .form)) e) in
+      let o = entries-one (t .form) (t .n) (and-right byGreys (oneCluster (t .form)) e) in
       omega arith
 
   flips-long : When byFlips (length choices ≡ t .n)
@@ -68,17 +70,17 @@ module _ (t : Task) (choices greys : List ℕ) (h : Long t choices greys) where
   pub perms-long : When byPerms (length choices ≡ entries (t .form) (t .n) * t .group .len)
   perms-long e = h .choices-long (perms-taken (t .mode) (t .form) e) ∙ perms-bytes (t .mode) (t .form) (t .n) (t .group .len) e
 
-  one-row : When (byPerms && isWolff (t .form)) (length choices ≡ t .group .len)
+  one-row : When (byPerms && oneCluster (t .form)) (length choices ≡ t .group .len)
   one-row e =
-      let o = entries-one (t .form) (t .n) (and-right byPerms (isWolff (t .form)) e) in
-      perms-long (and-left byPerms (isWolff (t .form)) e) ∙ (ap (λ (x : ℕ). x * t .group .len) o ∙ one-mul (t .group .len))
+      let o = entries-one (t .form) (t .n) (and-right byPerms (oneCluster (t .form)) e) in
+      perms-long (and-left byPerms (oneCluster (t .form)) e) ∙ (ap (λ (x : ℕ). x * t .group .len) o ∙ one-mul (t .group .len))
 
   pub chosen-told : {a b e f i j : Bool}
       → Test a (When byPerms (PermRows (entries (t .form) (t .n)) (t .group .len) choices))
-      → Test b (When (byPerms && isWolff (t .form)) (RowMoves choices))
+      → Test b (When (byPerms && oneCluster (t .form)) (RowMoves choices))
       → Test e (When byFlips (AtMost choices 1))
       → Test f (When byGreys (AtMost greys 3))
-      → Test i (When (byGreys && isWolff (t .form)) (1 ≤ getD greys 0 0))
+      → Test i (When (byGreys && oneCluster (t .form)) (1 ≤ getD greys 0 0))
       → Test j (When (isGperm (t .mode)) (t .reference < t .n))
       → EveryCut t (λ c. Tells (((((a && b) && e) && f) && i) && j) (Chosen c (choicesOf choices greys)))
   chosen-told ta tb te tf ti tj cuts d s temperature fwd bwd couplings =
@@ -92,7 +94,7 @@ module _ (t : Task) (choices greys : List ℕ) (h : Long t choices greys) where
         reference = w .1;
       })
       (λ z. (((((z .perms, z .not-identity), z .flips), z .greys), z .grey-some), z .reference))
-      (both (both (both (both (both ta (row-test choices (t .group .len) (byPerms && isWolff (t .form)) one-row tb))
+      (both (both (both (both (both ta (row-test choices (t .group .len) (byPerms && oneCluster (t .form)) one-row tb))
       (entries-test choices (t .n) 1 byFlips flips-long te))
       (entries-test greys (entries (t .form) (t .n)) 3 byGreys (h .greys-long) tf)) ti) tj)
       .says

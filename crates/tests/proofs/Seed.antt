@@ -8,7 +8,7 @@ use native.Mathlib.Omega.{arith}
 use Rattle.lemmas.specs.Tells.{Tells}
 use Rattle.lemmas.specs.Bools.{never}
 use Rattle.paper.specs.declared.Task.{Task}
-use Rattle.paper.specs.Panel.Takes.{isWolff}
+use Rattle.paper.specs.Panel.Takes.{oneCluster}
 use Rattle.paper.specs.Site.Acting.{acts}
 use Rattle.paper.specs.Refusal.Rules.{Seeded}
 use Rattle.column_rules.specs.Laws.{SomeSite}
@@ -17,11 +17,11 @@ use Rattle.tests.specs.Choices.{EveryCut}
 
 module _ (t : Task) (xs : List ℤ) where
   -- no seed is taken
-  pub unseeded : isWolff (t .form) ≡ false → EveryCut t (λ c. Seeded c xs)
+  pub unseeded : oneCluster (t .form) ≡ false → EveryCut t (λ c. Seeded c xs)
   unseeded w cuts d s temperature fwd bwd couplings = record { below = λ e. never (sym w ∙ e); acting = λ e. never (sym w ∙ e) }
 
   -- it is no site
-  pub seed-past : isWolff (t .form) ≡ true → t .n ≤ t .seed → EveryCut t (λ c. Seeded c xs → ⊥)
+  pub seed-past : oneCluster (t .form) ≡ true → t .n ≤ t .seed → EveryCut t (λ c. Seeded c xs → ⊥)
   seed-past w l cuts d s temperature fwd bwd couplings h = let b = h .below w in omega arith
 
   -- it acts
@@ -31,7 +31,7 @@ module _ (t : Task) (xs : List ℤ) where
 
   -- it does not: then no site may
   pub seed-rests :
-      (r : Bool) → isWolff (t .form) ≡ true → t .seed < t .n
+      (r : Bool) → oneCluster (t .form) ≡ true → t .seed < t .n
       → actsAt (t .mode) (t .n) (t .group) (t .reference) xs (t .seed) ≡ false
       → Tells r (SomeSite (t .n) (actsAt (t .mode) (t .n) (t .group) (t .reference) xs))
       → EveryCut t (λ c. Tells (not r) (Seeded c xs))

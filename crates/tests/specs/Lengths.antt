@@ -7,7 +7,7 @@ use Rattle.lemmas.specs.Tells.{Tells, Test, said}
 use Rattle.paper.specs.declared.Mode.{Mode}
 use Rattle.paper.specs.declared.Form.{Form}
 use Rattle.paper.specs.declared.Lengths.{Lengths}
-use Rattle.paper.specs.Panel.Takes.{drawsBonds, choicesBy, greysBy, entries, choiceBytes}
+use Rattle.paper.specs.Panel.Takes.{growsBy, labelsBy, drawsBonds, choicesBy, greysBy, greyLabelsBy, entries, choiceBytes}
 use Rattle.paper.specs.Refusal.Rules.{When, Fits}
 
 -- numbers small enough for their products
@@ -23,14 +23,15 @@ pub record FitsEach (mode : Mode) (form : Form) (n d s m count : ℕ) (l : Lengt
   pub spins : l .spins ≡ s * n
   pub fwd : l .fwd ≡ n * d
   pub bwd : l .bwd ≡ n * d
-  pub labels : l .labels ≡ count * n
-  pub counts : l .counts ≡ count * (n + 1)
-  pub sizes : l .sizes ≡ count * 4
   pub couplings : When (drawsBonds mode) (l .couplings ≡ n * d)
   pub cuts : When (drawsBonds mode) (l .cuts ≡ count * (n * d))
   pub choices : When (choicesBy mode form) (l .choices ≡ count * choiceBytes mode form n m)
   pub greys : When (greysBy mode form) (l .greys ≡ count * entries form n)
-  pub grey-labels : When (greysBy mode form) (l .«grey_labels» ≡ count * n)
+  pub labels : When (labelsBy form) (l .labels ≡ count * n)
+  pub grey-labels : When (greyLabelsBy mode form) (l .«grey_labels» ≡ count * n)
+  pub counts : When (labelsBy form) (l .counts ≡ count * (n + 1))
+  pub sizes : When (labelsBy form) (l .sizes ≡ count * 4)
+  pub members : When (growsBy form) (l .members ≡ count * n)
 
 -- the test of a length that is asked only if its buffer is taken; and of all of them, by the number of tasks
 pub took : {r t t′ : Bool} {x y y′ : ℕ} → t ≡ t′ → y ≡ y′ → Tells r (When t (x ≡ y)) → Test r (When t′ (x ≡ y′))
@@ -52,10 +53,11 @@ module _ (mode : Mode) (form : Form) (n d s m : ℕ) (l : Lengths) where
     cuts = λ e. rw one-mul at (f .cuts e);
     choices = λ e. rw one-mul at (f .choices e);
     greys = λ e. rw one-mul at (f .greys e);
-    labels = rw one-mul at (f .labels);
+    labels = λ e. rw one-mul at (f .labels e);
     grey-labels = λ e. rw one-mul at (f .grey-labels e);
-    counts = rw one-mul at (f .counts);
-    sizes = rw one-mul at (f .sizes);
+    counts = λ e. rw one-mul at (f .counts e);
+    sizes = λ e. rw one-mul at (f .sizes e);
+    members = λ e. rw one-mul at (f .members e);
   }
 
   pub fits-one : Fits mode form n d s m l → FitsEach mode form n d s m 1 l
@@ -63,12 +65,13 @@ module _ (mode : Mode) (form : Form) (n d s m : ℕ) (l : Lengths) where
     spins = f .spins;
     fwd = f .fwd;
     bwd = f .bwd;
-    labels = rw one-mul (f .labels);
-    counts = rw one-mul (f .counts);
-    sizes = f .sizes;
     couplings = f .couplings;
     cuts = λ e. rw one-mul (f .cuts e);
     choices = λ e. rw one-mul (f .choices e);
     greys = λ e. rw one-mul (f .greys e);
+    labels = λ e. rw one-mul (f .labels e);
     grey-labels = λ e. rw one-mul (f .grey-labels e);
+    counts = λ e. rw one-mul (f .counts e);
+    sizes = f .sizes;
+    members = λ e. rw one-mul (f .members e);
   }

@@ -69,15 +69,15 @@ fn chosen_ok(t: Task, choices: &[u8], greys: &[u8]) -> bool
     let form = t.form;
     let group = t.group;
     let rows = form.entries(t.n);
-    let wolff = form.is_wolff();
+    let one = form.one_cluster();
     let by_flips = mode.takes_flips(form);
     let by_perms = mode.takes_perms(form);
     let by_greys = mode.takes_greys(form);
     perms_fit(by_perms, rows, group.len, choices)
-        & moved_fit(by_perms & wolff, choices)
+        & moved_fit(by_perms & one, choices)
         & bytes_fit(by_flips, choices, 1)
         & bytes_fit(by_greys, greys, 3)
-        & grey_fit(by_greys & wolff, greys)
+        & grey_fit(by_greys & one, greys)
         & (!mode.is_gperm() | (t.reference < t.n))
 }
 
@@ -91,7 +91,7 @@ fn seed_ok(t: Task, spins: &[i8]) -> bool
     let group = t.group;
     let n = t.n;
     let seed = t.seed;
-    if !form.is_wolff() {
+    if !form.one_cluster() {
         return true;
     }
     if n <= seed {

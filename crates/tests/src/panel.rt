@@ -30,17 +30,19 @@ pub fn lengths_ok(
     let choices = mode.takes_choices(form);
     let width = mode.choice_width(m);
     let greys = mode.takes_greys(form);
+    let grows = form.grows();
     (l.spins == s * n)
         & (l.fwd == bonds)
         & (l.bwd == bonds)
-        & (l.labels == sites)
-        & (l.counts == count * (n + 1))
-        & (l.sizes == count * 4)
         & lattice::fits(drawn, l.couplings, bonds)
         & lattice::fits(drawn, l.cuts, count * bonds)
         & lattice::fits(choices, l.choices, count * (rows * width))
         & lattice::fits(greys, l.greys, count * rows)
-        & lattice::fits(greys, l.grey_labels, sites)
+        & lattice::fits(!grows, l.labels, sites)
+        & lattice::fits(!grows & greys, l.grey_labels, sites)
+        & lattice::fits(!grows, l.counts, count * (n + 1))
+        & lattice::fits(!grows, l.sizes, count * 4)
+        & lattice::fits(grows, l.members, sites)
 }
 
 // The number of the first test that fails, or 0.

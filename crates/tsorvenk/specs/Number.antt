@@ -10,16 +10,16 @@ use Rattle.paper.specs.declared.Group.{Group}
 use Rattle.paper.specs.declared.Mode.{Mode}
 use Rattle.paper.specs.declared.Mode.the-variants.{Houd, Pair, Perm, Gperm, Jorg, Cmr}
 use Rattle.paper.specs.declared.Form.{Form}
-use Rattle.paper.specs.declared.Form.the-variants.{Sw, Wolff, Observe}
+use Rattle.paper.specs.declared.Form.the-variants.{Sw, Wolff, Observe, Grow}
 use Rattle.paper.specs.declared.Answer.{Answer}
 use Rattle.paper.specs.declared.Answer.the-variants.{Refused, Idle, Moved}
 use Rattle.paper.specs.Panel.Takes.{isPerm}
 use Rattle.paper.specs.Answer.Number.{number}
 
--- 0 houd, 1 pair, 2 perm, 3 gperm, 4 Jörg, 5 CMR; 0 SW, 1 Wolff, 2 observe
+-- 0 houd, 1 pair, 2 perm, 3 gperm, 4 Jörg, 5 CMR; 0 SW, 1 Wolff, 2 observe, 3 grow
 pub record Coded (mode form : ℕ) : Type 0 where
   pub mode-known : mode ≤ 5
-  pub form-known : form ≤ 2
+  pub form-known : form ≤ 3
 
 abbrev pub modeOf : ℕ → Mode
 modeOf zero = Houd
@@ -32,7 +32,8 @@ modeOf (suc (suc (suc (suc (suc k))))) = Cmr
 abbrev pub formOf : ℕ → Form
 formOf zero = Sw
 formOf (suc zero) = Wolff
-formOf (suc (suc k)) = Observe
+formOf (suc (suc zero)) = Observe
+formOf (suc (suc (suc k))) = Grow
 
 -- as many systems as are lent. A group has room for eight; more are refused for their number
 abbrev pub groupOf : List ℕ → Group
@@ -62,9 +63,9 @@ valuesTo (v ∷ vs) xs = v ∷ vs
 -- ---- laws
 
 pub coded : (mode form : ℕ) → Dec (Coded mode form)
-coded mode form = go (decLe mode 5) (decLe form 2)
+coded mode form = go (decLe mode 5) (decLe form 3)
   where
-    go : Dec (mode ≤ 5) → Dec (form ≤ 2) → Dec (Coded mode form)
+    go : Dec (mode ≤ 5) → Dec (form ≤ 3) → Dec (Coded mode form)
     go (yes m) (yes f) = yes (record { mode-known = m; form-known = f })
     go (yes m) (no f) = no (λ k. f (k .form-known))
     go (no m) f = no (λ k. m (k .mode-known))

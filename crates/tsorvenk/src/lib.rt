@@ -15,11 +15,12 @@ use paper::Task;
 ghost use mathlib.Core.Path.{_≡_};
 ghost use Prim.Native.Nat.{_≤_};
 ghost use lib.ListN.{getD};
+ghost use Rattle.lemmas.specs.Tells.{Tells};
 ghost use Rattle.label.specs.Entry.{labellingNumber};
 ghost use Rattle.meter.specs.Part.{latticeOf};
 ghost use Rattle.paper.specs.Panel.Made.{callOf, choicesOf, buffersOf};
 ghost use Rattle.steps.specs.Rule.{taskOf};
-ghost use Rattle.tsorvenk.specs.Number.{modeOf, formOf, groupOf, takenOf, numberOf};
+ghost use Rattle.tsorvenk.specs.Number.{Coded, modeOf, formOf, groupOf, takenOf, numberOf};
 ghost use Rattle.tsorvenk.specs.Step.{StepAnswers};
 ghost use Rattle.tsorvenk.specs.Energy.{EnergyAnswers};
 ghost use Rattle.tsorvenk.specs.Label.{LabelAnswers};
@@ -39,14 +40,22 @@ fn mode_of(code: u8) -> Mode
 }
 
 fn form_of(code: u8) -> Form
-    requires { ⌜ code ≤ 2 ⌝ }
+    requires { ⌜ code ≤ 3 ⌝ }
     ensures { λ r. ⌜ r ≡ formOf code ⌝ }
 {
     match code {
         0 => Form::Sw,
         1 => Form::Wolff,
-        _ => Form::Observe,
+        2 => Form::Observe,
+        _ => Form::Grow,
     }
+}
+
+// The codes are of a mode and a form.
+fn codes_ok(mode: u8, form: u8) -> bool
+    ensures { λ r. ⌜ Tells r (Coded mode form) ⌝ }
+{
+    (mode <= 5) & (form <= 3)
 }
 
 fn system_at(group: &[u32], k: usize) -> usize
@@ -115,19 +124,19 @@ pub extern "C" fn tsorvenk_step<'a>(
     grey_labels: &mut [u32],
     counts: &mut [u32],
     sizes: &mut [u32],
+    member_sites: &mut [u8],
 ) -> u8
     ensures { λ r. ⌜ StepAnswers mode form
         (callOf (taskOf (modeOf mode) (formOf form) n d s (groupOf (now (group .entry))) temperature reference seed)
         (now (fwd .entry)) (now (bwd .entry)) (now (couplings .entry)) (now (cuts .entry)))
         (choicesOf (takenOf (modeOf mode) (now (flips .entry)) (now (perms .entry))) (now (greys .entry)))
-        (buffersOf (now (spins .entry)) (now (labels .entry)) (now («grey_labels» .entry)) (now (counts .entry)) (now (sizes .entry)))
+        (buffersOf (now (spins .entry)) (now (labels .entry)) (now («grey_labels» .entry)) (now (counts .entry)) (now (sizes .entry))
+        (now («member_sites» .entry)))
         r
-        (buffersOf (now (spins .exit)) (now (labels .exit)) (now («grey_labels» .exit)) (now (counts .exit)) (now (sizes .exit))) ⌝ }
+        (buffersOf (now (spins .exit)) (now (labels .exit)) (now («grey_labels» .exit)) (now (counts .exit)) (now (sizes .exit))
+        (now («member_sites» .exit))) ⌝ }
 {
-    if 5 < mode {
-        return 1;
-    }
-    if 2 < form {
+    if !codes_ok(mode, form) {
         return 1;
     }
     let m = mode_of(mode);
@@ -155,6 +164,7 @@ pub extern "C" fn tsorvenk_step<'a>(
         grey_labels,
         counts,
         sizes,
+        member_sites,
     );
     number_of(answer)
 }

@@ -1,4 +1,5 @@
 // A sweep, as C and Rust call it.
+use super::codes_ok;
 use super::form_of;
 use super::mode_of;
 use super::taken;
@@ -66,22 +67,20 @@ pub extern "C" fn tsorvenk_sweep<'a>(
     grey_labels: &mut [u32],
     counts: &mut [u32],
     sizes: &mut [u32],
+    member_sites: &mut [u8],
     outcomes: &mut [u32],
 ) -> u8
     ensures { λ k. ⌜ SweepNumbers mode form
         (sweepOf (planFor (modeOf mode) (formOf form) n d s t r members) (now (fwd .entry)) (now (bwd .entry)) (now (couplings .entry)) (now (order .entry))
         (now (masks .entry)) (now (temperatures .entry)) (now (cuts .entry)) (now (references .entry)) (now (seeds .entry))
         (takenOf (modeOf mode) (now (flips .entry)) (now (perms .entry))) (now (greys .entry)))
-        (withOutcomes (buffersOf (now (spins .entry)) (now (labels .entry)) (now («grey_labels» .entry)) (now (counts .entry)) (now (sizes .entry)))
-        (now (outcomes .entry)))
+        (withOutcomes (buffersOf (now (spins .entry)) (now (labels .entry)) (now («grey_labels» .entry)) (now (counts .entry)) (now (sizes .entry))
+        (now («member_sites» .entry))) (now (outcomes .entry)))
         k
-        (withOutcomes (buffersOf (now (spins .exit)) (now (labels .exit)) (now («grey_labels» .exit)) (now (counts .exit)) (now (sizes .exit)))
-        (now (outcomes .exit))) ⌝ }
+        (withOutcomes (buffersOf (now (spins .exit)) (now (labels .exit)) (now («grey_labels» .exit)) (now (counts .exit)) (now (sizes .exit))
+        (now («member_sites» .exit))) (now (outcomes .exit))) ⌝ }
 {
-    if 5 < mode {
-        return 1;
-    }
-    if 2 < form {
+    if !codes_ok(mode, form) {
         return 1;
     }
     let m = mode_of(mode);
@@ -116,6 +115,7 @@ pub extern "C" fn tsorvenk_sweep<'a>(
         grey_labels,
         counts,
         sizes,
+        member_sites,
     );
     tell(answer, outcomes)
 }

@@ -41,13 +41,22 @@ pub enum Form {
     Sw = 0,
     Wolff = 1,
     Observe = 2,
+    Grow = 3,
 }
 
 impl Form {
-    pub const ALL: [Form; 3] = [Form::Sw, Form::Wolff, Form::Observe];
+    pub const ALL: [Form; 4] = [Form::Sw, Form::Wolff, Form::Observe, Form::Grow];
+
+    /// Those that write labels, counts and sizes; `Grow` writes the member sites instead.
+    pub const LABELLED: [Form; 3] = [Form::Sw, Form::Wolff, Form::Observe];
 
     pub fn name(self) -> &'static str {
-        ["SW", "Wolff", "observe"][self as usize]
+        ["SW", "Wolff", "observe", "grow"][self as usize]
+    }
+
+    /// Moves the component of a seed.
+    pub fn one_cluster(self) -> bool {
+        matches!(self, Form::Wolff | Form::Grow)
     }
 }
 
@@ -93,6 +102,7 @@ pub struct Step<'a> {
     pub grey_labels: &'a mut [u32],
     pub counts: &'a mut [u32],
     pub sizes: &'a mut [u32],
+    pub member_sites: &'a mut [u8],
 }
 
 /// One sweep. Task `j * (r / members) + g` has its areas at that number; a mask byte of 1 masks its temperature.
@@ -122,6 +132,7 @@ pub struct Sweep<'a> {
     pub grey_labels: &'a mut [u32],
     pub counts: &'a mut [u32],
     pub sizes: &'a mut [u32],
+    pub member_sites: &'a mut [u8],
 }
 
 /// The energy of one system.

@@ -10,6 +10,10 @@ impl Sweeper {
         panic!("{ABSENT}")
     }
 
+    pub fn pin(&mut self, _reference: usize, _seed: usize) {
+        panic!("{ABSENT}")
+    }
+
     pub fn run(&mut self, _spins: &mut [i8]) {
         panic!("{ABSENT}")
     }

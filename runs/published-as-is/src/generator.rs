@@ -16,16 +16,25 @@ impl Xoshiro256StarStar {
         }))
     }
 
-    /// A state whose next word is the given one.
-    #[cfg(test)]
-    pub fn before(word: u64) -> Self {
+    /// A state whose next words are the given ones.
+    pub fn before(words: [u64; 3]) -> Self {
         let inverse = |odd: u64| {
             (0..6).fold(odd, |x, _| {
                 x.wrapping_mul(2u64.wrapping_sub(odd.wrapping_mul(x)))
             })
         };
-        let second = word.wrapping_mul(inverse(9)).rotate_right(7);
-        Self([1, second.wrapping_mul(inverse(5)), 1, 1])
+        // each word is made of the second number of its state, and that of the one before
+        let [now, next, last] = words.map(|word| {
+            let turned = word.wrapping_mul(inverse(9)).rotate_right(7);
+            turned.wrapping_mul(inverse(5))
+        });
+        let both = now ^ next; // the third number, after the first is added to it
+        Self([1, now, both ^ 1, last ^ next ^ both ^ (now << 17) ^ now ^ 1])
+    }
+
+    /// A word that `gen_range(0..end)` makes this number of.
+    pub fn word_for(number: usize, end: usize) -> u64 {
+        ((number as u128) << 64).div_ceil(end as u128) as u64
     }
 
     #[inline]

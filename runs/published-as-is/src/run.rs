@@ -57,6 +57,16 @@ impl Sweeper {
         }
     }
 
+    /// Of one group of two systems: the next run leaves them in their order and draws these sites, gperm's reference and the seed.
+    pub fn pin(&mut self, reference: usize, seed: usize) {
+        let word = |site: usize| Xoshiro256StarStar::word_for(site, self.lattice.n_spins);
+        let (reference, seed) = (word(reference), word(seed));
+        self.sources[0] = Xoshiro256StarStar::before(match self.build_mode {
+            OverlapClusterBuildMode::GaugedPerm(_) => [u64::MAX, reference, seed],
+            _ => [u64::MAX, seed, 0],
+        });
+    }
+
     pub fn run(&mut self, spins: &mut [i8]) {
         let outputs = self.outputs;
         overlap_update(
@@ -71,7 +81,7 @@ impl Sweeper {
             &mut self.sources,
             &self.build_mode,
             match self.form {
-                Form::Wolff => ClusterMode::Wolff,
+                Form::Wolff | Form::Grow => ClusterMode::Wolff,
                 _ => ClusterMode::Sw,
             },
             match self.form {

@@ -169,7 +169,7 @@ impl Prepared {
             &mut self.sources,
             &build_mode,
             match self.form {
-                Form::Wolff => ClusterMode::Wolff,
+                Form::Wolff | Form::Grow => ClusterMode::Wolff,
                 _ => ClusterMode::Sw,
             },
             match self.form {
@@ -185,6 +185,30 @@ impl Prepared {
             None,
             None,
         );
+    }
+
+    /// The member sites of every task, in the port's layout: those that change on a copy of the spins, with a choice that leaves no site of a cluster
+    /// as it is. That is the rotation by one place wherever a site acts, and the grey number 1: it turns one spin of every site, in the blue cluster,
+    /// whose sites are flipped before, the second and elsewhere the first.
+    fn write_members(&mut self, call: &mut Sweep, sequential: bool) {
+        let lent = self.sources.clone();
+        let rotation: Vec<u8> = (1..call.members as u8).chain([0]).collect();
+        for source in self.sources.iter_mut() {
+            source.greys.fill(1);
+            if call.mode.permutes() {
+                source.perms.clone_from(&rotation);
+            }
+        }
+        let mut spins = call.spins.to_vec();
+        self.run(&mut spins, sequential);
+        self.sources = lent;
+        for (task, _) in self.unmasked() {
+            let members = self.changed(call, task, &spins);
+            let area = &mut call.member_sites[task * call.n..(task + 1) * call.n];
+            for (to, member) in area.iter_mut().zip(members) {
+                *to = u8::from(member);
+            }
+        }
     }
 
     /// The outputs in the port's layout, labels renamed to smallest sites. Masked areas stay as they are.
@@ -218,7 +242,7 @@ fn by_turn(call: &Sweep, task: usize) -> Xoshiro256StarStar {
     if call.mode == Mode::Gperm {
         source.sites.push(call.references[task] as usize);
     }
-    if call.form == Form::Wolff {
+    if call.form.one_cluster() {
         source.sites.push(call.seeds[task] as usize);
         if call.mode.permutes() {
             let at = task * call.members;
@@ -253,16 +277,19 @@ fn copy(to: &mut [u32], labels: &[usize]) {
     }
 }
 
-/// Runs a sweep that document 01 accepts. In the one-cluster form the answer says which tasks found no acting site,
-/// by task number; a seed that acts is found at its first probe.
+/// Runs a sweep that document 01 accepts. In the one-cluster forms the answer says which tasks found no acting site,
+/// by task number; a seed that acts is found at its first probe. The form that grows is the depth-first branch.
 pub fn sweep(mut call: Sweep, branch: Branch, sequential: bool) -> Vec<bool> {
     let mut prepared = Prepared::new(&call, branch);
+    if call.form == Form::Grow {
+        prepared.write_members(&mut call, sequential);
+    }
     prepared.run(call.spins, sequential);
     let mut none_acts = vec![false; call.t * (call.r / call.members)];
     for (task, slot) in prepared.unmasked() {
         let source = &prepared.sources[slot];
         let probes = source.taken.sites - usize::from(call.mode == Mode::Gperm);
-        none_acts[task] = call.form == Form::Wolff && call.mode != Mode::Cmr && probes == 64;
+        none_acts[task] = call.form.one_cluster() && call.mode != Mode::Cmr && probes == 64;
         assert!(
             none_acts[task] || source.used_up(call.members),
             "the Rust left a lent choice"
@@ -302,6 +329,7 @@ fn with_sweep<T>(call: Step, run: impl FnOnce(Sweep) -> T) -> T {
         grey_labels: call.grey_labels,
         counts: call.counts,
         sizes: call.sizes,
+        member_sites: call.member_sites,
     })
 }
 
@@ -325,6 +353,7 @@ pub fn active(call: &Step) -> Vec<bool> {
                 grey_labels: &mut [],
                 counts: &mut [],
                 sizes: &mut [],
+                member_sites: &mut [],
                 ..*call
             };
             !step(probe, Branch::DepthFirst)

@@ -2,7 +2,8 @@
 //!
 //! `cases` is the number of random single moves, and of sweeps, for each mode and form (default 2000). Each is also
 //! damaged; damaged calls go to the model and the port alone, since the Rust checks nothing. Before them come all single
-//! moves of those small shapes that have at most 100 times as many, and no more than 200000.
+//! moves of those small shapes that have at most 100 times as many, and no more than 200000. A call that grows is also held
+//! to Wolff's call with the same seed, cuts and choices, damaged or not.
 use calls::{Form, Mode, Port};
 use std::process::ExitCode;
 use tsorvenk_runs::compare::{self, keep, Found, Line};
@@ -78,7 +79,7 @@ impl Run {
 
 fn print(mode: Mode, form: Form, line: &Line) {
     println!(
-        "{:5} {:7} singles {:6} (all small: {:6}) sweeps {:6} | Rust: labelled {:6} depth first {:6} acting sites {:6} | odd N {:5} idle {:6} | port {:6} | damaged {:6} refused {:?} | differences {}",
+        "{:5} {:7} singles {:6} (all small: {:6}) sweeps {:6} | Rust: labelled {:6} depth first {:6} acting sites {:6} | beside Wolff {:6} | odd N {:5} idle {:6} | port {:6} | damaged {:6} refused {:?} | differences {}",
         mode.name(),
         form.name(),
         line.singles,
@@ -87,6 +88,7 @@ fn print(mode: Mode, form: Form, line: &Line) {
         line.union_find,
         line.depth_first,
         line.acting,
+        line.wolff,
         line.odd,
         line.idle,
         line.port,

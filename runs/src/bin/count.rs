@@ -2,10 +2,14 @@
 //!
 //! A fixed sweep of each mode and form, n = 4096, D = 2, N = 2, t = 8, r = 8, runs twice and twelve times; a tenth of the
 //! difference is one call. Counts do not depend on what else the machine does.
-use calls::{Form, Mode};
+//!
+//! Then a call that grows a cluster of ten sites, at n = 256 and n = 4096. Its tests are the same call refused by the last of
+//! them. What clearing the members takes is an idle call less one that is refused with 10, both after a look at every site.
+use calls::{Answer, Form, Mode};
 use published_as_is::Sweeper;
 use std::env;
 use std::process::Command;
+use tsorvenk_runs::case::Single;
 use tsorvenk_runs::port;
 use tsorvenk_runs::rand::Rand;
 use tsorvenk_runs::timing;
@@ -25,7 +29,7 @@ fn run(side: &str, mode: Mode, form: Form, times: usize) {
         });
         return;
     }
-    let mut sweeper = Sweeper::new(&case.sweep(&mut lent), true);
+    let mut sweeper = Sweeper::new(&case.sweep(&mut lent), form != Form::Grow);
     let mut spins = case.lent.spins.clone();
     (0..times).for_each(|_| {
         spins.copy_from_slice(&case.lent.spins);
@@ -33,13 +37,63 @@ fn run(side: &str, mode: Mode, form: Form, times: usize) {
     });
 }
 
+/// Two systems on a square that differ in five by two sites; bonds that are drawn hold there alone.
+fn ten(mode: Mode, n: usize) -> Single {
+    let mut rand = Rand::new(1);
+    let side = n.isqrt();
+    let inside = |site: usize| (3..8).contains(&(site % side)) && (3..5).contains(&(site / side));
+    let mut panel = timing::panel_of(&mut rand, mode, Form::Grow, n, 2, 2);
+    panel.couplings = (0..2 * n)
+        .map(|bond| i32::from(inside(bond / 2) && inside(panel.fwd[bond] as usize)))
+        .collect();
+    let differ = |at: usize| mode != Mode::Cmr && at >= n && inside(at - n);
+    let spins = (0..2 * n).map(|at| if differ(at) { -1 } else { 1 });
+    let mut case = timing::single_on(&mut rand, panel, 2, spins.collect());
+    case.temperature = 0.01;
+    case.seed = 3 + 3 * side;
+    case
+}
+
+/// The call and what it must answer: that of ten sites, the same refused by its last test, and in pair, whose tests come to a
+/// look at every site where the seed does not act, one that is idle and one whose last site alone acts.
+fn part(what: &str, mode: Mode, n: usize) -> (Single, Answer) {
+    let mut case = ten(mode, n);
+    let answer = match what {
+        "grown" => Answer::Moved,
+        "refused" => {
+            case.seed = n;
+            Answer::Refused(10)
+        }
+        _ => {
+            case = ten(Mode::Pair, n);
+            case.lent.spins.fill(1);
+            Answer::Idle
+        }
+    };
+    if what == "scanned" {
+        case.lent.spins[2 * n - 1] = -1;
+        return (case, Answer::Refused(10));
+    }
+    (case, answer)
+}
+
+fn run_part(what: &str, mode: Mode, n: usize, times: usize) {
+    let (case, answer) = part(what, mode, n);
+    let mut lent = case.lent.clone();
+    let mut port = port::linked().expect("the port is linked");
+    (0..times).for_each(|_| {
+        lent.spins.copy_from_slice(&case.lent.spins);
+        assert_eq!(port.step(case.step(&mut lent)), answer);
+    });
+}
+
 /// The total that callgrind prints at the end of its summary.
-fn instructions(side: &str, mode: Mode, form: Form, times: usize) -> f64 {
-    let (mode, form) = ((mode as u8).to_string(), (form as u8).to_string());
+fn instructions(words: &[&str], times: usize) -> f64 {
     let output = Command::new("valgrind")
         .args(["--tool=callgrind", "--callgrind-out-file=/dev/null"])
         .arg(env::current_exe().unwrap())
-        .args([side, &mode, &form, &times.to_string()])
+        .args(words)
+        .arg(times.to_string())
         .output()
         .expect("valgrind is installed");
     let text = String::from_utf8_lossy(&output.stderr).into_owned();
@@ -50,30 +104,77 @@ fn instructions(side: &str, mode: Mode, form: Form, times: usize) -> f64 {
     total.unwrap_or_else(|| panic!("no count in {text}"))
 }
 
-fn one_call(side: &str, mode: Mode, form: Form) -> f64 {
-    let few = instructions(side, mode, form, FEW);
-    (instructions(side, mode, form, MORE) - few) / (MORE - FEW) as f64
+fn one_call(words: &[&str]) -> f64 {
+    (instructions(words, MORE) - instructions(words, FEW)) / (MORE - FEW) as f64
 }
 
-fn main() {
-    let words: Vec<String> = env::args().skip(1).collect();
-    if let [side, mode, form, times] = words.as_slice() {
-        let number = |word: &String| word.parse::<usize>().expect("a number");
-        let (mode, form) = (Mode::ALL[number(mode)], Form::ALL[number(form)]);
-        return run(side, mode, form, number(times));
-    }
-    if port::linked().is_none() || !published_as_is::PRESENT {
-        println!("left out: the port or the published Rust was not found when this was built");
-        return;
-    }
+fn sweeps() {
     for mode in Mode::ALL {
         for form in Form::ALL {
-            let (port, rust) = (one_call("port", mode, form), one_call("rust", mode, form));
+            let [m, f] = [mode as usize, form as usize].map(|number| number.to_string());
+            let (port, rust) = (one_call(&["port", &m, &f]), one_call(&["rust", &m, &f]));
             let name = format!("{} {}", mode.name(), form.name());
             println!(
                 "{name:14} port {port:12.0} | Rust {rust:12.0} ({:4.2})",
                 port / rust
             );
+        }
+    }
+}
+
+/// The growth of ten sites, with tests and clearing taken out.
+fn growth(mode: Mode, n: usize) -> f64 {
+    let (m, size) = ((mode as usize).to_string(), n.to_string());
+    let of = |what: &str| one_call(&[what, &m, &size]);
+    let (grown, tests) = (of("grown"), of("refused"));
+    let clearing = of("idle") - of("scanned");
+    let growth = grown - tests - clearing;
+    println!(
+        "{:6} n = {n:4} call {grown:8.0} = tests {tests:8.0} + clearing {clearing:6.0} + growth {growth:6.0}",
+        mode.name()
+    );
+    growth
+}
+
+fn growths() {
+    println!("ten sites grown, D = 2, N = 2");
+    for mode in Mode::ALL {
+        let (small, large) = (growth(mode, 256), growth(mode, 4096));
+        println!("{:6} {:+.1} %", mode.name(), 100.0 * (large / small - 1.0));
+    }
+}
+
+fn main() {
+    let words: Vec<String> = env::args().skip(1).collect();
+    let number = |word: &String| word.parse::<usize>().expect("a number");
+    if let [what, mode, last, times] = words.as_slice() {
+        let (mode, last, times) = (Mode::ALL[number(mode)], number(last), number(times));
+        return match what.as_str() {
+            "port" | "rust" => run(what, mode, Form::ALL[last], times),
+            _ => run_part(what, mode, last, times),
+        };
+    }
+    if port::linked().is_none() || !published_as_is::PRESENT {
+        println!("left out: the port or the published Rust was not found when this was built");
+        return;
+    }
+    if words != ["growths"] {
+        sweeps();
+    }
+    growths();
+}
+
+#[test]
+fn the_parts_are_what_they_are_said_to_be() {
+    for mode in Mode::ALL {
+        for n in [256, 4096] {
+            for what in ["grown", "refused", "idle", "scanned"] {
+                let (case, answer) = part(what, mode, n);
+                let (found, lent) = case.run(&mut tsorvenk_runs::model::Model);
+                assert_eq!(found, answer, "{mode:?} {n} {what}");
+                let members: usize = lent.member_sites.iter().map(|&b| usize::from(b)).sum();
+                assert_eq!(members, if what == "grown" { 10 } else { 0 });
+            }
         }
     }
 }

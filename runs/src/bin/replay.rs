@@ -78,6 +78,7 @@ fn tidy(case: &mut Swept) {
     ] {
         output.fill(UNTOUCHED);
     }
+    lent.member_sites.clear();
 }
 
 /// The acting sites of each unmasked task, as the Rust's own seed search finds them; in CMR every site.
@@ -210,7 +211,7 @@ fn make() -> ExitCode {
     }
     let mut entries = Vec::new();
     for mode in Mode::ALL {
-        for form in Form::ALL {
+        for form in Form::LABELLED {
             let mut rand = Rand::of(&[7, mode as u64, form as u64]);
             entries.extend(sample(&mut rand, mode, form, true, SINGLES));
             entries.extend(sample(&mut rand, mode, form, false, SWEEPS));

@@ -60,28 +60,36 @@ pub fn jorg_strength(panel: Panel, task: &Task, i: usize, j: usize, coupling: i6
     coupling * sum
 }
 
-/// For every bond whether it holds; in CMR the blue bonds, or with `grey` the blue and the red ones.
+/// Whether one bond holds; in CMR whether it is blue, or with `grey` blue or red.
+pub fn holds(
+    panel: Panel,
+    task: &Task,
+    grey: bool,
+    bond: usize,
+    acts: impl Fn(usize) -> bool,
+) -> bool {
+    let (i, j) = (bond / panel.d, panel.fwd[bond] as usize);
+    let both_act = acts(i) && acts(j);
+    match task.mode {
+        Mode::Houd | Mode::Pair | Mode::Perm | Mode::Gperm => both_act,
+        Mode::Jorg => {
+            let coupling = i64::from(task.couplings[bond]);
+            let strength = jorg_strength(panel, task, i, j, coupling);
+            let scale = 4.0 / task.temperature;
+            both_act && strength > 0 && drawn(scale, strength, task.cuts[bond])
+        }
+        Mode::Cmr => match cmr_kind(panel, task, i, j, i64::from(task.couplings[bond])) {
+            Kind::None => false,
+            Kind::Blue(strength) => drawn(4.0 / task.temperature, strength, task.cuts[bond]),
+            Kind::Red(strength) => grey && drawn(2.0 / task.temperature, strength, task.cuts[bond]),
+        },
+    }
+}
+
+/// The same of every bond.
 pub fn holding(panel: Panel, task: &Task, grey: bool) -> Vec<bool> {
     let acting: Vec<bool> = (0..panel.n).map(|i| acts(panel, task, i)).collect();
-    let holds = |bond: usize| {
-        let (i, j) = (bond / panel.d, panel.fwd[bond] as usize);
-        let both_act = acting[i] && acting[j];
-        match task.mode {
-            Mode::Houd | Mode::Pair | Mode::Perm | Mode::Gperm => both_act,
-            Mode::Jorg => {
-                let coupling = i64::from(task.couplings[bond]);
-                let strength = jorg_strength(panel, task, i, j, coupling);
-                let scale = 4.0 / task.temperature;
-                both_act && strength > 0 && drawn(scale, strength, task.cuts[bond])
-            }
-            Mode::Cmr => match cmr_kind(panel, task, i, j, i64::from(task.couplings[bond])) {
-                Kind::None => false,
-                Kind::Blue(strength) => drawn(4.0 / task.temperature, strength, task.cuts[bond]),
-                Kind::Red(strength) => {
-                    grey && drawn(2.0 / task.temperature, strength, task.cuts[bond])
-                }
-            },
-        }
-    };
-    (0..panel.n * panel.d).map(holds).collect()
+    (0..panel.n * panel.d)
+        .map(|bond| holds(panel, task, grey, bond, |i| acting[i]))
+        .collect()
 }

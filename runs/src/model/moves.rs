@@ -1,4 +1,4 @@
-//! What moves.
+//! What moves in the forms that label; the form that grows is in grow.rs.
 use super::bonds::{acts, column, holding};
 use super::components::{component_sizes, labels};
 use super::{Panel, Task};
@@ -15,7 +15,7 @@ pub struct Outcome {
 }
 
 /// One site's flip: houd and blue negate whole pairs, pair and Jörg exchange each pair's spins.
-fn flip(mode: Mode, spins: &mut [i8]) {
+pub fn flip(mode: Mode, spins: &mut [i8]) {
     for pair in spins.chunks_exact_mut(2) {
         match mode {
             Mode::Houd | Mode::Cmr => pair.iter_mut().for_each(|spin| *spin = -*spin),
@@ -31,6 +31,7 @@ fn flip_chosen(task: &Task, of: &Components, i: usize) -> bool {
         Form::Sw => of.sizes[label] >= 2 && task.flips[label] == 1,
         Form::Wolff => label == of.labels[task.seed],
         Form::Observe => false,
+        Form::Grow => unreachable!("it labels nothing"),
     }
 }
 
@@ -41,6 +42,7 @@ fn permutation<'a>(task: &Task<'a>, of: &Components, i: usize) -> Option<&'a [u8
         Form::Sw => Some(&task.perms[label * members..(label + 1) * members]),
         Form::Wolff => (label == of.labels[task.seed]).then_some(task.perms),
         Form::Observe => None,
+        Form::Grow => unreachable!("it labels nothing"),
     }
 }
 
@@ -76,21 +78,35 @@ fn flipped(panel: Panel, task: &Task, first: &Components, i: usize) -> Vec<i8> {
     spins
 }
 
-/// Site i's spins after the permutation of its component, if it acts and one is chosen.
-fn permuted(panel: Panel, task: &Task, first: &Components, i: usize) -> Vec<i8> {
+/// Site i's spins after a permutation: replica k gets what replica p(k) had, in gperm of the gauged spins.
+pub fn permuted_by(panel: Panel, task: &Task, p: &[u8], i: usize) -> Vec<i8> {
     let old = column(panel, &task.group, i);
     let pattern = match task.mode {
         Mode::Gperm => column(panel, &task.group, task.reference),
         _ => vec![1; old.len()],
     };
+    (0..old.len())
+        .map(|k| {
+            let from = usize::from(p[k]);
+            pattern[k] * pattern[from] * old[from]
+        })
+        .collect()
+}
+
+/// Site i's spins after the permutation of its component, if it acts and one is chosen.
+fn permuted(panel: Panel, task: &Task, first: &Components, i: usize) -> Vec<i8> {
     match permutation(task, first, i) {
-        Some(p) if acts(panel, task, i) => (0..old.len())
-            .map(|k| {
-                let from = usize::from(p[k]);
-                pattern[k] * pattern[from] * old[from]
-            })
-            .collect(),
-        _ => old,
+        Some(p) if acts(panel, task, i) => permuted_by(panel, task, p, i),
+        _ => column(panel, &task.group, i),
+    }
+}
+
+/// Bit k of a grey number negates replica k.
+pub fn negate_bits(number: u8, spins: &mut [i8]) {
+    for (k, spin) in spins.iter_mut().enumerate() {
+        if number >> k & 1 == 1 {
+            *spin = -*spin;
+        }
     }
 }
 
@@ -103,12 +119,7 @@ fn recoloured(
     i: usize,
 ) -> Vec<i8> {
     let mut spins = flipped(panel, task, blue, i);
-    let number = grey_number(task, grey, i);
-    for (k, spin) in spins.iter_mut().enumerate() {
-        if number >> k & 1 == 1 {
-            *spin = -*spin;
-        }
-    }
+    negate_bits(grey_number(task, grey, i), &mut spins);
     spins
 }
 

@@ -72,10 +72,11 @@ pub struct Lengths {
     pub flips: Option<usize>,
     pub perms: Option<usize>,
     pub greys: Option<usize>,
-    pub labels: usize,
+    pub labels: Option<usize>,
     pub grey_labels: Option<usize>,
-    pub counts: usize,
-    pub sizes: usize,
+    pub counts: Option<usize>,
+    pub sizes: Option<usize>,
+    pub member_sites: Option<usize>,
 }
 
 pub fn lengths(
@@ -86,28 +87,30 @@ pub fn lengths(
     members: usize,
     tasks: usize,
 ) -> Lengths {
-    let (sw, wolff) = (form == Form::Sw, form == Form::Wolff);
+    let (sw, one, grow) = (form == Form::Sw, form.one_cluster(), form == Form::Grow);
     let cmr = mode == Mode::Cmr;
+    let labelled = |length: usize| (!grow).then_some(tasks * length);
     Lengths {
         couplings: mode.draws().then_some(n * d),
         cuts: mode.draws().then_some(tasks * n * d),
         references: (mode == Mode::Gperm).then_some(tasks),
-        seeds: wolff.then_some(tasks),
+        seeds: one.then_some(tasks),
         flips: (sw && !mode.permutes()).then_some(tasks * n),
         perms: match (mode.permutes(), form) {
             (true, Form::Sw) => Some(tasks * n * members),
-            (true, Form::Wolff) => Some(tasks * members),
+            (true, Form::Wolff | Form::Grow) => Some(tasks * members),
             _ => None,
         },
         greys: match (cmr, form) {
             (true, Form::Sw) => Some(tasks * n),
-            (true, Form::Wolff) => Some(tasks),
+            (true, Form::Wolff | Form::Grow) => Some(tasks),
             _ => None,
         },
-        labels: tasks * n,
-        grey_labels: (cmr && (sw || wolff)).then_some(tasks * n),
-        counts: tasks * (n + 1),
-        sizes: tasks * 4,
+        labels: labelled(n),
+        grey_labels: labelled(n).filter(|_| cmr && (sw || one)),
+        counts: labelled(n + 1),
+        sizes: labelled(4),
+        member_sites: grow.then_some(tasks * n),
     }
 }
 
@@ -124,15 +127,17 @@ pub fn choices_refused(panel: Panel, task: &Task) -> bool {
             let grey = task.mode == Mode::Cmr && task.greys.iter().any(|&grey| grey > 3);
             task.flips.iter().any(|&flip| flip > 1) || grey
         }
-        Form::Wolff if permutes => permutation_refused(task.perms) || identity(task.perms),
-        Form::Wolff => task.mode == Mode::Cmr && !(1..=3).contains(&task.greys[0]),
+        Form::Wolff | Form::Grow if permutes => {
+            permutation_refused(task.perms) || identity(task.perms)
+        }
+        Form::Wolff | Form::Grow => task.mode == Mode::Cmr && !(1..=3).contains(&task.greys[0]),
         Form::Observe => false,
     };
     reference || choices
 }
 
 pub fn seed_refused(panel: Panel, task: &Task) -> bool {
-    task.form == Form::Wolff
+    task.form.one_cluster()
         && (task.seed >= panel.n
             || (task.mode != Mode::Cmr
                 && (0..panel.n).any(|i| acts(panel, task, i))

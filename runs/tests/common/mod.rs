@@ -1,10 +1,11 @@
 //! Calls written by hand, run by the model and by the Rust and the port where they are there.
 #![allow(dead_code)] // Each test file uses a part.
 use calls::{Answer, Form, Mode, SweepAnswer};
+use published_patched::Branch;
 use tsorvenk_runs::case::{Bonds, Choices, Lent, Panel, Single, Swept};
 use tsorvenk_runs::idle;
 use tsorvenk_runs::lattices::backward;
-use tsorvenk_runs::model::{lengths, Model};
+use tsorvenk_runs::model::{lengths, Lengths, Model};
 use tsorvenk_runs::port;
 
 pub const L1: &[u32] = &[0];
@@ -21,11 +22,24 @@ pub fn identities(count: usize, members: usize) -> Vec<u8> {
     (0..count).map(|at| (at % members) as u8).collect()
 }
 
+/// Every output that the call takes, filled with nines.
+fn outputs(exact: Lengths) -> Lent {
+    let output = |length: Option<usize>| vec![9; length.unwrap_or(0)];
+    Lent {
+        spins: Vec::new(),
+        labels: output(exact.labels),
+        grey_labels: output(exact.grey_labels),
+        counts: output(exact.counts),
+        sizes: output(exact.sizes),
+        member_sites: vec![9; exact.member_sites.unwrap_or(0)],
+    }
+}
+
 /// One direction; the group is every system in order; no choice flips, permutes or cuts.
 pub fn call(mode: Mode, form: Form, fwd: &[u32], rows: &[&str]) -> Single {
     let (n, members) = (fwd.len(), rows.len());
     let exact = lengths(mode, form, n, 1, members, 1);
-    let ones = usize::from(form == Form::Wolff) as u8;
+    let ones = u8::from(form.one_cluster());
     Single {
         panel: Panel {
             mode,
@@ -49,10 +63,7 @@ pub fn call(mode: Mode, form: Form, fwd: &[u32], rows: &[&str]) -> Single {
         },
         lent: Lent {
             spins: spins(rows),
-            labels: vec![9; exact.labels],
-            grey_labels: vec![9; exact.grey_labels.unwrap_or(0)],
-            counts: vec![9; exact.counts],
-            sizes: vec![9; exact.sizes],
+            ..outputs(exact)
         },
     }
 }
@@ -99,8 +110,12 @@ pub fn run(case: &Single) -> (Answer, Lent) {
         assert_eq!(answer.1, case.lent, "{case:?}");
     } else if published_patched::PRESENT {
         let mut lent = case.lent.clone();
-        published_patched::step(case.step(&mut lent), published_patched::Branch::UnionFind);
-        idle::take_out_of_single(case, &mut lent);
+        if case.panel.form == Form::Grow {
+            published_patched::step(case.step(&mut lent), Branch::DepthFirst);
+        } else {
+            published_patched::step(case.step(&mut lent), Branch::UnionFind);
+            idle::take_out_of_single(case, &mut lent);
+        }
         assert_eq!(answer.1, lent, "{case:?}");
     }
     answer
@@ -159,10 +174,7 @@ pub fn sweep(mode: Mode, form: Form, t: usize, rows: &[&str]) -> Swept {
         },
         lent: Lent {
             spins: spins(rows),
-            labels: vec![9; exact.labels],
-            grey_labels: vec![9; exact.grey_labels.unwrap_or(0)],
-            counts: vec![9; exact.counts],
-            sizes: vec![9; exact.sizes],
+            ..outputs(exact)
         },
     }
 }

@@ -41,12 +41,14 @@ uint8_t tsorvenk_step(uint8_t mode, uint8_t form, size_t n, size_t d, size_t s,
     float temperature, const float *cuts, size_t cuts_len, size_t reference, size_t seed,
     const uint8_t *flips, size_t flips_len, const uint8_t *perms, size_t perms_len, const uint8_t *greys, size_t greys_len,
     uint32_t *labels, size_t labels_len, uint32_t *grey_labels, size_t grey_labels_len,
-    uint32_t *counts, size_t counts_len, uint32_t *sizes, size_t sizes_len) {
+    uint32_t *counts, size_t counts_len, uint32_t *sizes, size_t sizes_len,
+    uint8_t *member_sites, size_t member_sites_len) {
     NUMBER(step, mode), NUMBER(step, form), NUMBER(step, n), NUMBER(step, d), NUMBER(step, s);
     NUMBER(step, temperature), NUMBER(step, reference), NUMBER(step, seed);
     BUFFER(step, spins), BUFFER(step, fwd), BUFFER(step, bwd), BUFFER(step, couplings), BUFFER(step, group);
     BUFFER(step, cuts), BUFFER(step, flips), BUFFER(step, perms), BUFFER(step, greys);
     BUFFER(step, labels), BUFFER(step, grey_labels), BUFFER(step, counts), BUFFER(step, sizes);
+    BUFFER(step, member_sites);
     return 101;
 }
 
@@ -58,14 +60,15 @@ uint8_t tsorvenk_sweep(uint8_t mode, uint8_t form, size_t n, size_t d, size_t s,
     const uint32_t *seeds, size_t seeds_len,
     const uint8_t *flips, size_t flips_len, const uint8_t *perms, size_t perms_len, const uint8_t *greys, size_t greys_len,
     uint32_t *labels, size_t labels_len, uint32_t *grey_labels, size_t grey_labels_len,
-    uint32_t *counts, size_t counts_len, uint32_t *sizes, size_t sizes_len, uint32_t *outcomes, size_t outcomes_len) {
+    uint32_t *counts, size_t counts_len, uint32_t *sizes, size_t sizes_len,
+    uint8_t *member_sites, size_t member_sites_len, uint32_t *outcomes, size_t outcomes_len) {
     NUMBER(sweep, mode), NUMBER(sweep, form), NUMBER(sweep, n), NUMBER(sweep, d), NUMBER(sweep, s);
     NUMBER(sweep, t), NUMBER(sweep, r), NUMBER(sweep, members);
     BUFFER(sweep, spins), BUFFER(sweep, fwd), BUFFER(sweep, bwd), BUFFER(sweep, couplings), BUFFER(sweep, order);
     BUFFER(sweep, masks), BUFFER(sweep, temperatures), BUFFER(sweep, cuts), BUFFER(sweep, references);
     BUFFER(sweep, seeds), BUFFER(sweep, flips), BUFFER(sweep, perms), BUFFER(sweep, greys);
     BUFFER(sweep, labels), BUFFER(sweep, grey_labels), BUFFER(sweep, counts), BUFFER(sweep, sizes);
-    BUFFER(sweep, outcomes);
+    BUFFER(sweep, member_sites), BUFFER(sweep, outcomes);
     return 102;
 }
 
@@ -180,6 +183,7 @@ int main(void) {
         .flips = u8, .flips_len = 16, .perms = u8 + 1, .perms_len = 17, .greys = u8 + 2, .greys_len = 18,
         .labels = u32 + 3, .labels_len = 19, .grey_labels = u32 + 4, .grey_labels_len = 20,
         .counts = u32 + 5, .counts_len = 21, .sizes = u32 + 6, .sizes_len = 22,
+        .member_sites = u8 + 3, .member_sites_len = 23,
     };
     sweep = (struct tsorvenk_sweep_args){
         .mode = 1, .form = 2, .n = 3, .d = 4, .s = 5, .t = 6, .r = 7, .members = 8,
@@ -190,6 +194,7 @@ int main(void) {
         .flips = u8 + 1, .flips_len = 20, .perms = u8 + 2, .perms_len = 21, .greys = u8 + 3, .greys_len = 22,
         .labels = u32 + 5, .labels_len = 23, .grey_labels = u32 + 6, .grey_labels_len = 24,
         .counts = u32 + 7, .counts_len = 25, .sizes = u32 + 8, .sizes_len = 26, .outcomes = u32 + 9, .outcomes_len = 27,
+        .member_sites = u8 + 4, .member_sites_len = 28,
     };
     energy_of = (struct tsorvenk_energy_args){
         .n = 1, .d = 2, .s = 3, .system = 4,
@@ -216,7 +221,7 @@ int main(void) {
     };
     call_all(); /* everything is lent */
     step.flips = NULL, sweep.seeds = NULL, energy_of.energy = NULL, label.holds = NULL, draw.source = NULL;
-    reading.text = NULL, writing.written = NULL;
+    step.member_sites = NULL, sweep.member_sites = NULL, reading.text = NULL, writing.written = NULL;
     call_all(); /* null, and a length beside it */
     printf("room %d and %d\n", TSORVENK_FRAMES_ROOM, TSORVENK_EDGES_ROOM);
     for (int number = -1; number <= 256; number++)

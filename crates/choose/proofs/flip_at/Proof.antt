@@ -1,4 +1,4 @@
--- `choose::flip_at` meets its contract: SW's byte is read within the lent flips, and the two other forms read none.
+-- `choose::flip_at` meets its contract: SW's byte is read within the lent flips, and the other forms read none.
 use borrow.Author.Needs.{needs}
 use Rattle.choose.proofs.flip_at.Statement.{statement}
 use Rattle.choose.proofs.flip_at.Tie as tie
@@ -15,6 +15,9 @@ enum-told-2 c = search needs
 enum-told-3 : tie.Need-enum-told-3
 enum-told-3 c = search needs
 
+enum-told-4 : tie.Need-enum-told-4
+enum-told-4 c = search needs
+
 returns : tie.Need-returns
 returns c = rw (c .before .enum-told .given .1)
 
@@ -24,6 +27,9 @@ returns-2 c = search needs
 returns-3 : tie.Need-returns-3
 returns-3 c = search needs
 
+returns-4 : tie.Need-returns-4
+returns-4 c = search needs
+
 pub flip-at-spec : {M : Type 1} → statement M
 flip-at-spec =
     tie.close
@@ -32,6 +38,8 @@ flip-at-spec =
     shared-slice-read-result
     enum-told-2
     enum-told-3
+    enum-told-4
     returns
     returns-2
-    returns-3)
+    returns-3
+    returns-4)

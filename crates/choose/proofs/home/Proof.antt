@@ -25,6 +25,9 @@ shared-slice-read-result c = seeded (c .before)
 enum-told-3 : tie.Need-enum-told-3
 enum-told-3 c = search needs
 
+enum-told-4 : tie.Need-enum-told-4
+enum-told-4 c = search needs
+
 returns : tie.Need-returns
 returns c = search needs
 
@@ -33,6 +36,9 @@ returns-2 c = rw (c .before .enum-told2 .given .1)
 
 returns-3 : tie.Need-returns-3
 returns-3 c = search needs
+
+returns-4 : tie.Need-returns-4
+returns-4 c = search needs
 
 pub home-spec : {M : Type 1} → statement M
 home-spec =
@@ -43,6 +49,8 @@ home-spec =
     mul-result
     shared-slice-read-result
     enum-told-3
+    enum-told-4
     returns
     returns-2
-    returns-3)
+    returns-3
+    returns-4)

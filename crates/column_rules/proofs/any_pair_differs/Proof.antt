@@ -1,87 +1,33 @@
--- `column_rules::any_pair_differs` meets its contract. The invariant: of the first k pairs, `found` says whether one disagrees.
-use mathlib.Core.Path.{_≡_, _∙_, sym, ap}
-use mathlib.Core.Logic.{⊎-elim}
-use Prim.Native.Nat.{_≤_, _-_, _*_, _+_, _/_}
+-- `column_rules::any_pair_differs` meets its contract: a pair that disagrees is changed by the exchange.
+use mathlib.Core.Path.{_∙_}
+use mathlib.Core.Bool.{not}
 use native.Mathlib.Omega.{arith}
+use lib.Dec.{eqb}
 use borrow.Author.Needs.{needs}
-use mir.Syntax.{w8}
-use mir.Val.{ofZ}
-use Rattle.lemmas.specs.Held.{bits-inj}
-use Rattle.paper.specs.Site.Acting.{pairDiffers}
-use Rattle.column_rules.specs.Tables.{spinAt}
-use Rattle.column_rules.proofs.Rules.{pair-none, pair-hit, pair-miss}
+use Rattle.laws.specs.Partners.{pairs-fit}
+use Rattle.column_rules.proofs.Bits.{pair-low}
 use Rattle.column_rules.proofs.any_pair_differs.Statement.{statement}
 use Rattle.column_rules.proofs.any_pair_differs.Tie as tie
 
-abbrev Inv-loop : tie.InvT-loop
-Inv-loop p len found₀ k₀ found k = (2 * k ≤ len) × (found ≡ pairDiffers k (spinAt p))
+mul-paired : tie.Need-mul-paired
+mul-paired c = search needs
 
-abbrev μ-loop : tie.MeasureT-loop
-μ-loop p len found₀ k₀ found k = len - k
+exchanged-requires : tie.Need-exchanged-requires
+exchanged-requires c κs = search needs
 
-loop-holds : tie.Need-loop-holds Inv-loop μ-loop
-loop-holds c = (search needs, sym (pair-none _))
+low-requires : tie.Need-low-requires
+low-requires c κs = let s = c .before in omega (arith, pairs-fit (s .args .group .len), s .pre)
 
-mul-loop : tie.Need-mul-loop Inv-loop μ-loop
-mul-loop c = search needs
+low-requires-2 : tie.Need-low-requires-2
+low-requires-2 c κs = let s = c .before .before in omega (arith, pairs-fit (s .args .group .len), s .pre)
 
-add-loop : tie.Need-add-loop Inv-loop μ-loop
-add-loop c = search needs
-
-mul-a : tie.Need-mul-a Inv-loop μ-loop
-mul-a c = search needs
-
-array-copy-out-a : tie.Need-array-copy-out-a Inv-loop μ-loop
-array-copy-out-a c = search needs
-
-mul-b : tie.Need-mul-b Inv-loop μ-loop
-mul-b c = search needs
-
-add-b : tie.Need-add-b Inv-loop μ-loop
-add-b c = search needs
-
-array-copy-out-b : tie.Need-array-copy-out-b Inv-loop μ-loop
-array-copy-out-b c = search needs
-
-add-k : tie.Need-add-k Inv-loop μ-loop
-add-k c = search needs
-
-loop-less : tie.Need-loop-less Inv-loop μ-loop
-loop-less c = search needs
-
-loop-again : tie.Need-loop-again Inv-loop μ-loop
-loop-again c =
-    let l = c .before .before .before in
-    let f = spinAt (l .before .before .args .t1) in
-    let k = l .before .loop .k in
-    let same = bits-inj (f (2 * k)) (f (2 * k + 1)) (record { sfits = c .before .before .a .given }) (record { sfits = c .before .b .given }) in (
-      omega (arith, l .loop-test .taken),
-      ⊎-elim
-          (λ w. w .1 ∙ sym (pair-hit k f (λ e. w .0 .taken (ap (ofZ w8) e))))
-          (λ w. w .1 ∙ (l .before .loop .inv .1 ∙ sym (pair-miss k f (same (w .0 .left)))))
-          (c .if1 .came),
-    )
-
-returns : tie.Need-returns Inv-loop μ-loop
+returns : tie.Need-returns
 returns c =
-    let e : c .before .loop .k ≡ c .before .before .args .group .len / 2 = omega arith in
-    rw e at (c .before .loop .inv .1)
+    let e = c .before .before in
+    let s = e .before in
+    (λ i. not (eqb (c .before .low .ensures i) (c .low2 .ensures i)))
+    ∙ pair-low (s .args .group .len) (s .args .column) (e .exchanged .result) (s .pre) (e .exchanged .ensures)
 
 pub any-pair-differs-spec : {M : Type 1} → statement M
 any-pair-differs-spec =
-    tie.close
-    (tie.spec
-    Inv-loop
-    μ-loop
-    loop-holds
-    mul-loop
-    add-loop
-    mul-a
-    array-copy-out-a
-    mul-b
-    add-b
-    array-copy-out-b
-    add-k
-    loop-less
-    loop-again
-    returns)
+    tie.close (tie.spec mul-paired exchanged-requires low-requires low-requires-2 returns)

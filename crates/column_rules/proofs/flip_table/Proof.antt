@@ -18,11 +18,11 @@ shl-end c = search needs
 loop-holds : tie.Need-loop-holds Inv-loop μ-loop
 loop-holds c = filling-none (c .args .group .len) _ (c .pre .few)
 
-cast-flip-entry : tie.Need-cast-flip-entry Inv-loop μ-loop
-cast-flip-entry c = search needs
+cast-flip-group-site : tie.Need-cast-flip-group-site Inv-loop μ-loop
+cast-flip-group-site c = search needs
 
-flip-entry-requires : tie.Need-flip-entry-requires Inv-loop μ-loop
-flip-entry-requires c κs = search needs
+flip-group-site-requires : tie.Need-flip-group-site-requires Inv-loop μ-loop
+flip-group-site-requires c κs = search needs
 
 array-write-table : tie.Need-array-write-table Inv-loop μ-loop
 array-write-table c = search needs
@@ -34,7 +34,7 @@ loop-less : tie.Need-loop-less Inv-loop μ-loop
 loop-less c = search needs
 
 loop-again : tie.Need-loop-again Inv-loop μ-loop
-loop-again c = filling-more (c .before .before .loop .inv) (c .flip-entry .result) (c .before .loop-test .taken) (c .flip-entry .ensures)
+loop-again c = filling-more (c .before .before .loop .inv) (c .flip-group-site .result) (c .before .loop-test .taken) (c .flip-group-site .ensures)
 
 returns : tie.Need-returns Inv-loop μ-loop
 returns c = filling-done (c .before .loop .inv) (c .loop-test .left)
@@ -47,8 +47,8 @@ flip-table-spec =
     μ-loop
     shl-end
     loop-holds
-    cast-flip-entry
-    flip-entry-requires
+    cast-flip-group-site
+    flip-group-site-requires
     array-write-table
     add-x
     loop-less

@@ -1,9 +1,10 @@
 -- `run_task` meets its contract: the three steps one after another, and which of them are taken.
 use borrow.Author.Needs.{needs}
-use Prim.Native.Nat.{_*_, _≤_}
+use Prim.Native.Nat.{ℕ, _*_, _≤_}
 use mathlib.Core.Path.{_≡_, sym, _∙_}
 use mathlib.Core.Bool.{true, false}
 use native.Mathlib.Omega.{arith}
+use mathlib.Core.List.{List, []}
 use denote.Ref.{now}
 use lib.Seq.{length-take-le}
 use Rattle.paper.specs.Panel.Input.{Choices, Buffers}
@@ -26,18 +27,21 @@ T k = k .before .before .before .before .before .before .before .before .before 
 abbrev choicesAt : tie.Start → Choices
 choicesAt b = choicesOf (now (b .args .choices)) (now (b .args .greys))
 
-abbrev lentAt : tie.Start → Buffers
-lentAt b = let a = b .args in buffersOf (now (a .spins)) (now (a .labels)) (now (a .grey-labels)) (now (a .counts)) (now (a .sizes))
+-- with any members
+abbrev lentAt : tie.Start → List ℕ → Buffers
+lentAt b members = let a = b .args in buffersOf (now (a .spins)) (now (a .labels)) (now (a .grey-labels)) (now (a .counts)) (now (a .sizes)) members
 
 high : (b : tie.Start) → b .args .t .n ≤ 4096
 high b =
     let a = b .args in
-    answered.n-high (a .t) (now (a .fwd)) (now (a .bwd)) (now (a .couplings)) (now (a .cuts)) (choicesAt b) (lentAt b) (b .pre)
+    answered.n-high (a .t) (now (a .fwd)) (now (a .bwd)) (now (a .couplings)) (now (a .cuts)) (choicesAt b) (lentAt b [])
+    (b .pre .labelled) (b .pre .valid)
 
 many : (b : tie.Start) → b .args .t .n * b .args .t .d ≤ 16384
 many b =
     let a = b .args in
-    answered.bonds-high (a .t) (now (a .fwd)) (now (a .bwd)) (now (a .couplings)) (now (a .cuts)) (choicesAt b) (lentAt b) (b .pre)
+    answered.bonds-high (a .t) (now (a .fwd)) (now (a .bwd)) (now (a .couplings)) (now (a .cuts)) (choicesAt b) (lentAt b [])
+    (b .pre .labelled) (b .pre .valid)
 
 moving : (m : tie.Then2) → moves (S (T (m .before .before .before)) .args .t .form) ≡ true
 moving m = sym (m .before .moves .ensures) ∙ m .if2 .taken
@@ -82,7 +86,8 @@ label-task-requires : tie.Need-label-task-requires
 label-task-requires c κs =
     let b = A (c .before .before .before .before .before .before .before .before .before .before .before .before .before) in
     let a = b .args in
-    answered.label-asks (a .t) (now (a .fwd)) (now (a .bwd)) (now (a .couplings)) (now (a .cuts)) (choicesAt b) (lentAt b) (b .pre)
+    answered.label-asks (a .t) (now (a .fwd)) (now (a .bwd)) (now (a .couplings)) (now (a .cuts)) (choicesAt b) (lentAt b [])
+    (b .pre .labelled) (b .pre .valid)
 
 same-length : tie.Need-same-length
 same-length c = search needs
@@ -97,12 +102,13 @@ same-length-4 : tie.Need-same-length-4
 same-length-4 c = search needs
 
 returns : tie.Need-returns
-returns c =
+returns c = λ members.
     let m = c .before .before .before .before in
     let o = T (m .before) in
     let b = S o in
     let a = b .args in
-    answered.idle-answers (a .t) (now (a .fwd)) (now (a .bwd)) (now (a .couplings)) (now (a .cuts)) (choicesAt b) (lentAt b) (b .pre)
+    answered.idle-answers (a .t) (now (a .fwd)) (now (a .bwd)) (now (a .couplings)) (now (a .cuts)) (choicesAt b) (lentAt b members)
+    (b .pre .labelled) (answered.valid-with (b .pre .labelled) (b .pre .valid) members)
     (o .label-task .ensures (now (a .bwd))) (m .if1 .taken)
 
 moves-requires : tie.Need-moves-requires
@@ -120,7 +126,8 @@ choose-task-requires c κs =
     let o = T (m .before .before .before) in
     let b = S o in
     let a = b .args in
-    answered.choose-asks (a .t) (now (a .fwd)) (now (a .bwd)) (now (a .couplings)) (now (a .cuts)) (choicesAt b) (lentAt b) (b .pre)
+    answered.choose-asks (a .t) (now (a .fwd)) (now (a .bwd)) (now (a .couplings)) (now (a .cuts)) (choicesAt b) (lentAt b [])
+    (b .pre .labelled) (b .pre .valid)
     (o .label-task .ensures (now (a .bwd))) (moving m)
 
 write-task-requires : tie.Need-write-task-requires
@@ -130,7 +137,8 @@ write-task-requires c κs =
     let o = T (m .before .before .before) in
     let b = S o in
     let a = b .args in
-    answered.write-asks (a .t) (now (a .fwd)) (now (a .bwd)) (now (a .couplings)) (now (a .cuts)) (choicesAt b) (lentAt b) (b .pre)
+    answered.write-asks (a .t) (now (a .fwd)) (now (a .bwd)) (now (a .couplings)) (now (a .cuts)) (choicesAt b) (lentAt b [])
+    (b .pre .labelled) (b .pre .valid)
     (o .label-task .ensures (now (a .bwd))) (k .choose-task .ensures)
 
 same-length-5 : tie.Need-same-length-5
@@ -143,7 +151,8 @@ same-length-6 c =
     let o = T (m .before .before .before) in
     let b = S o in
     let a = b .args in
-    answered.labels-kept (a .t) (now (a .fwd)) (now (a .bwd)) (now (a .couplings)) (now (a .cuts)) (choicesAt b) (lentAt b) (b .pre)
+    answered.labels-kept (a .t) (now (a .fwd)) (now (a .bwd)) (now (a .couplings)) (now (a .cuts)) (choicesAt b) (lentAt b [])
+    (b .pre .labelled) (b .pre .valid)
     (o .label-task .ensures (now (a .bwd)))
 
 same-length-7 : tie.Need-same-length-7
@@ -156,7 +165,7 @@ same-length-9 : tie.Need-same-length-9
 same-length-9 c = search needs
 
 returns-2 : tie.Need-returns-2
-returns-2 c =
+returns-2 c = λ members.
     let w = c .before .before in
     let k = w .before .before .before .before .before .before .before .before .before .before .before in
     let m = k .before .before .before .before .before .before .before in
@@ -164,7 +173,8 @@ returns-2 c =
     let o = T (e .before) in
     let b = S o in
     let a = b .args in
-    answered.moved-answers (a .t) (now (a .fwd)) (now (a .bwd)) (now (a .couplings)) (now (a .cuts)) (choicesAt b) (lentAt b) (b .pre)
+    answered.moved-answers (a .t) (now (a .fwd)) (now (a .bwd)) (now (a .couplings)) (now (a .cuts)) (choicesAt b) (lentAt b members)
+    (b .pre .labelled) (answered.valid-with (b .pre .labelled) (b .pre .valid) members)
     (o .label-task .ensures (now (a .bwd))) (k .choose-task .ensures) (e .if1 .left) (moving m) (w .write-task .ensures)
 
 same-length-10 : tie.Need-same-length-10
@@ -180,13 +190,14 @@ same-length-13 : tie.Need-same-length-13
 same-length-13 c = search needs
 
 returns-3 : tie.Need-returns-3
-returns-3 c =
+returns-3 c = λ members.
     let m = c .before .before .before .before in
     let e = m .before .before in
     let o = T (e .before) in
     let b = S o in
     let a = b .args in
-    answered.observe-answers (a .t) (now (a .fwd)) (now (a .bwd)) (now (a .couplings)) (now (a .cuts)) (choicesAt b) (lentAt b) (b .pre)
+    answered.observe-answers (a .t) (now (a .fwd)) (now (a .bwd)) (now (a .couplings)) (now (a .cuts)) (choicesAt b) (lentAt b members)
+    (b .pre .labelled) (answered.valid-with (b .pre .labelled) (b .pre .valid) members)
     (o .label-task .ensures (now (a .bwd))) (e .if1 .left) (resting m)
 
 pub run-task-spec : {M : Type 1} → statement M

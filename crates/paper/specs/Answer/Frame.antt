@@ -107,6 +107,7 @@ frameBuffers text = record {
   greyLabels = [];
   counts = table (frameLattice text [] .n + 1) (λ k. 0);
   sizes = table 4 (λ k. 0);
+  members = [];
 }
 
 -- ---- refusals

@@ -7,7 +7,7 @@ use Rattle.paper.specs.declared.Mode.{Mode}
 use Rattle.paper.specs.declared.Answer.{Answer}
 use Rattle.paper.specs.declared.Answer.the-variants.{Refused, Idle, Moved}
 use Rattle.paper.specs.Panel.Input.{Lattice, Call, Choices, Buffers, size, system}
-use Rattle.paper.specs.Panel.Takes.{drawsBonds, takesCuts, takesChoices, takesGreys, takesReference, takesSeed}
+use Rattle.paper.specs.Panel.Takes.{growsBy, labelsBy, drawsBonds, takesCuts, takesChoices, takesGreys, takesGreyLabels, takesReference, takesSeed}
 use Rattle.paper.specs.Refusal.Rules.{When}
 use Rattle.paper.specs.Answer.Task.{Sweep, tasks, masked, taskCall, taskChoices}
 use Rattle.paper.specs.Answer.Sweep.{common}
@@ -44,20 +44,22 @@ pub record SameTaken (c : Call) (p : Choices) (a : Call) (o : Choices) : Type 0 
 -- lent buffers: the spins are taken; of those that are written only how long they are
 pub record SameLent (c : Call) (b d : Buffers) : Type 0 where
   pub spins : d .spins ≡ b .spins
-  pub labels : length (d .labels) ≡ length (b .labels)
-  pub grey-labels : When (takesGreys c) (length (d .greyLabels) ≡ length (b .greyLabels))
-  pub counts : length (d .counts) ≡ length (b .counts)
-  pub sizes : length (d .sizes) ≡ length (b .sizes)
+  pub labels : When (labelsBy (c .form)) (length (d .labels) ≡ length (b .labels))
+  pub grey-labels : When (takesGreyLabels c) (length (d .greyLabels) ≡ length (b .greyLabels))
+  pub counts : When (labelsBy (c .form)) (length (d .counts) ≡ length (b .counts))
+  pub sizes : When (labelsBy (c .form)) (length (d .sizes) ≡ length (b .sizes))
+  pub members : When (growsBy (c .form)) (length (d .members) ≡ length (b .members))
 
--- the buffers d after an answer by which such buffers came to hold b′: a refusal keeps d; else the same is written, and grey labels that are not
--- taken stay d's own
+-- the buffers d after an answer by which such buffers came to hold b′: a refusal keeps d; else the same is written, and what is not written stays
+-- d's own
 abbrev pub written : Call → Buffers → Buffers → Buffers
 written c d b′ = record {
   spins = b′ .spins;
-  labels = b′ .labels;
-  greyLabels = cond (takesGreys c) (b′ .greyLabels) (d .greyLabels);
-  counts = b′ .counts;
-  sizes = b′ .sizes;
+  labels = cond (labelsBy (c .form)) (b′ .labels) (d .labels);
+  greyLabels = cond (takesGreyLabels c) (b′ .greyLabels) (d .greyLabels);
+  counts = cond (labelsBy (c .form)) (b′ .counts) (d .counts);
+  sizes = cond (labelsBy (c .form)) (b′ .sizes) (d .sizes);
+  members = cond (growsBy (c .form)) (b′ .members) (d .members);
 }
 
 abbrev pub left : Call → Answer → Buffers → Buffers → Buffers

@@ -11,7 +11,8 @@ use Rattle.paper.specs.declared.Answer.{Answer}
 use Rattle.paper.specs.declared.SweepAnswer.{SweepAnswer}
 use Rattle.paper.specs.declared.SweepAnswer.the-variants.{Fault, Swept}
 use Rattle.paper.specs.Panel.Input.{Call, Buffers, spin, pattern, system}
-use Rattle.paper.specs.Panel.Takes.{takesCuts, takesChoices, takesGreys, takesReference, takesSeed, entries, choiceBytes}
+use Rattle.paper.specs.Panel.Takes.{growsBy, labelsBy, takesCuts, takesChoices, takesGreys, takesGreyLabels, takesReference, takesSeed}
+use Rattle.paper.specs.Panel.Takes.{entries, choiceBytes}
 use Rattle.paper.specs.Refusal.Rule.{Rule, rule, Broken}
 use Rattle.paper.specs.Refusal.Rules.{When, Ranged, AllSystems, Spins, Inverse, Permutes, SmallCouplings, Warm, choiceRules}
 use Rattle.paper.specs.Refusal.Verdict.{Verdict}
@@ -41,10 +42,11 @@ pub record SweepExact (w : Sweep) (b : Buffers) : Type 0 where
   pub greys : When (takesGreys (common w)) (length (w .greys) ≡ tasks w * entries (w .form) (w .lattice .n))
   pub references : When (takesReference (common w)) (length (w .references) ≡ tasks w)
   pub seeds : When (takesSeed (common w)) (length (w .seeds) ≡ tasks w)
-  pub labels : length (b .labels) ≡ tasks w * w .lattice .n
-  pub grey-labels : When (takesGreys (common w)) (length (b .greyLabels) ≡ tasks w * w .lattice .n)
-  pub counts : length (b .counts) ≡ tasks w * (w .lattice .n + 1)
-  pub sizes : length (b .sizes) ≡ tasks w * 4
+  pub labels : When (labelsBy (w .form)) (length (b .labels) ≡ tasks w * w .lattice .n)
+  pub grey-labels : When (takesGreyLabels (common w)) (length (b .greyLabels) ≡ tasks w * w .lattice .n)
+  pub counts : When (labelsBy (w .form)) (length (b .counts) ≡ tasks w * (w .lattice .n + 1))
+  pub sizes : When (labelsBy (w .form)) (length (b .sizes) ≡ tasks w * 4)
+  pub members : When (growsBy (w .form)) (length (b .members) ≡ tasks w * w .lattice .n)
 
 -- unmasked tasks in ascending order, each through 8, 9, 10 on the spins before the sweep
 abbrev pub taskRules : Sweep → Buffers → ℕ → List Rule
@@ -80,6 +82,15 @@ pub record SameLengths (b b′ : Buffers) : Type 0 where
   pub counts : length (b′ .counts) ≡ length (b .counts)
   pub sizes : length (b′ .sizes) ≡ length (b .sizes)
   pub grey-labels : length (b′ .greyLabels) ≡ length (b .greyLabels)
+  pub members : length (b′ .members) ≡ length (b .members)
+
+-- what the form does not write stays whole, whatever its length
+pub record Unwritten (c : Call) (b b′ : Buffers) : Type 0 where
+  pub labels : labelsBy (c .form) ≡ false → b′ .labels ≡ b .labels
+  pub grey-labels : takesGreyLabels c ≡ false → b′ .greyLabels ≡ b .greyLabels
+  pub counts : labelsBy (c .form) ≡ false → b′ .counts ≡ b .counts
+  pub sizes : labelsBy (c .form) ≡ false → b′ .sizes ≡ b .sizes
+  pub members : growsBy (c .form) ≡ false → b′ .members ≡ b .members
 
 pub record Sweeps (w : Sweep) (b : Buffers) (idle moved : ℕ) (b′ : Buffers) : Type 0 where
   pub valid : Verdict (sweepRules w b) (sweepNumber (Swept idle moved))
@@ -88,7 +99,7 @@ pub record Sweeps (w : Sweep) (b : Buffers) (idle moved : ℕ) (b′ : Buffers) 
   pub each : (k : ℕ) → k < tasks w → masked w k ≡ false → Done w b b′ k
   pub skipped : (k : ℕ) → k < tasks w → masked w k ≡ true → areas w b′ (b .spins) k ≡ areas w b (b .spins) k
   pub others : (i t : ℕ) → i < w .lattice .n → Unmoved w t → spin (w .lattice .n) (b′ .spins) t i ≡ spin (w .lattice .n) (b .spins) t i
-  pub grey-kept : takesGreys (common w) ≡ false → b′ .greyLabels ≡ b .greyLabels
+  pub kept : Unwritten (common w) b b′
 
 pub record SweepRefuses (w : Sweep) (b : Buffers) (r : ℕ) (b′ : Buffers) : Type 0 where
   pub why : Broken (sweepRules w b) r

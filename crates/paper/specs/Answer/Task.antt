@@ -83,6 +83,7 @@ areas w b xs k = record {
   greyLabels = part k (w .lattice .n) (b .greyLabels);
   counts = part k (w .lattice .n + 1) (b .counts);
   sizes = part k 4 (b .sizes);
+  members = part k (w .lattice .n) (b .members);
 }
 
 -- ---- the two counts

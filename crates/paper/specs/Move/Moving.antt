@@ -10,7 +10,7 @@ use lib.IntN.{ℤ, negℤ, _*ℤ_}
 use Rattle.paper.specs.declared.Mode.{Mode}
 use Rattle.paper.specs.declared.Mode.the-variants.{Houd, Pair, Perm, Gperm, Jorg, Cmr}
 use Rattle.paper.specs.declared.Form.{Form}
-use Rattle.paper.specs.declared.Form.the-variants.{Sw, Wolff, Observe}
+use Rattle.paper.specs.declared.Form.the-variants.{Sw, Wolff, Observe, Grow}
 use Rattle.paper.specs.Panel.Input.{Call, Choices, Pattern, pattern, spin, size, system}
 use Rattle.paper.specs.Panel.Takes.{isPerm, takesGreys, entry}
 use Rattle.paper.specs.Site.Acting.{acts}
@@ -18,11 +18,12 @@ use Rattle.paper.specs.Component.Sizes.{labelOf, sizeOf}
 
 -- ---- what is chosen on the component with the label r
 
--- a flip? SW reads it, Wolff flips the seed's component
+-- a flip? SW reads it, Wolff and grow flip the seed's component
 abbrev pub flipBy : Form → List ℕ → ℕ → Bool
 flipBy Sw choices r = eqb (getD choices r 0) 1
 flipBy Wolff choices r = true
 flipBy Observe choices r = false
+flipBy Grow choices r = true
 
 -- the permutation's value at the place k
 abbrev pub permAt : Form → ℕ → List ℕ → ℕ → ℕ → ℕ
@@ -85,12 +86,14 @@ greyBit g (suc k) = eqb (g / 2 % 2) 1
 abbrev pub leastSize : Mode → ℕ
 leastSize m = cond (isPerm m) 1 2
 
+-- grow's list is one of members, and not of labels
 abbrev pub reachedBy : Form → Mode → ℕ → List ℕ → ℕ → Bool
 reachedBy Sw mode seed l i = leb (leastSize mode) (sizeOf l (labelOf l i))
 reachedBy Wolff mode seed l i = eqb (labelOf l i) (labelOf l seed)
 reachedBy Observe mode seed l i = false
+reachedBy Grow mode seed l i = eqb (labelOf l i) 1
 
--- the site i acts and its component, by the labels l, is one that the form moves
+-- the site i acts and its component, by the list l, is one that the form moves
 unfoldable pub reached : Call → List ℤ → List ℕ → ℕ → Bool
 reached c xs l i = acts c xs i && reachedBy (c .form) (c .mode) (c .seed) l i
 
@@ -106,7 +109,7 @@ afterGrey c p xs g i f k = cond (takesGreys c && reached c xs g i) (flipSome (gr
 unfoldable pub final : Call → Choices → List ℤ → List ℕ → List ℕ → ℕ → Pattern
 final c p xs l g i = afterGrey c p xs g i (after c p xs l i)
 
--- the spins ys are the spins xs moved, with the labels l and the grey labels g
+-- the spins ys are the spins xs moved, where the lists l and g tell each site's component and its grey one
 pub record Moves (c : Call) (p : Choices) (xs : List ℤ) (l g : List ℕ) (ys : List ℤ) : Type 0 where
   pub long : length ys ≡ length xs
   pub group : (i k : ℕ) → i < c .lattice .n → k < size c → pattern c ys i k ≡ final c p xs l g i k

@@ -37,8 +37,8 @@ pub record Call : Type 0 where
   pub reference : ℕ
   pub seed : ℕ
 
--- the choices by component: SW has one entry for each label, Wolff one entry in all. An entry is a flip, or in perm and gperm a permutation;
--- Wolff takes no flip. CMR's grey components have a number each
+-- the choices by component: SW has one entry for each label, Wolff and grow one entry in all. An entry is a flip, or in perm and gperm a permutation;
+-- Wolff and grow take no flip. CMR's grey components have a number each
 pub record Choices : Type 0 where
   pub choices : List ℕ
   pub greys : List ℕ
@@ -50,6 +50,7 @@ pub record Buffers : Type 0 where
   pub greyLabels : List ℕ
   pub counts : List ℕ
   pub sizes : List ℕ
+  pub members : List ℕ
 
 -- the number of systems in the group, N, and the system at its place k
 abbrev pub size : Call → ℕ

@@ -21,5 +21,12 @@ callOf t fwd bwd couplings cuts = record {
 abbrev pub choicesOf : List ℕ → List ℕ → Choices
 choicesOf choices greys = record { choices = choices; greys = greys }
 
-abbrev pub buffersOf : List ℤ → List ℕ → List ℕ → List ℕ → List ℕ → Buffers
-buffersOf spins labels greyLabels counts sizes = record { spins = spins; labels = labels; greyLabels = greyLabels; counts = counts; sizes = sizes }
+abbrev pub buffersOf : List ℤ → List ℕ → List ℕ → List ℕ → List ℕ → List ℕ → Buffers
+buffersOf spins labels greyLabels counts sizes members = record {
+  spins = spins;
+  labels = labels;
+  greyLabels = greyLabels;
+  counts = counts;
+  sizes = sizes;
+  members = members;
+}

@@ -4,7 +4,7 @@ use mathlib.Core.Bool.{Bool, true, false, not, cond, _&&_, _||_}
 use Rattle.paper.specs.declared.Mode.{Mode}
 use Rattle.paper.specs.declared.Mode.the-variants.{Houd, Pair, Perm, Gperm, Jorg, Cmr}
 use Rattle.paper.specs.declared.Form.{Form}
-use Rattle.paper.specs.declared.Form.the-variants.{Sw, Wolff, Observe}
+use Rattle.paper.specs.declared.Form.the-variants.{Sw, Wolff, Observe, Grow}
 use Rattle.paper.specs.Panel.Input.{Call}
 
 abbrev pub isPerm : Mode → Bool
@@ -44,16 +44,30 @@ abbrev pub isSw : Form → Bool
 isSw Sw = true
 isSw Wolff = false
 isSw Observe = false
+isSw Grow = false
 
-abbrev pub isWolff : Form → Bool
-isWolff Sw = false
-isWolff Wolff = true
-isWolff Observe = false
+-- the forms that move the seed's component alone
+abbrev pub oneCluster : Form → Bool
+oneCluster Sw = false
+oneCluster Wolff = true
+oneCluster Observe = false
+oneCluster Grow = true
+
+-- the form that finds that component alone, and writes its members; the others find every component, and write labels, counts and sizes
+abbrev pub growsBy : Form → Bool
+growsBy Sw = false
+growsBy Wolff = false
+growsBy Observe = false
+growsBy Grow = true
+
+abbrev pub labelsBy : Form → Bool
+labelsBy form = not (growsBy form)
 
 abbrev pub moves : Form → Bool
 moves Sw = true
 moves Wolff = true
 moves Observe = false
+moves Grow = true
 
 -- couplings, a temperature and cuts
 abbrev pub drawsBonds : Mode → Bool
@@ -69,9 +83,12 @@ permsBy mode form = moves form && isPerm mode
 abbrev pub choicesBy : Mode → Form → Bool
 choicesBy mode form = flipsBy mode form || permsBy mode form
 
--- grey numbers and grey labels
+-- grey numbers
 abbrev pub greysBy : Mode → Form → Bool
 greysBy mode form = moves form && isCmr mode
+
+abbrev pub greyLabelsBy : Mode → Form → Bool
+greyLabelsBy mode form = labelsBy form && greysBy mode form
 
 abbrev pub takesCuts : Call → Bool
 takesCuts c = drawsBonds (c .mode)
@@ -88,22 +105,27 @@ takesChoices c = choicesBy (c .mode) (c .form)
 abbrev pub takesGreys : Call → Bool
 takesGreys c = greysBy (c .mode) (c .form)
 
+abbrev pub takesGreyLabels : Call → Bool
+takesGreyLabels c = greyLabelsBy (c .mode) (c .form)
+
 abbrev pub takesReference : Call → Bool
 takesReference c = isGperm (c .mode)
 
 abbrev pub takesSeed : Call → Bool
-takesSeed c = isWolff (c .form)
+takesSeed c = oneCluster (c .form)
 
 -- how many entries a buffer of choices has, and which of them is the component's with the label r
 abbrev pub entries : Form → ℕ → ℕ
 entries Sw n = n
 entries Wolff n = 1
 entries Observe n = 0
+entries Grow n = 1
 
 abbrev pub entry : Form → ℕ → ℕ
 entry Sw r = r
 entry Wolff r = 0
 entry Observe r = 0
+entry Grow r = 0
 
 -- a flip is one byte, a permutation of m places m bytes; so many bytes hold the choices of n sites
 abbrev pub choiceWidth : Mode → ℕ → ℕ

@@ -13,7 +13,7 @@ use Rattle.paper.specs.declared.Mode.{Mode}
 use Rattle.paper.specs.declared.Form.{Form}
 use Rattle.paper.specs.declared.Lengths.{Lengths}
 use Rattle.paper.specs.Panel.Input.{Call, Choices, Buffers, size, member, spin}
-use Rattle.paper.specs.Panel.Takes.{isCmr, isWolff, drawsBonds, choicesBy, greysBy, entries, choiceBytes}
+use Rattle.paper.specs.Panel.Takes.{isCmr, oneCluster, growsBy, labelsBy, drawsBonds, choicesBy, greysBy, greyLabelsBy, entries, choiceBytes}
 use Rattle.paper.specs.Panel.Takes.{takesCuts, takesFlips, takesPerms, takesGreys, takesReference, takesSeed}
 use Rattle.paper.specs.Site.Acting.{acts, SomeActs}
 use Rattle.paper.specs.Site.Bonds.{whole}
@@ -48,10 +48,11 @@ pub record Fits (mode : Mode) (form : Form) (n d s m : ℕ) (l : Lengths) : Type
   pub cuts : When (drawsBonds mode) (l .cuts ≡ n * d)
   pub choices : When (choicesBy mode form) (l .choices ≡ choiceBytes mode form n m)
   pub greys : When (greysBy mode form) (l .greys ≡ entries form n)
-  pub labels : l .labels ≡ n
-  pub grey-labels : When (greysBy mode form) (l .«grey_labels» ≡ n)
-  pub counts : l .counts ≡ n + 1
-  pub sizes : l .sizes ≡ 4
+  pub labels : When (labelsBy form) (l .labels ≡ n)
+  pub grey-labels : When (greyLabelsBy mode form) (l .«grey_labels» ≡ n)
+  pub counts : When (labelsBy form) (l .counts ≡ n + 1)
+  pub sizes : When (labelsBy form) (l .sizes ≡ 4)
+  pub members : When (growsBy form) (l .members ≡ n)
 
 abbrev pub lengthsOf : Call → Choices → Buffers → Lengths
 lengthsOf c p b = record {
@@ -66,6 +67,7 @@ lengthsOf c p b = record {
   «grey_labels» = length (b .greyLabels);
   counts = length (b .counts);
   sizes = length (b .sizes);
+  members = length (b .members);
 }
 
 abbrev pub Exact : Call → Choices → Buffers → Type 0
@@ -134,10 +136,10 @@ permRow c p r k = getD (p .choices) (r * size c + k) 0
 
 pub record Chosen (c : Call) (p : Choices) : Type 0 where
   pub perms : When (takesPerms c) ((r : ℕ) → r < entries (c .form) (c .lattice .n) → Permutes (size c) (permRow c p r))
-  pub not-identity : When (takesPerms c && isWolff (c .form)) (NotIdentity (size c) (permRow c p 0))
+  pub not-identity : When (takesPerms c && oneCluster (c .form)) (NotIdentity (size c) (permRow c p 0))
   pub flips : When (takesFlips c) ((r : ℕ) → r < c .lattice .n → getD (p .choices) r 0 ≤ 1)
   pub greys : When (takesGreys c) ((r : ℕ) → r < entries (c .form) (c .lattice .n) → getD (p .greys) r 0 ≤ 3)
-  pub grey-some : When (takesGreys c && isWolff (c .form)) (1 ≤ getD (p .greys) 0 0)
+  pub grey-some : When (takesGreys c && oneCluster (c .form)) (1 ≤ getD (p .greys) 0 0)
   pub reference : When (takesReference c) (c .reference < c .lattice .n)
 
 -- CMR's sites all act

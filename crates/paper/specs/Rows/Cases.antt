@@ -57,7 +57,7 @@ abbrev pub first : ℕ → Group
 first m = record { len = m; systems = 0 ∷ 1 ∷ 2 ∷ 3 ∷ 4 ∷ 5 ∷ 6 ∷ 7 ∷ [] }
 
 abbrev pub buffers : List ℤ → List ℕ → List ℕ → List ℕ → Buffers
-buffers spins labels counts sizes = record { spins = spins; labels = labels; greyLabels = []; counts = counts; sizes = sizes }
+buffers spins labels counts sizes = record { spins = spins; labels = labels; greyLabels = []; counts = counts; sizes = sizes; members = [] }
 
 -- row 11: a ring of three
 abbrev pub ring : Lattice

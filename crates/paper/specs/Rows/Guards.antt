@@ -16,7 +16,7 @@ use Rattle.paper.specs.Move.Moving.{other, partner, permute, reachedBy, 
 use Rattle.paper.specs.Refusal.Rules.{Warm, isCut, rules}
 use Rattle.paper.specs.Rows.Cases.{+, -, of, row, line, first}
 use Rattle.paper.specs.declared.Mode.the-variants.{Pair, Perm, Cmr}
-use Rattle.paper.specs.declared.Form.the-variants.{Sw}
+use Rattle.paper.specs.declared.Form.the-variants.{Sw, Grow}
 use Rattle.paper.specs.declared.Answer.the-variants.{Idle, Moved}
 use Rattle.paper.specs.declared.SweepAnswer.the-variants.{Swept}
 use Rattle.paper.specs.declared.MeterAnswer.the-variants.{Energy}
@@ -25,7 +25,7 @@ use Rattle.paper.specs.Site.Acting.{acts, pairDiffers}
 use Rattle.paper.specs.Component.Sizes.{sizeOf, ofSize, atLeast, Counted, Largest}
 use Rattle.paper.specs.Refusal.Rule.{Rule}
 use Rattle.paper.specs.Answer.Number.{number, sweepNumber, meterNumber}
-use Rattle.paper.specs.Answer.Move.{Seen}
+use Rattle.paper.specs.Answer.Move.{SeenAll, SeenOne, memberBonds}
 use Rattle.paper.specs.Answer.Task.{Sweep, tasks, temperatureOf, masked, idleTasks, movedTasks}
 use Rattle.paper.specs.Answer.Sweep.{Sweeps, taskRules, sweepRules}
 
@@ -93,16 +93,19 @@ pub energies : Energies
 unfolding sum
 energies = record { itself = refl; twice = refl; second = refl }
 
--- which components SW reaches: flips move those of two sites and more, permutations every one, and neither looks at the seed, which may be no site
+-- which components SW reaches: flips move those of two sites and more, permutations every one, and neither looks at the seed, which may be no site.
+-- Grow reaches the sites whose byte is 1
 pub record Reaches : Type 0 where
   pub flips-two : reachedBy Sw Pair 0 (0 ∷ 0 ∷ []) 1 ≡ true
   pub flips-single : reachedBy Sw Pair 0 (0 ∷ []) 0 ≡ false
   pub permutes-single : reachedBy Sw Perm 0 (0 ∷ []) 0 ≡ true
   pub seedless : reachedBy Sw Perm 4096 (0 ∷ []) 0 ≡ true
+  pub grown : reachedBy Grow Pair 1 (1 ∷ 1 ∷ 0 ∷ []) 0 ≡ true
+  pub not-grown : reachedBy Grow Pair 1 (1 ∷ 1 ∷ 0 ∷ []) 2 ≡ false
 
 pub reaches : Reaches
 unfolding sizeOf countWhere
-reaches = record { flips-two = refl; flips-single = refl; permutes-single = refl; seedless = refl }
+reaches = record { flips-two = refl; flips-single = refl; permutes-single = refl; seedless = refl; grown = refl; not-grown = refl }
 
 -- CMR on two sites with row 9's bond between them, (+,+) and (+,-): it is red, so it joins grey components and no blue ones
 abbrev cmr : Call
@@ -127,12 +130,13 @@ greyOne = record { choices = []; greys = 1 ∷ [] }
 pub record Greys : Type 0 where
   pub not-blue : holds cmr red 0 0 ≡ false
   pub grey : holdsGrey cmr red 0 0 ≡ true
+  pub member : memberBonds cmr red 0 0 ≡ true
   -- of what the blue flip left at site 0, (-,-), and not of what was there before
   pub second : row 2 (afterGrey cmr greyOne red (0 ∷ 0 ∷ []) 0 (of (- ∷ - ∷ []))) ≡ + ∷ - ∷ []
 
 pub greys : Greys
 unfolding holds holdsGrey acts reached sizeOf countWhere row mul div lt ofInt
-greys = record { not-blue = refl; grey = refl; second = refl }
+greys = record { not-blue = refl; grey = refl; member = refl; second = refl }
 
 -- what is counted: of the same two sites, each alone, pair counts the second, which acts, and CMR counts both
 abbrev pair : Call
@@ -162,7 +166,7 @@ counts = record { one = refl; one-size = refl; both = refl; both-sizes = refl; s
 -- and that is what a move's counts and sizes are of
 pub acting-counted :
     (c : Call) (b b′ : Buffers)
-    → Seen c b b′
+    → SeenAll c b b′
     → Counted (acts c (b .spins)) (b′ .labels) (b′ .counts) × Largest (acts c (b .spins)) (b′ .labels) (b′ .sizes)
 acting-counted c b b′ s = (s .counts, s .sizes)
 
@@ -205,15 +209,29 @@ pub tasks-counted :
     → idle ∷ moved ∷ [] ≡ idleTasks w (b .spins) ∷ movedTasks w (b .spins) ∷ []
 tasks-counted w b b′ idle moved s = s .counts
 
--- bonds are judged on the spins before the move: what it leaves in the spins does not matter to the labels, counts and sizes
+-- bonds are judged on the spins before the move: what it leaves in the spins does not matter to the labels, counts and sizes, nor to the members
+abbrev withSpins : Buffers → List ℤ → Buffers
+withSpins b ys = record { spins = ys; labels = b .labels; greyLabels = b .greyLabels; counts = b .counts; sizes = b .sizes; members = b .members }
+
 pub judged-before :
     (c : Call) (b b′ : Buffers) (ys : List ℤ)
-    → Seen c b b′
-    → Seen c b (record { spins = ys; labels = b′ .labels; greyLabels = b′ .greyLabels; counts = b′ .counts; sizes = b′ .sizes })
+    → SeenAll c b b′
+    → SeenAll c b (withSpins b′ ys)
 judged-before c b b′ ys s = record {
   labels = s .labels;
   grey-labels = s .grey-labels;
   grey-kept = s .grey-kept;
   counts = s .counts;
   sizes = s .sizes;
+  members-kept = s .members-kept;
+}
+
+pub grown-before : (c : Call) (b b′ : Buffers) (ys : List ℤ) → SeenOne c b b′ → SeenOne c b (withSpins b′ ys)
+grown-before c b b′ ys s = record {
+  members = s .members;
+  none = s .none;
+  labels-kept = s .labels-kept;
+  grey-kept = s .grey-kept;
+  counts-kept = s .counts-kept;
+  sizes-kept = s .sizes-kept;
 }

@@ -46,8 +46,11 @@ same-length-3 c = search needs
 same-length-4 : tie.Need-same-length-4
 same-length-4 c = search needs
 
+same-length-5 : tie.Need-same-length-5
+same-length-5 c = search needs
+
 abbrev M : tie.After-overlap-step → tie.After-mode-of
-M k = k .before .before .before .before .before .before .before .before .before
+M k = k .before .before .before .before .before .before .before .before .before .before
 
 -- the literal 1.0, by its bits
 one : ofBits binary32 1065353216 ≡ whole 1
@@ -56,7 +59,7 @@ one = refl
 
 returns : tie.Need-returns
 returns c =
-    let k = c .before .before .before .before .before .before .before .before in
+    let k = c .before .before .before .before .before .before .before .before .before .before in
     let o = k .overlap-step in
     let e = rw (empty (o .last .1 .1 .1 .1 .1 .1 .1 .1 .1 .0) (o .kept .1 .1 .1 .1 .1 .1 .1 .1 .1 .0)) at (o .ensures) in
     rw one at (rw (M k .mode-of .ensures) at e)
@@ -78,4 +81,5 @@ houdayer-step-spec =
     same-length-2
     same-length-3
     same-length-4
+    same-length-5
     returns)

@@ -28,9 +28,12 @@ same-length-3 c = search needs
 same-length-4 : tie.Need-same-length-4
 same-length-4 c = search needs
 
+same-length-5 : tie.Need-same-length-5
+same-length-5 c = search needs
+
 returns : tie.Need-returns
 returns c =
-    let k = c .before .before .before .before .before .before .before .before in
+    let k = c .before .before .before .before .before .before .before .before .before .before in
     let o = k .overlap-step in
     rw (empty (o .last .1 .1 .1 .1 .1 .1 .1 .1 .1 .0) (o .kept .1 .1 .1 .1 .1 .1 .1 .1 .1 .0)) at (o .ensures)
 
@@ -46,4 +49,5 @@ jorg-step-spec =
     same-length-2
     same-length-3
     same-length-4
+    same-length-5
     returns)

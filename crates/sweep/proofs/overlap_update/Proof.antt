@@ -14,7 +14,7 @@ use Rattle.sweep.proofs.overlap_update.Tie as tie
 abbrev S : tie.After-test-sweep → tie.Start
 S t =
     t .before .before .before .before .before .before .before .before .before .before .before .before .before .before .before .before .before .before
-    .before .before
+    .before .before .before .before
 
 abbrev W : tie.Start → Sweep
 W s =
@@ -23,7 +23,7 @@ W s =
     (now (a .references)) (now (a .seeds)) (now (a .choices)) (now (a .greys))
 
 abbrev B : tie.Start → Buffers
-B s = let a = s .args in buffersOf (now (a .spins)) (now (a .labels)) (now (a .grey-labels)) (now (a .counts)) (now (a .sizes))
+B s = let a = s .args in buffersOf (now (a .spins)) (now (a .labels)) (now (a .grey-labels)) (now (a .counts)) (now (a .sizes)) (now (a .members))
 
 test-sweep-requires : tie.Need-test-sweep-requires
 test-sweep-requires c κs = search needs
@@ -43,18 +43,18 @@ same-length-4 c = search needs
 same-length-5 : tie.Need-same-length-5
 same-length-5 c = search needs
 
+same-length-6 : tie.Need-same-length-6
+same-length-6 c = search needs
+
 returns : tie.Need-returns
 returns c = let t = c .before in let s = S t in refused-sweep (W s) (B s) (t .test-sweep .result) (c .if1 .taken) (t .test-sweep .ensures)
 
 run-tasks-requires : tie.Need-run-tasks-requires
 run-tasks-requires c κs =
-    let e = c .before .before .before .before .before in
+    let e = c .before .before .before .before .before .before in
     let t = e .before in
     let s = S t in
     verdict-kept (sweepRules (W s) (B s)) (t .test-sweep .result) (e .if1 .left) (t .test-sweep .ensures)
-
-same-length-6 : tie.Need-same-length-6
-same-length-6 c = search needs
 
 same-length-7 : tie.Need-same-length-7
 same-length-7 c = search needs
@@ -68,8 +68,14 @@ same-length-9 c = search needs
 same-length-10 : tie.Need-same-length-10
 same-length-10 c = search needs
 
+same-length-11 : tie.Need-same-length-11
+same-length-11 c = search needs
+
+same-length-12 : tie.Need-same-length-12
+same-length-12 c = search needs
+
 returns-2 : tie.Need-returns-2
-returns-2 c = c .before .before .before .before .before .before .before .before .before .run-tasks .ensures
+returns-2 c = c .before .before .before .before .before .before .before .before .before .before .before .run-tasks .ensures
 
 pub overlap-update-spec : {M : Type 1} → statement M
 overlap-update-spec =
@@ -81,11 +87,13 @@ overlap-update-spec =
     same-length-3
     same-length-4
     same-length-5
+    same-length-6
     returns
     run-tasks-requires
-    same-length-6
     same-length-7
     same-length-8
     same-length-9
     same-length-10
+    same-length-11
+    same-length-12
     returns-2)

@@ -2,7 +2,7 @@
 use borrow.Author.Needs.{needs}
 use mathlib.Core.Path.{_≡_, refl}
 use Rattle.lemmas.specs.Tells.{same, both, test-eq}
-use Rattle.paper.specs.Panel.Takes.{drawsBonds, isGperm, isWolff}
+use Rattle.paper.specs.Panel.Takes.{drawsBonds, isGperm, oneCluster}
 use Rattle.tests.specs.Lengths.{took, counted}
 use Rattle.tasks.specs.Plan.{tasksOf, few-tasks}
 use Rattle.sweep_tests.specs.Lengths.{Fitting}
@@ -21,8 +21,8 @@ drawn c = c .is-drawn .ensures
 gperm : (c : tie.After-is-gperm) → c .is-gperm .result ≡ isGperm (D (c .before .before) .before .before .args .plan .mode)
 gperm c = c .is-gperm .ensures
 
-wolff : (c : tie.After-is-wolff) → c .is-wolff .result ≡ isWolff (D (c .before .before .before .before) .before .before .args .plan .form)
-wolff c = c .is-wolff .ensures
+one : (c : tie.After-one-cluster) → c .one-cluster .result ≡ oneCluster (D (c .before .before .before .before) .before .before .args .plan .form)
+one c = c .one-cluster .ensures
 
 task-count-requires : tie.Need-task-count-requires
 task-count-requires c κs = search needs
@@ -51,8 +51,8 @@ is-gperm-requires c κs = search needs
 fits-requires-2 : tie.Need-fits-requires-2
 fits-requires-2 c κs = search needs
 
-is-wolff-requires : tie.Need-is-wolff-requires
-is-wolff-requires c κs = search needs
+one-cluster-requires : tie.Need-one-cluster-requires
+one-cluster-requires c κs = search needs
 
 fits-requires-3 : tie.Need-fits-requires-3
 fits-requires-3 c κs = search needs
@@ -76,7 +76,7 @@ returns c =
     (test-eq (a .o .masks) (a .plan .t)))
     (took {r = f2 .fits2 .result} (drawn i) refl (f2 .fits2 .ensures)))
     (took {r = f3 .fits3 .result} (gperm g) (count k) (f3 .fits3 .ensures)))
-    (took {r = c .fits4 .result} (wolff w) (count k) (c .fits4 .ensures)))
+    (took {r = c .fits4 .result} (one w) (count k) (c .fits4 .ensures)))
     .says
 
 pub lengths-ok-spec : {M : Type 1} → statement M
@@ -89,6 +89,6 @@ lengths-ok-spec =
     fits-requires
     is-gperm-requires
     fits-requires-2
-    is-wolff-requires
+    one-cluster-requires
     fits-requires-3
     returns)

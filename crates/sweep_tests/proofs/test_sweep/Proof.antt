@@ -16,7 +16,7 @@ use Rattle.sweep_tests.proofs.test_sweep.Statement.{statement}
 use Rattle.sweep_tests.proofs.test_sweep.Tie as tie
 
 abbrev S : tie.After-plan-ok → tie.Start
-S t = t .before .before .before .before .before .before .before .before .before .before .before .before .before .before .before
+S t = t .before .before .before .before .before .before .before .before .before .before .before .before .before .before .before .before
 
 abbrev W : tie.Start → Sweep
 W s =
@@ -25,7 +25,7 @@ W s =
     (now (a .references)) (now (a .seeds)) (now (a .choices)) (now (a .greys))
 
 abbrev B : tie.Start → Buffers
-B s = let a = s .args in buffersOf (now (a .spins)) (now (a .labels)) (now (a .grey-labels)) (now (a .counts)) (now (a .sizes))
+B s = let a = s .args in buffersOf (now (a .spins)) (now (a .labels)) (now (a .grey-labels)) (now (a .counts)) (now (a .sizes)) (now (a .members))
 
 -- where each test was reached
 abbrev E1 : tie.Else2 → tie.Else1
@@ -115,7 +115,7 @@ returns-5 c =
     (verdict-later (panelOf (W s) (B s)) (heatOf (W s) (B s) ++ tasksRules (W s) (B s)) (c .test-tasks .result) (panel p)
     (verdict-later (heatOf (W s) (B s)) (tasksRules (W s) (B s)) (c .test-tasks .result) (heat h)
     (c .test-tasks .ensures .is (now (a .fwd)) (now (a .bwd)) (now (a .couplings))
-    (now (a .labels)) (now (a .grey-labels)) (now (a .counts)) (now (a .sizes)))))
+    (now (a .labels)) (now (a .grey-labels)) (now (a .counts)) (now (a .sizes)) (now (a .members)))))
 
 pub test-sweep-spec : {M : Type 1} → statement M
 test-sweep-spec =

@@ -12,7 +12,10 @@ returns-2 : tie.Need-returns-2
 returns-2 c = search needs
 
 returns-3 : tie.Need-returns-3
-returns-3 c = let e : c .before .args .code ≡ 2 = omega (arith, c .before .pre) in rw e refl
+returns-3 c = search needs
+
+returns-4 : tie.Need-returns-4
+returns-4 c = let e : c .before .args .code ≡ 3 = omega (arith, c .before .pre) in rw e refl
 
 pub form-of-spec : {M : Type 1} → statement M
-form-of-spec = tie.close (tie.spec returns returns-2 returns-3)
+form-of-spec = tie.close (tie.spec returns returns-2 returns-3 returns-4)

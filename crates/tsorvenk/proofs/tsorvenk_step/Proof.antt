@@ -1,22 +1,30 @@
 -- `tsorvenk_step` meets its contract: a code that is none is refused, and any other call is answered by `overlap_step`.
 use borrow.Author.Needs.{needs}
-use native.Mathlib.Omega.{arith}
 use denote.Ref.{now}
+use Rattle.lemmas.specs.Tells.{passed, refused}
+use Rattle.tsorvenk.specs.Number.{Coded}
 use Rattle.tsorvenk.proofs.Told.{unknown-code, known-code, same-call, same-choices}
 use Rattle.tsorvenk.proofs.tsorvenk_step.Statement.{statement}
 use Rattle.tsorvenk.proofs.tsorvenk_step.Tie as tie
 
-returns : tie.Need-returns
-returns c = unknown-code (λ k. omega (arith, c .if1 .taken))
+abbrev S : tie.After-codes-ok → tie.Start
+S k = k .before .before .before .before .before .before .before .before .before .before .before .before .before
 
-returns-2 : tie.Need-returns-2
-returns-2 c = unknown-code (λ k. omega (arith, c .if2 .taken))
+-- the codes are known from here on
+known : (e : tie.Else1) → let a = S (e .before) .args in Coded (a .mode) (a .form)
+known e = passed (e .before .codes-ok .result) (e .if1 .left) (e .before .codes-ok .ensures)
+
+codes-ok-requires : tie.Need-codes-ok-requires
+codes-ok-requires c κs = search needs
+
+returns : tie.Need-returns
+returns c = unknown-code (refused (c .before .codes-ok .result) (c .if1 .taken) (c .before .codes-ok .ensures))
 
 mode-of-requires : tie.Need-mode-of-requires
-mode-of-requires c κs = search needs
+mode-of-requires c κs = known c .mode-known
 
 form-of-requires : tie.Need-form-of-requires
-form-of-requires c κs = search needs
+form-of-requires c κs = known (c .before) .form-known
 
 group-of-requires : tie.Need-group-of-requires
 group-of-requires c κs = search needs
@@ -45,31 +53,29 @@ same-length-4 c = search needs
 same-length-5 : tie.Need-same-length-5
 same-length-5 c = search needs
 
-abbrev S : tie.Else1 → tie.Start
-S e = e .before .before .before .before .before .before .before .before .before .before .before .before
+same-length-6 : tie.Need-same-length-6
+same-length-6 c = search needs
 
 abbrev step-of : tie.After-number-of → tie.After-overlap-step
-step-of c = c .before .before .before .before .before .before .before .before .before .before
+step-of c = c .before .before .before .before .before .before .before .before .before .before .before .before
 
-returns-3 : tie.Need-returns-3
-returns-3 c =
+returns-2 : tie.Need-returns-2
+returns-2 c =
     let o = step-of c in
-    let t = o .before .before .before .before .before in
+    let t = o .before .before .before .before .before .before in
     let g = t .before .before in
     let f = g .before in
     let m = f .before in
     let a = S (m .before .before) .args in
     known-code (o .overlap-step .result) (c .number-of .ensures) (same-call (m .mode-of .ensures) (f .form-of .ensures) (g .group-of .ensures))
-    (same-choices (now (a .flips)) (now (a .perms)) (t .taken .ensures) (m .mode-of .ensures))
-    (record { mode-known = m .before .before .if1 .left; form-known = m .before .if2 .left })
-    (o .overlap-step .ensures)
+    (same-choices (now (a .flips)) (now (a .perms)) (t .taken .ensures) (m .mode-of .ensures)) (known (m .before)) (o .overlap-step .ensures)
 
 pub tsorvenk-step-spec : {M : Type 1} → statement M
 tsorvenk-step-spec =
     tie.close
     (tie.spec
+    codes-ok-requires
     returns
-    returns-2
     mode-of-requires
     form-of-requires
     group-of-requires
@@ -81,4 +87,5 @@ tsorvenk-step-spec =
     same-length-3
     same-length-4
     same-length-5
-    returns-3)
+    same-length-6
+    returns-2)

@@ -1,10 +1,10 @@
 //! bench [repetitions]: the port against the published Rust, in one run, as the tables of docs/BENCHMARKS.md.
 //!
 //! Times are medians in microseconds. "Rust" is the published code with a generator, "lent" the same code with its
-//! draws read from the lent choices, "depth" the one-cluster form without outputs, which the port does not have. The
-//! port's tests are the time of the same call made to fail its last test; "move" is the rest. The standard output has
-//! the tables, and the standard error each case with all that was measured. Where the port is not linked the model
-//! stands in for it, so that the run itself can be tried.
+//! draws read from the lent choices, "depth" the one-cluster form without outputs, a search from the seed; beside a
+//! form that grows "Rust" and "lent" are that search. The port's tests are the time of the same call made to fail its
+//! last test; "move" is the rest. The standard output has the tables, and the standard error each case with all that
+//! was measured. Where the port is not linked the model stands in for it, so that the run itself can be tried.
 mod clusters;
 mod draws;
 mod edges;
@@ -84,7 +84,7 @@ fn row(name: &str, mut cells: Vec<String>, columns: usize) {
     println!("| {name} | {} |", cells.join(" | "));
 }
 
-/// A row for each mode, form and number of directions, with a cell for each size of the group.
+/// A row for each mode, form and number of directions, with a cell for each size of the group. `Grow` has tables of its own.
 fn by_size(
     bench: &mut Bench,
     title: &str,
@@ -93,7 +93,7 @@ fn by_size(
     head(title, "Mode and form", &["N = 2", "N = 4", "N = 8"]);
     for mode in Mode::ALL {
         for &d in directions(mode) {
-            for form in Form::ALL {
+            for form in Form::LABELLED {
                 let cells = sizes(mode).iter().map(|&m| cell(bench, mode, form, d, m));
                 let name = format!("{} {}, D = {d}", mode.name(), form.name());
                 row(&name, cells.collect(), 3);
@@ -103,17 +103,19 @@ fn by_size(
     bench.ratios.print();
 }
 
-fn one_cluster(bench: &mut Bench) {
+/// The tests of a sweep are those of all that is lent, whatever the clusters are: they are shown apart.
+fn grown_sweeps(bench: &mut Bench) {
     let title =
-        "One cluster, N = 2, D = 2: whole call / the Rust's search from the seed without outputs";
-    head(
-        title,
-        "Mode, and the cluster's share of the sites",
-        &clusters::PATCHES.map(|p| p.share),
-    );
-    for mode in [Mode::Houd, Mode::Pair, Mode::Perm, Mode::Jorg, Mode::Cmr] {
-        let cells = clusters::PATCHES.map(|patches| bench.cluster_cell(mode, patches));
-        row(mode.name(), cells.into(), 3);
+        "Sweeps that grow, t = 8, r = 8: whole call less its tests / the Rust without outputs; \
+        the ratio to it with lent draws, which has the same clusters; the tests";
+    head(title, "Mode", &["N = 2", "N = 4", "N = 8"]);
+    for mode in Mode::ALL {
+        for d in [2, 3] {
+            let cells = sizes(mode)
+                .iter()
+                .map(|&m| bench.grown_sweep_cell(mode, d, m));
+            row(&format!("{}, D = {d}", mode.name()), cells.collect(), 3);
+        }
     }
     bench.ratios.print();
 }
@@ -162,7 +164,8 @@ fn main() {
         "Sweeps, t = 8, r = 8: whole call / Rust",
         |bench, mode, form, d, m| bench.sweep_cell(mode, form, d, m),
     );
-    one_cluster(&mut bench);
+    grown_sweeps(&mut bench);
+    bench.one_cluster();
     small_panels(&mut bench);
     bench.tables();
     bench.labelling();

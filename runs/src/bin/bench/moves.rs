@@ -7,7 +7,7 @@ use tsorvenk_runs::case::{Lent, Single, Swept};
 use tsorvenk_runs::model::Model;
 use tsorvenk_runs::timing::{self, batched, median, refused_single, refused_sweep};
 
-/// The published code's times for a sweep: with a generator, with lent draws, and depth first.
+/// The published code's times for a sweep: with a generator, with lent draws, and depth first. Of a form that grows the first two are depth first.
 pub struct Rust {
     pub own: f64,
     pub lent: f64,
@@ -43,18 +43,36 @@ impl Times {
 }
 
 fn rust(repetitions: usize, batch: usize, case: &Sweep, spins: &[i8]) -> Rust {
-    let mut work = spins.to_vec();
-    let ready = |work: &mut Vec<i8>| work.copy_from_slice(spins);
-    let time = |work: &mut Vec<i8>, outputs| {
-        let mut sweeper = Sweeper::new(case, outputs);
-        batched(repetitions, batch, work, ready, |work| sweeper.run(work))
+    // one group of two in a one-cluster form starts from the port's seed in every run
+    let pinned = case.form.one_cluster() && case.t == 1 && case.r == 2;
+    let ready = |(sweeper, work): &mut (Sweeper, Vec<i8>)| {
+        work.copy_from_slice(spins);
+        if pinned {
+            let reference = case.references.first().map_or(0, |&site| site as usize);
+            sweeper.pin(reference, case.seeds[0] as usize);
+        }
     };
-    let own = time(&mut work, true);
-    let depth = (case.form == Form::Wolff).then(|| time(&mut work, false));
-    let mut prepared = Prepared::new(case, Branch::UnionFind);
-    let lent = batched(repetitions, batch, &mut work, ready, |work| {
-        prepared.run(work, true)
-    });
+    let time = |outputs| {
+        let mut state = (Sweeper::new(case, outputs), spins.to_vec());
+        batched(repetitions, batch, &mut state, ready, |(sweeper, work)| {
+            sweeper.run(work)
+        })
+    };
+    let grow = case.form == Form::Grow;
+    let own = time(!grow);
+    let depth = (case.form == Form::Wolff).then(|| time(false));
+    let branch = match grow {
+        true => Branch::DepthFirst,
+        false => Branch::UnionFind,
+    };
+    let mut state = (Prepared::new(case, branch), spins.to_vec());
+    let lent = batched(
+        repetitions,
+        batch,
+        &mut state,
+        |(_, work)| work.copy_from_slice(spins),
+        |(prepared, work)| prepared.run(work, true),
+    );
     Rust { own, lent, depth }
 }
 
@@ -88,8 +106,8 @@ impl Bench {
         assert!(matches!(refusal, Answer::Refused(_)));
         let rust = published_as_is::PRESENT.then(|| {
             let mut lent = case.lent.clone();
-            let seeds = [case.seed as u32];
-            let call = one_group(case, &seeds, &mut lent);
+            let sites = [case.reference as u32, case.seed as u32];
+            let call = one_group(case, &sites, &mut lent);
             rust(self.repetitions, batch, &call, &case.lent.spins)
         });
         Times { all, tests, rust }
@@ -117,7 +135,7 @@ impl Bench {
         })
     }
 
-    pub fn sweep_cell(&mut self, mode: Mode, form: Form, d: usize, members: usize) -> String {
+    fn sweep_times(&mut self, mode: Mode, form: Form, d: usize, members: usize) -> Times {
         let repetitions = self.repetitions.div_ceil(4);
         let case = timing::swept(&mut self.rand, mode, form, d, members);
         assert!(case.run(self.port.as_mut()) == case.run(&mut Model));
@@ -135,11 +153,26 @@ impl Bench {
             mode.name(),
             form.name()
         ));
-        self.cell(all, times.rust.map(|r| r.own), |_| String::new())
+        times
+    }
+
+    pub fn sweep_cell(&mut self, mode: Mode, form: Form, d: usize, members: usize) -> String {
+        let times = self.sweep_times(mode, form, d, members);
+        self.cell(times.all, times.rust.map(|r| r.own), |_| String::new())
+    }
+
+    pub fn grown_sweep_cell(&mut self, mode: Mode, d: usize, members: usize) -> String {
+        let times = self.sweep_times(mode, Form::Grow, d, members);
+        let (moving, tests) = (times.moving(), times.tests);
+        let lent = times.rust.as_ref().map_or(0.0, |r| r.lent);
+        self.cell(moving, times.rust.map(|r| r.own), |_| {
+            format!("; lent {:.2}; {tests:.0}", moving / lent)
+        })
     }
 }
+
 /// A single move as the Rust runs it: one temperature with one group.
-fn one_group<'a>(case: &'a Single, seeds: &'a [u32], lent: &'a mut Lent) -> Sweep<'a> {
+fn one_group<'a>(case: &'a Single, sites: &'a [u32; 2], lent: &'a mut Lent) -> Sweep<'a> {
     let step = case.step(lent);
     Sweep {
         mode: step.mode,
@@ -156,10 +189,10 @@ fn one_group<'a>(case: &'a Single, seeds: &'a [u32], lent: &'a mut Lent) -> Swee
         couplings: step.couplings,
         order: step.group,
         masks: &[0],
-        temperatures: &[1.0],
+        temperatures: std::slice::from_ref(&case.temperature),
         cuts: step.cuts,
-        references: &[0],
-        seeds,
+        references: &sites[..1],
+        seeds: &sites[1..],
         flips: step.flips,
         perms: step.perms,
         greys: step.greys,
@@ -167,5 +200,6 @@ fn one_group<'a>(case: &'a Single, seeds: &'a [u32], lent: &'a mut Lent) -> Swee
         grey_labels: step.grey_labels,
         counts: step.counts,
         sizes: step.sizes,
+        member_sites: step.member_sites,
     }
 }

@@ -1,4 +1,5 @@
 -- `frame::panel::perm_move` meets its contract: it is the library's move, with the table that was worked out.
+use mathlib.Core.Path.{_∙_}
 use lib.Ieee.{ofInt, ofBits}
 use borrow.Author.Needs.{needs}
 use Rattle.frame.specs.Back.{reversed-of}
@@ -29,6 +30,12 @@ array-borrow-prefix-grey-labels c = search needs
 slice-aggregate-overlap-step-4 : tie.Need-slice-aggregate-overlap-step-4
 slice-aggregate-overlap-step-4 c = search needs
 
+array-borrow-prefix-members : tie.Need-array-borrow-prefix-members
+array-borrow-prefix-members c = search needs
+
+slice-aggregate-overlap-step-5 : tie.Need-slice-aggregate-overlap-step-5
+slice-aggregate-overlap-step-5 c = search needs
+
 overlap-step-requires : tie.Need-overlap-step-requires
 overlap-step-requires c κs = search needs
 
@@ -50,9 +57,16 @@ same-length-5 c = search needs
 returns : tie.Need-returns
 unfolding ofInt ofBits
 returns c =
-    let o = c .before .before .before .before .before .before .before .before in
-    let k = o .before .before .before .before .before .before .before .before .before .before .before .before in
-    record { long = search needs; reversed = reversed-of _ _ _ (k .backward .result) _ (k .backward .ensures); grey = _; answers = o .overlap-step .ensures }
+    let o = c .before .before .before .before .before .before .before .before .before in
+    let k = o .before .before .before .before .before .before .before .before .before .before .before .before .before in
+    let s = k .before .before .before .before .before .before .before .before in
+    record {
+      long = k .backward .kept .1 .1 .1 .0 ∙ s .pre .bwd-long;
+      reversed = reversed-of _ _ _ (k .backward .result) _ (k .backward .ensures);
+      grey = _;
+      members = _;
+      answers = o .overlap-step .ensures;
+    }
 
 pub perm-move-spec : {M : Type 1} → statement M
 perm-move-spec =
@@ -66,6 +80,8 @@ perm-move-spec =
     slice-aggregate-overlap-step-3
     array-borrow-prefix-grey-labels
     slice-aggregate-overlap-step-4
+    array-borrow-prefix-members
+    slice-aggregate-overlap-step-5
     overlap-step-requires
     same-length
     same-length-2

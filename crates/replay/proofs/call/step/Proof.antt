@@ -62,6 +62,12 @@ part-requires c κs = search needs
 part-requires-2 : tie.Need-part-requires-2
 part-requires-2 c κs = search needs
 
+array-borrow-prefix-members : tie.Need-array-borrow-prefix-members
+array-borrow-prefix-members c = search needs
+
+slice-aggregate-overlap-step : tie.Need-slice-aggregate-overlap-step
+slice-aggregate-overlap-step c = search needs
+
 overlap-step-requires : tie.Need-overlap-step-requires
 overlap-step-requires c κs = search needs
 
@@ -103,6 +109,8 @@ step-spec =
     task-of-requires
     part-requires
     part-requires-2
+    array-borrow-prefix-members
+    slice-aggregate-overlap-step
     overlap-step-requires
     past-requires-2
     of-step-requires

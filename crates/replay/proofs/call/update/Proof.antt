@@ -47,6 +47,12 @@ part-requires-2 c κs = search needs
 part-requires-3 : tie.Need-part-requires-3
 part-requires-3 c κs = search needs
 
+array-borrow-prefix-members : tie.Need-array-borrow-prefix-members
+array-borrow-prefix-members c = search needs
+
+slice-aggregate-overlap-update : tie.Need-slice-aggregate-overlap-update
+slice-aggregate-overlap-update c = search needs
+
 overlap-update-requires : tie.Need-overlap-update-requires
 overlap-update-requires c κs = search needs
 
@@ -83,6 +89,8 @@ update-spec =
     part-requires
     part-requires-2
     part-requires-3
+    array-borrow-prefix-members
+    slice-aggregate-overlap-update
     overlap-update-requires
     past-requires-2
     of-sweep-requires

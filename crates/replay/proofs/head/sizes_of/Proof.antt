@@ -58,8 +58,8 @@ is-gperm-requires c κs = search needs
 only-requires-3 : tie.Need-only-requires-3
 only-requires-3 c κs = search needs
 
-is-wolff-requires : tie.Need-is-wolff-requires
-is-wolff-requires c κs = search needs
+one-cluster-requires : tie.Need-one-cluster-requires
+one-cluster-requires c κs = search needs
 
 only-requires-4 : tie.Need-only-requires-4
 only-requires-4 c κs = search needs
@@ -139,7 +139,7 @@ sizes-of-spec =
     room-requires-9
     is-gperm-requires
     only-requires-3
-    is-wolff-requires
+    one-cluster-requires
     only-requires-4
     takes-choices-requires
     only-requires-5

@@ -16,18 +16,19 @@ use Rattle.sweep.proofs.run.run_tasks.Statement.{statement}
 use Rattle.sweep.proofs.run.run_tasks.Tie as tie
 
 abbrev Inv-loop : tie.InvT-loop
-Inv-loop plan spins₀ fwd bwd couplings order masks temperatures cuts references seeds choices greys labels₀ greyLabels₀ counts₀ sizes₀ count outcomes₀ k₀
-    spins labels greyLabels counts sizes outcomes k =
-    Ran (sweepOf plan fwd bwd couplings order masks temperatures cuts references seeds choices greys) (buffersOf spins₀ labels₀ greyLabels₀ counts₀ sizes₀)
-    k (outcomes .idle) (outcomes .moved) (buffersOf spins labels greyLabels counts sizes)
+Inv-loop plan spins₀ fwd bwd couplings order masks temperatures cuts references seeds choices greys labels₀ greyLabels₀ counts₀ sizes₀ members₀
+    count outcomes₀ k₀ spins labels greyLabels counts sizes members outcomes k =
+    Ran (sweepOf plan fwd bwd couplings order masks temperatures cuts references seeds choices greys)
+    (buffersOf spins₀ labels₀ greyLabels₀ counts₀ sizes₀ members₀) k (outcomes .idle) (outcomes .moved)
+    (buffersOf spins labels greyLabels counts sizes members)
 
 abbrev μ-loop : tie.MeasureT-loop
-μ-loop plan spins₀ fwd bwd couplings order masks temperatures cuts references seeds choices greys labels₀ greyLabels₀ counts₀ sizes₀ count outcomes₀ k₀
-    spins labels greyLabels counts sizes outcomes k =
+μ-loop plan spins₀ fwd bwd couplings order masks temperatures cuts references seeds choices greys labels₀ greyLabels₀ counts₀ sizes₀ members₀
+    count outcomes₀ k₀ spins labels greyLabels counts sizes members outcomes k =
     count - k
 
 abbrev S : tie.After-task-count Inv-loop μ-loop → tie.Start Inv-loop μ-loop
-S t = t .before .before .before .before .before .before .before .before .before .before .before .before .before .before .before
+S t = t .before .before .before .before .before .before .before .before .before .before .before .before .before .before .before .before
 
 abbrev W : tie.Start Inv-loop μ-loop → Sweep
 W s =
@@ -36,7 +37,7 @@ W s =
     (now (a .references)) (now (a .seeds)) (now (a .choices)) (now (a .greys))
 
 abbrev B : tie.Start Inv-loop μ-loop → Buffers
-B s = let a = s .args in buffersOf (now (a .spins)) (now (a .labels)) (now (a .grey-labels)) (now (a .counts)) (now (a .sizes))
+B s = let a = s .args in buffersOf (now (a .spins)) (now (a .labels)) (now (a .grey-labels)) (now (a .counts)) (now (a .sizes)) (now (a .members))
 
 planned : (s : tie.Start Inv-loop μ-loop) → Planned (s .args .plan)
 planned s = let r = s .pre .0 in record { ranged = r .ranged; all = r .all; enough = r .enough }
@@ -49,17 +50,17 @@ below : (l : tie.In-loop Inv-loop μ-loop) → l .before .loop .k < tasksOf (S (
 below l = rw (C l .task-count .ensures) at (l .loop-test .taken)
 
 abbrev now-at : tie.In-loop Inv-loop μ-loop → Buffers
-now-at l = let z = l .before .loop in buffersOf (z .spins) (z .labels) (z .grey-labels) (z .counts) (z .sizes)
+now-at l = let z = l .before .loop in buffersOf (z .spins) (z .labels) (z .grey-labels) (z .counts) (z .sizes) (z .members)
 
 task-count-requires : tie.Need-task-count-requires Inv-loop μ-loop
-task-count-requires c κs = planned (c .before .before .before .before .before .before .before .before .before .before .before .before .before .before)
+task-count-requires c κs = planned (c .before .before .before .before .before .before .before .before .before .before .before .before .before .before .before)
 
 loop-holds : tie.Need-loop-holds Inv-loop μ-loop
 loop-holds c = let s = S c in ran-none (W s) (B s) (s .pre)
 
 step-requires : tie.Need-step-requires Inv-loop μ-loop
 step-requires c κs =
-    let l = c .before .before .before .before .before in
+    let l = c .before .before .before .before .before .before in
     let z = l .before .loop in
     let s = S (C l) in
     record {
@@ -70,19 +71,21 @@ step-requires c κs =
 
 add-k : tie.Need-add-k Inv-loop μ-loop
 add-k c =
-    let l = c .before .before .before .before .before .before .before .before .before .before .before .before .before .before .before in
+    let a = c .before .before .before .before .before .before .before .before .before in
+    let l = a .before .before .before .before .before .before .before .before .before in
     let s = S (C l) in
     omega (arith, below l, few-tasks (s .args .plan) (planned s))
 
 loop-less : tie.Need-loop-less Inv-loop μ-loop
 loop-less c =
-    let l = c .before .before .before .before .before .before .before .before .before .before .before .before .before .before .before in
+    let a = c .before .before .before .before .before .before .before .before .before in
+    let l = a .before .before .before .before .before .before .before .before .before in
     omega (arith, l .loop-test .taken)
 
 loop-again : tie.Need-loop-again Inv-loop μ-loop
 loop-again c =
-    let t = c .before .before .before .before .before .before .before .before .before in
-    let l = t .before .before .before .before .before .before in
+    let t = c .before .before .before .before .before .before .before .before .before .before .before in
+    let l = t .before .before .before .before .before .before .before in
     let s = S (C l) in
     t .step .ensures .further (B s) (s .pre) (below l) (l .before .loop .inv)
 
@@ -101,6 +104,9 @@ same-length-4 c = search needs
 same-length-5 : tie.Need-same-length-5 Inv-loop μ-loop
 same-length-5 c = search needs
 
+same-length-6 : tie.Need-same-length-6 Inv-loop μ-loop
+same-length-6 c = search needs
+
 returns : tie.Need-returns Inv-loop μ-loop
 returns c =
     let t = c .before .before in
@@ -108,7 +114,7 @@ returns c =
     let z = c .before .loop in
     let e : z .k ≡ tasksOf (s .args .plan) = le-antisymm (z .inv .reached) (rw (t .task-count .ensures) at (c .loop-test .left)) in
     ran-all (W s) (B s) (s .pre) (z .outcomes .idle) (z .outcomes .moved)
-    (buffersOf (z .spins) (z .labels) (z .grey-labels) (z .counts) (z .sizes)) (rw e at (z .inv))
+    (buffersOf (z .spins) (z .labels) (z .grey-labels) (z .counts) (z .sizes) (z .members)) (rw e at (z .inv))
 
 pub run-tasks-spec : {M : Type 1} → statement M
 run-tasks-spec =
@@ -127,4 +133,5 @@ run-tasks-spec =
     same-length-3
     same-length-4
     same-length-5
+    same-length-6
     returns)

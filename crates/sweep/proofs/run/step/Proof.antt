@@ -10,24 +10,24 @@ use Rattle.paper.specs.Answer.Task.{Sweep}
 use Rattle.paper.specs.Panel.Made.{buffersOf}
 use Rattle.paper.specs.Answer.Made.{sweepOf}
 use Rattle.tasks.specs.Plan.{Few, few, maskedAt}
-use Rattle.tasks.specs.Parts.{Lendable, lendable}
+use Rattle.tasks.specs.Parts.{Lendable, lendable, lent-length, back-length}
 use Rattle.sweep.specs.Running.{Parts, valid-parts, answers-parts, areas-lent, steps-put}
 use Rattle.sweep.specs.Turning.{turned-masked, turned-one}
 use Rattle.sweep.proofs.run.step.Statement.{statement}
 use Rattle.sweep.proofs.run.step.Tie as tie
 
 abbrev S : tie.After-masked → tie.Start
-S t = t .before .before .before .before .before .before .before .before .before .before .before .before .before .before .before
+S t = t .before .before .before .before .before .before .before .before .before .before .before .before .before .before .before .before
 
 -- past the bounds of the areas, and past the parts of the inputs
-abbrev T : tie.After-bounds4 → tie.Start
-T t = S (t .before .before .before .before .before)
+abbrev T : tie.After-bounds5 → tie.Start
+T t = S (t .before .before .before .before .before .before)
 
 abbrev G : tie.After-task-greys → tie.After-task-of
 G g = g .before .before .before .before
 
-abbrev B4 : tie.After-task-greys → tie.After-bounds4
-B4 g = G g .before
+abbrev B5 : tie.After-task-greys → tie.After-bounds5
+B5 g = G g .before
 
 abbrev W : tie.Start → Sweep
 W s =
@@ -36,7 +36,7 @@ W s =
     (now (a .references)) (now (a .seeds)) (now (a .choices)) (now (a .greys))
 
 abbrev B : tie.Start → Buffers
-B s = let a = s .args in buffersOf (now (a .spins)) (now (a .labels)) (now (a .grey-labels)) (now (a .counts)) (now (a .sizes))
+B s = let a = s .args in buffersOf (now (a .spins)) (now (a .labels)) (now (a .grey-labels)) (now (a .counts)) (now (a .sizes)) (now (a .members))
 
 unmasked : (e : tie.Else1) → let s = S (e .before) in maskedAt (s .args .plan) (now (s .args .masks)) (s .args .k) ≡ false
 unmasked e = sym (e .before .masked .ensures) ∙ e .if1 .left
@@ -55,19 +55,23 @@ fours : (s : tie.Start) → Few (s .args .k) 4
 fours s = small s 4 (omega arith)
 
 -- each area can be lent
-labels-lent : (t : tie.After-bounds4) → let r = t .before .before .before .bounds .result in Lendable (now (T t .args .labels)) (r .start) (r .end)
-labels-lent t = lendable (now (T t .args .labels)) (T t .args .k) (T t .args .plan .n) _ _ (t .before .before .before .bounds .ensures) (sites (T t))
+labels-lent : (t : tie.After-bounds5) → let r = t .before .before .before .before .bounds .result in Lendable (now (T t .args .labels)) (r .start) (r .end)
+labels-lent t = lendable (now (T t .args .labels)) (T t .args .k) (T t .args .plan .n) _ _ (t .before .before .before .before .bounds .ensures) (sites (T t))
 
-grey-labels-lent : (t : tie.After-bounds4) → let r = t .before .before .bounds2 .result in Lendable (now (T t .args .grey-labels)) (r .start) (r .end)
-grey-labels-lent t = lendable (now (T t .args .grey-labels)) (T t .args .k) (T t .args .plan .n) _ _ (t .before .before .bounds2 .ensures) (sites (T t))
+grey-labels-lent : (t : tie.After-bounds5) → let r = t .before .before .before .bounds2 .result in Lendable (now (T t .args .grey-labels)) (r .start) (r .end)
+grey-labels-lent t =
+    lendable (now (T t .args .grey-labels)) (T t .args .k) (T t .args .plan .n) _ _ (t .before .before .before .bounds2 .ensures) (sites (T t))
 
-counts-lent : (t : tie.After-bounds4) → let r = t .before .bounds3 .result in Lendable (now (T t .args .counts)) (r .start) (r .end)
-counts-lent t = lendable (now (T t .args .counts)) (T t .args .k) (T t .args .plan .n + 1) _ _ (t .before .bounds3 .ensures) (counts (T t))
+counts-lent : (t : tie.After-bounds5) → let r = t .before .before .bounds3 .result in Lendable (now (T t .args .counts)) (r .start) (r .end)
+counts-lent t = lendable (now (T t .args .counts)) (T t .args .k) (T t .args .plan .n + 1) _ _ (t .before .before .bounds3 .ensures) (counts (T t))
 
-sizes-lent : (t : tie.After-bounds4) → let r = t .bounds4 .result in Lendable (now (T t .args .sizes)) (r .start) (r .end)
-sizes-lent t = lendable (now (T t .args .sizes)) (T t .args .k) 4 _ _ (t .bounds4 .ensures) (fours (T t))
+sizes-lent : (t : tie.After-bounds5) → let r = t .before .bounds4 .result in Lendable (now (T t .args .sizes)) (r .start) (r .end)
+sizes-lent t = lendable (now (T t .args .sizes)) (T t .args .k) 4 _ _ (t .before .bounds4 .ensures) (fours (T t))
 
-parts : (g : tie.After-task-greys) → let s = T (B4 g) in
+members-lent : (t : tie.After-bounds5) → let r = t .bounds5 .result in Lendable (now (T t .args .members)) (r .start) (r .end)
+members-lent t = lendable (now (T t .args .members)) (T t .args .k) (T t .args .plan .n) _ _ (t .bounds5 .ensures) (sites (T t))
+
+parts : (g : tie.After-task-greys) → let s = T (B5 g) in
     Parts (W s) (s .args .k) (G g .task-of .result) (now (g .before .before .task-cuts .result)) (now (g .before .task-choices .result))
     (now (g .task-greys .result))
 parts g = record {
@@ -79,7 +83,7 @@ parts g = record {
 
 masked-requires : tie.Need-masked-requires
 masked-requires c κs =
-    let s = c .before .before .before .before .before .before .before .before .before .before .before .before .before .before in
+    let s = c .before .before .before .before .before .before .before .before .before .before .before .before .before .before .before in
     s .pre .placing .task .planned
 
 returns : tie.Need-returns
@@ -102,6 +106,9 @@ bounds-requires-3 c κs = counts (S (c .before .before .before))
 bounds-requires-4 : tie.Need-bounds-requires-4
 bounds-requires-4 c κs = fours (S (c .before .before .before .before))
 
+bounds-requires-5 : tie.Need-bounds-requires-5
+bounds-requires-5 c κs = sites (S (c .before .before .before .before .before))
+
 task-of-requires : tie.Need-task-of-requires
 task-of-requires c κs = T c .pre .placing
 
@@ -114,73 +121,88 @@ task-choices-requires c κs = T (c .before .before .before) .pre .placing .task
 task-greys-requires : tie.Need-task-greys-requires
 task-greys-requires c κs = T (c .before .before .before .before) .pre .placing .task
 
-mul-run-task : tie.Need-mul-run-task
-mul-run-task c = omega (arith, labels-lent (B4 c) .few)
+mul-run-form : tie.Need-mul-run-form
+mul-run-form c = omega (arith, labels-lent (B5 c) .few)
 
-sub-run-task : tie.Need-sub-run-task
-sub-run-task c = labels-lent (B4 c) .ordered
+sub-run-form : tie.Need-sub-run-form
+sub-run-form c = labels-lent (B5 c) .ordered
 
-part-run-task-start : tie.Need-part-run-task-start
-part-run-task-start c = labels-lent (B4 c) .ordered
+part-run-form-start : tie.Need-part-run-form-start
+part-run-form-start c = labels-lent (B5 c) .ordered
 
-part-run-task-end : tie.Need-part-run-task-end
-part-run-task-end c = labels-lent (B4 c) .inside
+part-run-form-end : tie.Need-part-run-form-end
+part-run-form-end c = labels-lent (B5 c) .inside
 
-mul-run-task-2 : tie.Need-mul-run-task-2
-mul-run-task-2 c = omega (arith, grey-labels-lent (B4 (c .before)) .few)
+mul-run-form-2 : tie.Need-mul-run-form-2
+mul-run-form-2 c = omega (arith, grey-labels-lent (B5 (c .before)) .few)
 
-sub-run-task-2 : tie.Need-sub-run-task-2
-sub-run-task-2 c = grey-labels-lent (B4 (c .before)) .ordered
+sub-run-form-2 : tie.Need-sub-run-form-2
+sub-run-form-2 c = grey-labels-lent (B5 (c .before)) .ordered
 
-part-run-task-start-2 : tie.Need-part-run-task-start-2
-part-run-task-start-2 c = grey-labels-lent (B4 (c .before)) .ordered
+part-run-form-start-2 : tie.Need-part-run-form-start-2
+part-run-form-start-2 c = grey-labels-lent (B5 (c .before)) .ordered
 
-part-run-task-end-2 : tie.Need-part-run-task-end-2
-part-run-task-end-2 c = grey-labels-lent (B4 (c .before)) .inside
+part-run-form-end-2 : tie.Need-part-run-form-end-2
+part-run-form-end-2 c = grey-labels-lent (B5 (c .before)) .inside
 
-mul-run-task-3 : tie.Need-mul-run-task-3
-mul-run-task-3 c = omega (arith, counts-lent (B4 (c .before .before)) .few)
+mul-run-form-3 : tie.Need-mul-run-form-3
+mul-run-form-3 c = omega (arith, counts-lent (B5 (c .before .before)) .few)
 
-sub-run-task-3 : tie.Need-sub-run-task-3
-sub-run-task-3 c = counts-lent (B4 (c .before .before)) .ordered
+sub-run-form-3 : tie.Need-sub-run-form-3
+sub-run-form-3 c = counts-lent (B5 (c .before .before)) .ordered
 
-part-run-task-start-3 : tie.Need-part-run-task-start-3
-part-run-task-start-3 c = counts-lent (B4 (c .before .before)) .ordered
+part-run-form-start-3 : tie.Need-part-run-form-start-3
+part-run-form-start-3 c = counts-lent (B5 (c .before .before)) .ordered
 
-part-run-task-end-3 : tie.Need-part-run-task-end-3
-part-run-task-end-3 c = counts-lent (B4 (c .before .before)) .inside
+part-run-form-end-3 : tie.Need-part-run-form-end-3
+part-run-form-end-3 c = counts-lent (B5 (c .before .before)) .inside
 
-mul-run-task-4 : tie.Need-mul-run-task-4
-mul-run-task-4 c = omega (arith, sizes-lent (B4 (c .before .before .before)) .few)
+mul-run-form-4 : tie.Need-mul-run-form-4
+mul-run-form-4 c = omega (arith, sizes-lent (B5 (c .before .before .before)) .few)
 
-sub-run-task-4 : tie.Need-sub-run-task-4
-sub-run-task-4 c = sizes-lent (B4 (c .before .before .before)) .ordered
+sub-run-form-4 : tie.Need-sub-run-form-4
+sub-run-form-4 c = sizes-lent (B5 (c .before .before .before)) .ordered
 
-part-run-task-start-4 : tie.Need-part-run-task-start-4
-part-run-task-start-4 c = sizes-lent (B4 (c .before .before .before)) .ordered
+part-run-form-start-4 : tie.Need-part-run-form-start-4
+part-run-form-start-4 c = sizes-lent (B5 (c .before .before .before)) .ordered
 
-part-run-task-end-4 : tie.Need-part-run-task-end-4
-part-run-task-end-4 c = sizes-lent (B4 (c .before .before .before)) .inside
+part-run-form-end-4 : tie.Need-part-run-form-end-4
+part-run-form-end-4 c = sizes-lent (B5 (c .before .before .before)) .inside
 
-run-task-requires : tie.Need-run-task-requires
-run-task-requires c κs =
-    let g = c .before .before .before .before in
-    let t = B4 g in
+sub-run-form-5 : tie.Need-sub-run-form-5
+sub-run-form-5 c = members-lent (B5 (c .before .before .before .before)) .ordered
+
+part-run-form-start-5 : tie.Need-part-run-form-start-5
+part-run-form-start-5 c = members-lent (B5 (c .before .before .before .before)) .ordered
+
+part-run-form-end-5 : tie.Need-part-run-form-end-5
+part-run-form-end-5 c = members-lent (B5 (c .before .before .before .before)) .inside
+
+run-form-requires : tie.Need-run-form-requires
+run-form-requires c κs =
+    let g = c .before .before .before .before .before in
+    let t = B5 g in
     let s = T t in
-    let lent = areas-lent (W s) (s .args .k) (B s) (t .before .before .before .bounds .ensures) (t .before .before .bounds2 .ensures)
-    (t .before .bounds3 .ensures) (t .bounds4 .ensures) in
-    valid-parts (parts g) (rw lent at (s .pre .valid (unmasked (t .before .before .before .before))))
+    let lent = areas-lent (W s) (s .args .k) (B s) (t .before .before .before .before .bounds .ensures) (t .before .before .before .bounds2 .ensures)
+    (t .before .before .bounds3 .ensures) (t .before .bounds4 .ensures) (t .bounds5 .ensures) in
+    valid-parts (parts g) (rw lent at (s .pre .valid (unmasked (t .before .before .before .before .before))))
 
 add-requires : tie.Need-add-requires
 add-requires c κs =
-    let r = c .before .before .before .before .before .before .before .before .before in
-    T (B4 (r .before .before .before .before .before)) .pre .room
+    let r = c .before .before .before .before .before .before .before .before .before .before .before in
+    T (B5 (r .before .before .before .before .before .before)) .pre .room
 
 same-length : tie.Need-same-length
 same-length c = search needs
 
 same-length-2 : tie.Need-same-length-2
-same-length-2 c = search needs
+same-length-2 c =
+    let r = c .before .before .before .before .before .before .before .before .before .before .before .before in
+    let t = B5 (r .before .before .before .before .before .before) in
+    let s = T t in
+    let h = t .before .before .before .before .bounds .ensures in
+    back-length (now (s .args .labels)) (s .args .k) (s .args .plan .n) _ _ h (r .run-form .last .1 .1 .1 .1 .1 .1 .1 .1 .0)
+    (r .run-form .kept .1 .1 .1 .1 .1 .1 .1 .1 .0 ∙ lent-length (now (s .args .labels)) (s .args .k) (s .args .plan .n) _ _ h)
 
 same-length-3 : tie.Need-same-length-3
 same-length-3 c = search needs
@@ -191,20 +213,23 @@ same-length-4 c = search needs
 same-length-5 : tie.Need-same-length-5
 same-length-5 c = search needs
 
+same-length-6 : tie.Need-same-length-6
+same-length-6 c = search needs
+
 returns-2 : tie.Need-returns-2
 returns-2 c =
-    let r = c .before .before .before .before .before .before .before .before .before .before in
-    let g = r .before .before .before .before .before in
-    let t = B4 g in
+    let r = c .before .before .before .before .before .before .before .before .before .before .before .before in
+    let g = r .before .before .before .before .before .before in
+    let t = B5 g in
     let s = T t in
-    let z = r .run-task in
-    turned-one (W s) (s .args .k) (s .args .outcomes) (B s) (z .result) (c .add .result) _ (unmasked (t .before .before .before .before))
-    (steps-put (W s) (s .args .k) (B s) (t .before .before .before .bounds .ensures) (t .before .before .bounds2 .ensures)
-    (t .before .bounds3 .ensures) (t .bounds4 .ensures)
+    let z = r .run-form in
+    turned-one (W s) (s .args .k) (s .args .outcomes) (B s) (z .result) (c .add .result) _ (unmasked (t .before .before .before .before .before))
+    (steps-put (W s) (s .args .k) (B s) (t .before .before .before .before .bounds .ensures) (t .before .before .before .bounds2 .ensures)
+    (t .before .before .bounds3 .ensures) (t .before .bounds4 .ensures) (t .bounds5 .ensures)
     (z .last .1 .0) (z .last .1 .1 .1 .1 .1 .1 .1 .1 .0) (z .last .1 .1 .1 .1 .1 .1 .1 .1 .1 .0)
-    (z .last .1 .1 .1 .1 .1 .1 .1 .1 .1 .1 .0) (z .last .1 .1 .1 .1 .1 .1 .1 .1 .1 .1 .1 .0)
-    (z .kept .1 .1 .1 .1 .1 .1 .1 .1 .0) (z .kept .1 .1 .1 .1 .1 .1 .1 .1 .1 .0)
-    (z .kept .1 .1 .1 .1 .1 .1 .1 .1 .1 .1 .0) (z .kept .1 .1 .1 .1 .1 .1 .1 .1 .1 .1 .1 .0)
+    (z .last .1 .1 .1 .1 .1 .1 .1 .1 .1 .1 .0) (z .last .1 .1 .1 .1 .1 .1 .1 .1 .1 .1 .1 .0) (z .last .1 .1 .1 .1 .1 .1 .1 .1 .1 .1 .1 .1 .0)
+    (z .kept .1 .1 .1 .1 .1 .1 .1 .1 .0) (z .kept .1 .1 .1 .1 .1 .1 .1 .1 .1 .0) (z .kept .1 .1 .1 .1 .1 .1 .1 .1 .1 .1 .0)
+    (z .kept .1 .1 .1 .1 .1 .1 .1 .1 .1 .1 .1 .0) (z .kept .1 .1 .1 .1 .1 .1 .1 .1 .1 .1 .1 .1 .0)
     (z .result) (answers-parts (parts g) _ _ (z .result) (z .ensures))) (c .add .ensures)
 
 pub step-spec : {M : Type 1} → statement M
@@ -218,31 +243,36 @@ step-spec =
     add-bounds
     bounds-requires-3
     bounds-requires-4
+    bounds-requires-5
     task-of-requires
     task-cuts-requires
     task-choices-requires
     task-greys-requires
-    mul-run-task
-    sub-run-task
-    part-run-task-start
-    part-run-task-end
-    mul-run-task-2
-    sub-run-task-2
-    part-run-task-start-2
-    part-run-task-end-2
-    mul-run-task-3
-    sub-run-task-3
-    part-run-task-start-3
-    part-run-task-end-3
-    mul-run-task-4
-    sub-run-task-4
-    part-run-task-start-4
-    part-run-task-end-4
-    run-task-requires
+    mul-run-form
+    sub-run-form
+    part-run-form-start
+    part-run-form-end
+    mul-run-form-2
+    sub-run-form-2
+    part-run-form-start-2
+    part-run-form-end-2
+    mul-run-form-3
+    sub-run-form-3
+    part-run-form-start-3
+    part-run-form-end-3
+    mul-run-form-4
+    sub-run-form-4
+    part-run-form-start-4
+    part-run-form-end-4
+    sub-run-form-5
+    part-run-form-start-5
+    part-run-form-end-5
+    run-form-requires
     add-requires
     same-length
     same-length-2
     same-length-3
     same-length-4
     same-length-5
+    same-length-6
     returns-2)

@@ -6,7 +6,7 @@ use mathlib.Core.Bool.{_&&_}
 use denote.Ref.{now}
 use lib.ListN.{getD}
 use Rattle.lemmas.specs.Tells.{said, same, implies, test-is, test-lt}
-use Rattle.paper.specs.Panel.Takes.{isGperm, isWolff, flipsBy, permsBy, greysBy, entries}
+use Rattle.paper.specs.Panel.Takes.{isGperm, oneCluster, flipsBy, permsBy, greysBy, entries}
 use Rattle.paper.specs.Refusal.Rules.{When}
 use Rattle.tests.specs.Choices.{AtMost, PermRows, RowMoves}
 use Rattle.tests.proofs.Chosen.{entries-few, perms-long, one-grey, chosen-told}
@@ -14,17 +14,17 @@ use Rattle.tests.proofs.choices.chosen_ok.Statement.{statement}
 use Rattle.tests.proofs.choices.chosen_ok.Tie as tie
 
 -- the inputs that are taken, as the code found them
-abbrev Wolffed : tie.After-takes-greys → tie.After-is-wolff
-Wolffed d = d .before .before .before
+abbrev Oned : tie.After-takes-greys → tie.After-one-cluster
+Oned d = d .before .before .before
 
 abbrev Began : tie.After-takes-greys → tie.Start
-Began d = Wolffed d .before .before .before .before .before
+Began d = Oned d .before .before .before .before .before
 
 entries-requires : tie.Need-entries-requires
 entries-requires c κs = search needs
 
-is-wolff-requires : tie.Need-is-wolff-requires
-is-wolff-requires c κs = search needs
+one-cluster-requires : tie.Need-one-cluster-requires
+one-cluster-requires c κs = search needs
 
 takes-flips-requires : tie.Need-takes-flips-requires
 takes-flips-requires c κs = search needs
@@ -40,7 +40,7 @@ perms-fit-requires c κs =
     let a = Began c .args in
     let t = a .t in
     let p = Began c .pre in
-    rw (c .before .takes-perms .ensures, Wolffed c .before .entries .ensures)
+    rw (c .before .takes-perms .ensures, Oned c .before .entries .ensures)
     (record { few = entries-few (t .form) (t .n) (p .n-high); size-high = p .size-high; long = perms-long t (now (a .choices)) (now (a .greys)) p })
 
 moved-fit-requires : tie.Need-moved-fit-requires
@@ -56,7 +56,7 @@ grey-fit-requires : tie.Need-grey-fit-requires
 grey-fit-requires c κs =
     let d = c .before .before .before .before in
     let a = Began d .args in
-    rw (d .takes-greys .ensures, Wolffed d .is-wolff .ensures)
+    rw (d .takes-greys .ensures, Oned d .one-cluster .ensures)
     (one-grey (a .t) (now (a .choices)) (now (a .greys)) (Began d .pre))
 
 is-gperm-requires : tie.Need-is-gperm-requires
@@ -75,15 +75,15 @@ returns c =
     let t = a .t in
     chosen-told t (now (a .choices)) (now (a .greys)) (Began d .pre)
     (said (u .perms-fit .result) (When (permsBy (t .mode) (t .form)) (PermRows (entries (t .form) (t .n)) (t .group .len) (now (a .choices))))
-    (rw (d .before .takes-perms .ensures, Wolffed d .before .entries .ensures) at (u .perms-fit .ensures)))
-    (said (v .moved-fit .result) (When (permsBy (t .mode) (t .form) && isWolff (t .form)) (RowMoves (now (a .choices))))
-    (rw (d .before .takes-perms .ensures, Wolffed d .is-wolff .ensures) at (v .moved-fit .ensures)))
+    (rw (d .before .takes-perms .ensures, Oned d .before .entries .ensures) at (u .perms-fit .ensures)))
+    (said (v .moved-fit .result) (When (permsBy (t .mode) (t .form) && oneCluster (t .form)) (RowMoves (now (a .choices))))
+    (rw (d .before .takes-perms .ensures, Oned d .one-cluster .ensures) at (v .moved-fit .ensures)))
     (said (f1 .bytes-fit .result) (When (flipsBy (t .mode) (t .form)) (AtMost (now (a .choices)) 1))
     (rw (d .before .before .takes-flips .ensures) at (f1 .bytes-fit .ensures)))
     (said (f2 .bytes-fit2 .result) (When (greysBy (t .mode) (t .form)) (AtMost (now (a .greys)) 3))
     (rw (d .takes-greys .ensures) at (f2 .bytes-fit2 .ensures)))
-    (said (k .grey-fit .result) (When (greysBy (t .mode) (t .form) && isWolff (t .form)) (1 ≤ getD (now (a .greys)) 0 0))
-    (rw (d .takes-greys .ensures, Wolffed d .is-wolff .ensures) at (k .grey-fit .ensures)))
+    (said (k .grey-fit .result) (When (greysBy (t .mode) (t .form) && oneCluster (t .form)) (1 ≤ getD (now (a .greys)) 0 0))
+    (rw (d .takes-greys .ensures, Oned d .one-cluster .ensures) at (k .grey-fit .ensures)))
     (same (When (isGperm (t .mode)) (t .reference < t .n)) (λ w e. w (i .is-gperm .ensures ∙ e)) (λ w e. w (sym (i .is-gperm .ensures) ∙ e))
     (implies (test-is (i .is-gperm .result)) (test-lt (t .reference) (t .n))))
 
@@ -92,7 +92,7 @@ chosen-ok-spec =
     tie.close
     (tie.spec
     entries-requires
-    is-wolff-requires
+    one-cluster-requires
     takes-flips-requires
     takes-perms-requires
     takes-greys-requires

@@ -4,7 +4,7 @@ use borrow.Author.Tests.{not-true, not-false}
 use mathlib.Core.Path.{_≡_, sym, _∙_}
 use mathlib.Core.Bool.{true}
 use denote.Ref.{now}
-use Rattle.paper.specs.Panel.Takes.{isWolff}
+use Rattle.paper.specs.Panel.Takes.{oneCluster}
 use Rattle.tests.proofs.Seed.{unseeded, seed-past, seed-acts, seed-rests}
 use Rattle.tests.proofs.choices.seed_ok.Statement.{statement}
 use Rattle.tests.proofs.choices.seed_ok.Tie as tie
@@ -12,19 +12,19 @@ use Rattle.tests.proofs.choices.seed_ok.Tie as tie
 abbrev S : tie.Else1 → tie.Start
 S e = e .before .before .before
 
-wolff : (c : tie.Else1) → isWolff (S c .args .t .form) ≡ true
-wolff c = sym (c .before .is-wolff .ensures) ∙ not-false (c .before .is-wolff .result) (c .if1 .left)
+one : (c : tie.Else1) → oneCluster (S c .args .t .form) ≡ true
+one c = sym (c .before .one-cluster .ensures) ∙ not-false (c .before .one-cluster .result) (c .if1 .left)
 
-is-wolff-requires : tie.Need-is-wolff-requires
-is-wolff-requires c κs = search needs
+one-cluster-requires : tie.Need-one-cluster-requires
+one-cluster-requires c κs = search needs
 
 returns : tie.Need-returns
 returns c =
     let a = c .before .before .before .args in
-    unseeded (a .t) (now (a .spins)) (sym (c .before .is-wolff .ensures) ∙ not-true (c .before .is-wolff .result) (c .if1 .taken))
+    unseeded (a .t) (now (a .spins)) (sym (c .before .one-cluster .ensures) ∙ not-true (c .before .one-cluster .result) (c .if1 .taken))
 
 returns-2 : tie.Need-returns-2
-returns-2 c = let a = S (c .before) .args in seed-past (a .t) (now (a .spins)) (wolff (c .before)) (c .if2 .taken)
+returns-2 c = let a = S (c .before) .args in seed-past (a .t) (now (a .spins)) (one (c .before)) (c .if2 .taken)
 
 acts-at-requires : tie.Need-acts-at-requires
 acts-at-requires c κs = record { panel = S (c .before) .pre; below = c .if2 .left }
@@ -43,8 +43,8 @@ returns-4 c =
     let n = c .before in
     let e = n .before .before in
     let a = S (e .before) .args in
-    seed-rests (a .t) (now (a .spins)) (c .any-acts .result) (wolff (e .before)) (e .if2 .left)
+    seed-rests (a .t) (now (a .spins)) (c .any-acts .result) (one (e .before)) (e .if2 .left)
     (sym (n .before .acts-at .ensures) ∙ n .if3 .left) (c .any-acts .ensures)
 
 pub seed-ok-spec : {M : Type 1} → statement M
-seed-ok-spec = tie.close (tie.spec is-wolff-requires returns returns-2 acts-at-requires returns-3 any-acts-requires returns-4)
+seed-ok-spec = tie.close (tie.spec one-cluster-requires returns returns-2 acts-at-requires returns-3 any-acts-requires returns-4)

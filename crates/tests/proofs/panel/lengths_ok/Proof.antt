@@ -2,11 +2,11 @@
 use borrow.Author.Needs.{needs}
 use Prim.Native.Nat.{ℕ, _+_, _*_, _≤_}
 use mathlib.Core.Path.{_≡_, refl, ap, _∙_}
-use mathlib.Core.Bool.{Bool, true, false, cond}
+use mathlib.Core.Bool.{Bool, true, false, not, cond, _&&_}
 use native.Mathlib.Nat.{mul-le-mul}
 use native.Mathlib.Omega.{arith}
 use Rattle.lemmas.specs.Tells.{same, both, test-eq}
-use Rattle.paper.specs.Panel.Takes.{isPerm, entries, drawsBonds, choicesBy, greysBy, choiceWidth}
+use Rattle.paper.specs.Panel.Takes.{isPerm, growsBy, labelsBy, entries, drawsBonds, choicesBy, greysBy, greyLabelsBy, choiceWidth}
 use Rattle.tests.specs.Lengths.{FitsEach, took}
 use Rattle.tests.proofs.Chosen.{entries-few}
 use Rattle.tests.proofs.panel.lengths_ok.Statement.{statement}
@@ -15,8 +15,11 @@ use Rattle.tests.proofs.panel.lengths_ok.Tie as tie
 abbrev E : tie.After-takes-greys → tie.After-entries
 E d = d .before .before .before .before
 
+abbrev G : tie.After-fits2 → tie.After-grows
+G c = c .before .before .before .before
+
 abbrev D : tie.After-fits2 → tie.After-takes-greys
-D c = c .before .before .before .before .before .before .before
+D c = G c .before
 
 abbrev rows : tie.After-takes-greys → ℕ
 rows d = E d .entries .result
@@ -50,6 +53,19 @@ width-few d = let s = E d .before in rw (width-of d) (go (isPerm (s .args .mode)
 by-greys : (d : tie.After-takes-greys) → d .takes-greys .result ≡ greysBy (E d .before .args .mode) (E d .before .args .form)
 by-greys d = d .takes-greys .ensures
 
+grows : (g : tie.After-grows) → g .grows .result ≡ growsBy (E (g .before) .before .args .form)
+grows g = g .grows .ensures
+
+labels : (g : tie.After-grows) → not (g .grows .result) ≡ labelsBy (E (g .before) .before .args .form)
+labels g = ap not (grows g)
+
+grey-labels :
+    (g : tie.After-grows)
+    → (not (g .grows .result) && g .before .takes-greys .result) ≡ greyLabelsBy (E (g .before) .before .args .mode) (E (g .before) .before .args .form)
+grey-labels g =
+    ap (λ (x : Bool). not x && g .before .takes-greys .result) (grows g)
+    ∙ ap (λ (x : Bool). labelsBy (E (g .before) .before .args .form) && x) (by-greys (g .before))
+
 mul-bonds : tie.Need-mul-bonds
 mul-bonds c = omega (arith, mul-le-mul (c .pre .n-high) (c .pre .d-high))
 
@@ -71,20 +87,11 @@ choice-width-requires c κs = search needs
 takes-greys-requires : tie.Need-takes-greys-requires
 takes-greys-requires c κs = search needs
 
+grows-requires : tie.Need-grows-requires
+grows-requires c κs = search needs
+
 mul-result : tie.Need-mul-result
-mul-result c = let p = E c .before .pre in omega (arith, mul-le-mul (p .s-high) (p .n-high))
-
-add-result : tie.Need-add-result
-add-result c = omega (arith, E (c .before .before .before .before) .before .pre .n-high)
-
-mul-result-2 : tie.Need-mul-result-2
-mul-result-2 c =
-    let s = E (c .before .before .before .before) .before in
-    let z : s .args .n + 1 ≤ 4097 = omega (arith, s .pre .n-high) in
-    omega (arith, mul-le-mul (s .pre .count-high) z)
-
-mul-result-3 : tie.Need-mul-result-3
-mul-result-3 c = omega (arith, E (c .before .before .before .before .before) .before .pre .count-high)
+mul-result c = let p = E (c .before) .before .pre in omega (arith, mul-le-mul (p .s-high) (p .n-high))
 
 fits-requires : tie.Need-fits-requires
 fits-requires c κs = search needs
@@ -115,43 +122,79 @@ fits-requires-4 c κs = search needs
 fits-requires-5 : tie.Need-fits-requires-5
 fits-requires-5 c κs = search needs
 
+fits-requires-6 : tie.Need-fits-requires-6
+fits-requires-6 c κs = search needs
+
+-- the first of the calls before that of the counts
+abbrev F : tie.After-fits7 → tie.After-fits2
+F c = c .before .before .before .before .before
+
+add-fits : tie.Need-add-fits
+add-fits c = omega (arith, E (D (F c)) .before .pre .n-high)
+
+mul-fits-5 : tie.Need-mul-fits-5
+mul-fits-5 c =
+    let s = E (D (F c)) .before in
+    let z : s .args .n + 1 ≤ 4097 = omega (arith, s .pre .n-high) in
+    omega (arith, mul-le-mul (s .pre .count-high) z)
+
+fits-requires-7 : tie.Need-fits-requires-7
+fits-requires-7 c κs = search needs
+
+mul-fits-6 : tie.Need-mul-fits-6
+mul-fits-6 c = omega (arith, E (D (F (c .before))) .before .pre .count-high)
+
+fits-requires-8 : tie.Need-fits-requires-8
+fits-requires-8 c κs = search needs
+
+fits-requires-9 : tie.Need-fits-requires-9
+fits-requires-9 c κs = search needs
+
 returns : tie.Need-returns
 returns c =
-    let f5 = c .before in
+    let f9 = c .before in
+    let f8 = f9 .before in
+    let f7 = f8 .before in
+    let f6 = f7 .before in
+    let f5 = f6 .before in
     let f4 = f5 .before in
     let f3 = f4 .before in
     let f2 = f3 .before in
-    let d = D f2 in
+    let g = G f2 in
+    let d = g .before in
     let a = E d .before .args in
     let l = a .l in
     same (FitsEach (a .mode) (a .form) (a .n) (a .d) (a .s) (a .m) (a .count) l)
     (λ h. record {
-      spins = h .0 .0 .0 .0 .0 .0 .0 .0 .0 .0;
-      fwd = h .0 .0 .0 .0 .0 .0 .0 .0 .0 .1;
-      bwd = h .0 .0 .0 .0 .0 .0 .0 .0 .1;
-      labels = h .0 .0 .0 .0 .0 .0 .0 .1;
-      counts = h .0 .0 .0 .0 .0 .0 .1;
-      sizes = h .0 .0 .0 .0 .0 .1;
-      couplings = h .0 .0 .0 .0 .1;
-      cuts = h .0 .0 .0 .1;
-      choices = h .0 .0 .1;
-      greys = h .0 .1;
-      grey-labels = h .1;
+      spins = h .0 .0 .0 .0 .0 .0 .0 .0 .0 .0 .0;
+      fwd = h .0 .0 .0 .0 .0 .0 .0 .0 .0 .0 .1;
+      bwd = h .0 .0 .0 .0 .0 .0 .0 .0 .0 .1;
+      couplings = h .0 .0 .0 .0 .0 .0 .0 .0 .1;
+      cuts = h .0 .0 .0 .0 .0 .0 .0 .1;
+      choices = h .0 .0 .0 .0 .0 .0 .1;
+      greys = h .0 .0 .0 .0 .0 .1;
+      labels = h .0 .0 .0 .0 .1;
+      grey-labels = h .0 .0 .0 .1;
+      counts = h .0 .0 .1;
+      sizes = h .0 .1;
+      members = h .1;
     })
-    (λ z. ((((((((((z .spins, z .fwd), z .bwd), z .labels), z .counts), z .sizes), z .couplings), z .cuts), z .choices), z .greys), z .grey-labels))
-    (both (both (both (both (both (both (both (both (both (both
+    (λ z.
+    (((((((((((z .spins, z .fwd), z .bwd), z .couplings), z .cuts), z .choices), z .greys), z .labels), z .grey-labels), z .counts), z .sizes), z .members))
+    (both (both (both (both (both (both (both (both (both (both (both
     (test-eq (l .spins) (a .s * a .n))
     (test-eq (l .fwd) (a .n * a .d)))
     (test-eq (l .bwd) (a .n * a .d)))
-    (test-eq (l .labels) (a .count * a .n)))
-    (test-eq (l .counts) (a .count * (a .n + 1))))
-    (test-eq (l .sizes) (a .count * 4)))
     (took (drawn d) refl (f2 .fits2 .ensures)))
     (took (drawn d) refl (f3 .fits3 .ensures)))
     (took (by-choices d) (ap (λ (x : ℕ). a .count * (x * width d)) (rows-of d)
     ∙ ap (λ (x : ℕ). a .count * (entries (a .form) (a .n) * x)) (width-of d)) (f4 .fits4 .ensures)))
     (took (by-greys d) (ap (λ (x : ℕ). a .count * x) (rows-of d)) (f5 .fits5 .ensures)))
-    (took (by-greys d) refl (c .fits6 .ensures)))
+    (took (labels g) refl (f6 .fits6 .ensures)))
+    (took (grey-labels g) refl (f7 .fits7 .ensures)))
+    (took (labels g) refl (f8 .fits8 .ensures)))
+    (took (labels g) refl (f9 .fits9 .ensures)))
+    (took (grows g) refl (c .fits10 .ensures)))
     .says
 
 pub lengths-ok-spec : {M : Type 1} → statement M
@@ -165,10 +208,8 @@ lengths-ok-spec =
     takes-choices-requires
     choice-width-requires
     takes-greys-requires
+    grows-requires
     mul-result
-    add-result
-    mul-result-2
-    mul-result-3
     fits-requires
     mul-fits
     fits-requires-2
@@ -178,4 +219,11 @@ lengths-ok-spec =
     mul-fits-4
     fits-requires-4
     fits-requires-5
+    fits-requires-6
+    add-fits
+    mul-fits-5
+    fits-requires-7
+    mul-fits-6
+    fits-requires-8
+    fits-requires-9
     returns)

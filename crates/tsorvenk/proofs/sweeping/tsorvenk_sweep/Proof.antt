@@ -1,8 +1,8 @@
 -- `tsorvenk_sweep` meets its contract: a code that is none is refused, without room for the counts test 1 decides, and any other
 -- call is answered by `overlap_update`.
 use borrow.Author.Needs.{needs}
-use native.Mathlib.Omega.{arith}
 use denote.Ref.{now}
+use Rattle.lemmas.specs.Tells.{passed, refused}
 use Rattle.paper.specs.declared.Mode.{Mode}
 use Rattle.paper.specs.declared.Form.{Form}
 use Rattle.paper.specs.Panel.Input.{Buffers}
@@ -15,12 +15,12 @@ use Rattle.tsorvenk.proofs.Swept.{same-sweep, uncoded-sweep, roomless-s
 use Rattle.tsorvenk.proofs.sweeping.tsorvenk_sweep.Statement.{statement}
 use Rattle.tsorvenk.proofs.sweeping.tsorvenk_sweep.Tie as tie
 
-abbrev S : tie.After-slice-known5 → tie.Start
-S k = k .before .before .before .before .before .before .before .before .before .before .before .before .before .before .before .before
+abbrev S : tie.After-codes-ok → tie.Start
+S k = k .before .before .before .before .before .before .before .before .before .before .before .before .before .before .before .before .before .before
 
 -- the codes are known from here on
 abbrev F : tie.After-form-of → tie.Start
-F f = S (f .before .before .before .before)
+F f = S (f .before .before .before)
 
 -- the sweep of a mode and a form, and what is lent
 abbrev W : tie.Start → Mode → Form → Sweep
@@ -30,7 +30,7 @@ W k m f =
     (now (a .temperatures)) (now (a .cuts)) (now (a .references)) (now (a .seeds)) (takenOf m (now (a .flips)) (now (a .perms))) (now (a .greys))
 
 abbrev B : tie.Start → Buffers
-B k = let a = k .args in buffersOf (now (a .spins)) (now (a .labels)) (now (a .grey-labels)) (now (a .counts)) (now (a .sizes))
+B k = let a = k .args in buffersOf (now (a .spins)) (now (a .labels)) (now (a .grey-labels)) (now (a .counts)) (now (a .sizes)) (now (a .member-sites))
 
 abbrev made : tie.After-form-of → Sweep
 made f = W (F f) (f .before .mode-of .result) (f .form-of .result)
@@ -38,30 +38,30 @@ made f = W (F f) (f .before .mode-of .result) (f .form-of .result)
 abbrev meant : tie.After-form-of → Sweep
 meant f = W (F f) (modeOf (F f .args .mode)) (formOf (F f .args .form))
 
-known : (f : tie.After-form-of) → Coded (F f .args .mode) (F f .args .form)
-known f = record { mode-known = f .before .before .before .if1 .left; form-known = f .before .before .if2 .left }
+known : (e : tie.Else1) → let a = S (e .before) .args in Coded (a .mode) (a .form)
+known e = passed (e .before .codes-ok .result) (e .if1 .left) (e .before .codes-ok .ensures)
+
+codes-ok-requires : tie.Need-codes-ok-requires
+codes-ok-requires c κs = search needs
 
 returns : tie.Need-returns
-returns c = uncoded-sweep (λ k. omega (arith, c .if1 .taken))
-
-returns-2 : tie.Need-returns-2
-returns-2 c = uncoded-sweep (λ k. omega (arith, c .if2 .taken))
+returns c = uncoded-sweep (refused (c .before .codes-ok .result) (c .if1 .taken) (c .before .codes-ok .ensures))
 
 mode-of-requires : tie.Need-mode-of-requires
-mode-of-requires c κs = search needs
+mode-of-requires c κs = known c .mode-known
 
 form-of-requires : tie.Need-form-of-requires
-form-of-requires c κs = search needs
+form-of-requires c κs = known (c .before) .form-known
 
 roomless-requires : tie.Need-roomless-requires
 roomless-requires c κs = search needs
 
-returns-3 : tie.Need-returns-3
-returns-3 c =
+returns-2 : tie.Need-returns-2
+returns-2 c =
     let e = c .before in
     let f = e .before in
-    roomless-sweep (made f) (meant f) (B (F f)) (now (F f .args .outcomes)) (c .roomless .result) (known f)
-    (same-sweep (now (F f .args .flips)) (now (F f .args .perms)) (f .before .mode-of .ensures) (f .form-of .ensures)) (e .if3 .taken) (c .roomless .ensures)
+    roomless-sweep (made f) (meant f) (B (F f)) (now (F f .args .outcomes)) (c .roomless .result) (known (f .before .before))
+    (same-sweep (now (F f .args .flips)) (now (F f .args .perms)) (f .before .mode-of .ensures) (f .form-of .ensures)) (e .if2 .taken) (c .roomless .ensures)
 
 taken-requires : tie.Need-taken-requires
 taken-requires c κs = search needs
@@ -90,27 +90,30 @@ same-length-5 c = search needs
 same-length-6 : tie.Need-same-length-6
 same-length-6 c = search needs
 
-returns-4 : tie.Need-returns-4
-returns-4 c =
+same-length-7 : tie.Need-same-length-7
+same-length-7 c = search needs
+
+returns-3 : tie.Need-returns-3
+returns-3 c =
     let t = c .before .before in
-    let o = t .before .before .before .before .before .before .before .before .before .before .before in
-    let k = o .before .before .before .before .before in
+    let o = t .before .before .before .before .before .before .before .before .before .before .before .before .before in
+    let k = o .before .before .before .before .before .before in
     let e = k .before .before in
     let f = e .before in
-    coded-sweep (made f) (meant f) (B (F f)) (now (F f .args .outcomes)) (t .tell .result) (o .overlap-update .result) _ _ (known f)
-    (same-sweep (now (F f .args .flips)) (now (F f .args .perms)) (f .before .mode-of .ensures) (f .form-of .ensures)) (e .if3 .left)
+    coded-sweep (made f) (meant f) (B (F f)) (now (F f .args .outcomes)) (t .tell .result) (o .overlap-update .result) _ _ (known (f .before .before))
+    (same-sweep (now (F f .args .flips)) (now (F f .args .perms)) (f .before .mode-of .ensures) (f .form-of .ensures)) (e .if2 .left)
     (rw (k .taken .ensures) at (o .overlap-update .ensures)) (t .tell .ensures)
 
 pub tsorvenk-sweep-spec : {M : Type 1} → statement M
 tsorvenk-sweep-spec =
     tie.close
     (tie.spec
+    codes-ok-requires
     returns
-    returns-2
     mode-of-requires
     form-of-requires
     roomless-requires
-    returns-3
+    returns-2
     taken-requires
     overlap-update-requires
     tell-requires
@@ -120,4 +123,5 @@ tsorvenk-sweep-spec =
     same-length-4
     same-length-5
     same-length-6
-    returns-4)
+    same-length-7
+    returns-3)

@@ -1,0 +1,130 @@
+-- `grow_cluster` meets its contract.
+use mathlib.Core.Path.{refl, sym, _∙_}
+use lib.ListN.{length-set}
+use borrow.Author.Needs.{needs}
+use Rattle.grow.proofs.Whole.{grounds, seeded, first-by, plain, blue-seeds, second-by, both}
+use Rattle.grow.proofs.grow_cluster.Statement.{statement}
+use Rattle.grow.proofs.grow_cluster.Tie as tie
+
+-- where the function starts, the clearing, and the first growth with its rule; of CMR the second rule
+abbrev S : tie.After-clear → tie.Start
+S c = c .before .before .before .before .before .before .before
+
+abbrev C : tie.After-prepare → tie.After-clear
+C c = c .before .before .before
+
+abbrev P : tie.After-spread → tie.After-prepare
+P c = c .before .before .before
+
+abbrev A : tie.After-is-cmr → tie.After-spread
+A c = c .before .before .before .before .before
+
+abbrev I : tie.After-prepare2 → tie.After-is-cmr
+I c = c .before .before
+
+clear-requires : tie.Need-clear-requires
+clear-requires c κs = search needs
+
+slice-write-members : tie.Need-slice-write-members
+slice-write-members c = search needs
+
+cast-list : tie.Need-cast-list
+cast-list c = search needs
+
+slice-write-list : tie.Need-slice-write-list
+slice-write-list c = search needs
+
+prepare-requires : tie.Need-prepare-requires
+prepare-requires c κs = search needs
+
+spread-requires : tie.Need-spread-requires
+spread-requires c κs =
+    let p = c .before .before in
+    let s = S (C p) in
+    (grounds (s .pre) (p .prepare .ensures), seeded (s .pre) (s .args .list .now) (p .prepare .ensures) (C p .clear .ensures) refl)
+
+is-cmr-requires : tie.Need-is-cmr-requires
+is-cmr-requires c κs = search needs
+
+prepare-requires-2 : tie.Need-prepare-requires-2
+prepare-requires-2 c κs =
+    let g = S (C (P (A (c .before)))) .pre .growable .panel in
+    record { few = g .size-high; inside = g .inside; site = g .reference }
+
+spread-requires-2 : tie.Need-spread-requires-2
+spread-requires-2 c κs =
+    let r = c .before .before in
+    let i = I r in
+    let a = A i in
+    let p = P a in
+    let g = S (C p) .pre in
+    let cmr = sym (i .is-cmr .ensures) ∙ r .before .if1 .taken in
+    (grounds g (r .prepare2 .ensures), blue-seeds g cmr (r .prepare2 .ensures) (first-by g (p .prepare .ensures) (a .spread .ensures)))
+
+same-length : tie.Need-same-length
+same-length c =
+    let w = c .before .before .before .before in
+    let r = w .before .before .before in
+    let i = I r in
+    let g = S (C (P (A i))) .pre in
+    let cmr = sym (i .is-cmr .ensures) ∙ r .before .if1 .taken in
+    second-by g cmr (r .prepare2 .ensures) (w .spread2 .ensures) .cluster .members .long ∙ sym (g .members-long)
+
+same-length-2 : tie.Need-same-length-2
+same-length-2 c =
+    let w = c .before .before .before .before in
+    let a = A (I (w .before .before .before)) in
+    let s = S (C (P a)) in
+    w .spread2 .ensures .long ∙ (a .spread .ensures .long ∙ length-set (s .args .list .now) 0 (s .args .t .seed))
+
+returns : tie.Need-returns
+returns c =
+    let w = c .before .before .before .before in
+    let r = w .before .before .before in
+    let i = I r in
+    let a = A i in
+    let p = P a in
+    let g = S (C p) .pre in
+    let cmr = sym (i .is-cmr .ensures) ∙ r .before .if1 .taken in
+    both g cmr (first-by g (p .prepare .ensures) (a .spread .ensures)) (second-by g cmr (r .prepare2 .ensures) (w .spread2 .ensures))
+
+same-length-3 : tie.Need-same-length-3
+same-length-3 c =
+    let a = A (c .before) in
+    let p = P a in
+    let g = S (C p) .pre in
+    first-by g (p .prepare .ensures) (a .spread .ensures) .cluster .members .long ∙ sym (g .members-long)
+
+same-length-4 : tie.Need-same-length-4
+same-length-4 c =
+    let a = A (c .before) in
+    let s = S (C (P a)) in
+    a .spread .ensures .long ∙ length-set (s .args .list .now) 0 (s .args .t .seed)
+
+returns-2 : tie.Need-returns-2
+returns-2 c =
+    let i = c .before in
+    let a = A i in
+    let p = P a in
+    let g = S (C p) .pre in
+    plain g (sym (i .is-cmr .ensures) ∙ c .if1 .left) (first-by g (p .prepare .ensures) (a .spread .ensures))
+
+pub grow-cluster-spec : {M : Type 1} → statement M
+grow-cluster-spec =
+    tie.close
+    (tie.spec
+    clear-requires
+    slice-write-members
+    cast-list
+    slice-write-list
+    prepare-requires
+    spread-requires
+    is-cmr-requires
+    prepare-requires-2
+    spread-requires-2
+    same-length
+    same-length-2
+    returns
+    same-length-3
+    same-length-4
+    returns-2)

@@ -1,0 +1,96 @@
+-- `spread` meets its contract.
+use Prim.Native.Nat.{_-_, _<_}
+use native.Mathlib.Omega.{arith}
+use borrow.Author.Needs.{needs}
+use Rattle.grow.specs.Contract.{graphFor, ruled}
+use Rattle.grow.specs.Spread.{Spreading, spread-start, spread-high, spread-room, next-spreading, next-at, next-marked, spread-more, spread-end}
+use Rattle.grow.proofs.spread.Statement.{statement}
+use Rattle.grow.proofs.spread.Tie as tie
+
+abbrev Inv-loop : tie.InvT-loop
+Inv-loop rule spins fwd bwd couplings cuts members₀ list₀ start len₀ head₀ members list len head =
+    Spreading (graphFor (rule .task) fwd) (ruled rule fwd spins couplings cuts) (rule .task .seed) start list₀ head members list len
+
+abbrev μ-loop : tie.MeasureT-loop
+μ-loop rule spins fwd bwd couplings cuts members₀ list₀ start len₀ head₀ members list len head = rule .task .n - head
+
+-- where the function starts; the turn in which the next site is told, and behind it the call that visits it
+abbrev S : tie.In-loop Inv-loop μ-loop → tie.Start Inv-loop μ-loop
+S c = c .before .before .before .before .before .before .before
+
+abbrev T : tie.After-next Inv-loop μ-loop → tie.In-loop Inv-loop μ-loop
+T c = c .before .before
+
+abbrev X : tie.After-visit-arg2 Inv-loop μ-loop → tie.After-next Inv-loop μ-loop
+X c = c .before .before .before .before
+
+abbrev U : tie.After-slice-known5 Inv-loop μ-loop → tie.After-visit Inv-loop μ-loop
+U c = c .before .before .before .before
+
+-- the site waits at a place below n
+waits : (c : tie.In-loop Inv-loop μ-loop) → c .before .loop .head < S c .args .rule .task .n
+waits c = omega (arith, c .loop-test .taken, spread-high (c .before .loop .inv))
+
+loop-holds : tie.Need-loop-holds Inv-loop μ-loop
+loop-holds c = spread-start (c .before .before .before .before .before .pre .1)
+
+sub-next : tie.Need-sub-next Inv-loop μ-loop
+sub-next c = search needs
+
+next-requires : tie.Need-next-requires Inv-loop μ-loop
+next-requires c κs =
+    let t = c .before in
+    let room = spread-room (t .before .loop .inv) in
+    record { head-lt = omega (arith, t .loop-test .taken, room); last-lt = omega (arith, t .loop-test .taken, room) }
+
+visit-requires : tie.Need-visit-requires Inv-loop μ-loop
+visit-requires c κs =
+    let x = X c in
+    let t = T x in
+    let inv = t .before .loop .inv in
+    let hl = t .loop-test .taken in
+    let last = t .before .loop .len - 1 in
+    let after = next-spreading inv hl last (omega arith) (x .next .ensures) in
+    (S t .pre .0, (after .growing, next-marked after hl (next-at inv hl last (omega arith) (x .next .ensures))))
+
+add-head : tie.Need-add-head Inv-loop μ-loop
+add-head c = let t = T (X (U c .before)) in omega (arith, waits t, S t .pre .0 .ready .growable .panel .n-high)
+
+loop-less : tie.Need-loop-less Inv-loop μ-loop
+loop-less c = omega (arith, waits (T (X (U c .before))))
+
+loop-again : tie.Need-loop-again Inv-loop μ-loop
+loop-again c =
+    let v = U c in
+    let x = X (v .before) in
+    let t = T x in
+    let inv = t .before .loop .inv in
+    let hl = t .loop-test .taken in
+    let last = t .before .loop .len - 1 in
+    spread-more (next-spreading inv hl last (omega arith) (x .next .ensures)) hl (next-at inv hl last (omega arith) (x .next .ensures)) (v .visit .ensures)
+
+same-length : tie.Need-same-length Inv-loop μ-loop
+same-length c = search needs
+
+same-length-2 : tie.Need-same-length-2 Inv-loop μ-loop
+same-length-2 c = c .before .loop .inv .long
+
+returns : tie.Need-returns Inv-loop μ-loop
+returns c = spread-end (c .before .loop .inv) (c .loop-test .left)
+
+pub spread-spec : {M : Type 1} → statement M
+spread-spec =
+    tie.close
+    (tie.spec
+    Inv-loop
+    μ-loop
+    loop-holds
+    sub-next
+    next-requires
+    visit-requires
+    add-head
+    loop-less
+    loop-again
+    same-length
+    same-length-2
+    returns)

@@ -1,0 +1,298 @@
+-- What growing and turning leave is the paper's answer.
+use Prim.Native.Nat.{ℕ, _*_, _<_}
+use mathlib.Core.Path.{_≡_, refl, sym, _∙_, ap}
+use mathlib.Core.Logic.{_⊎_, inl, inr}
+use mathlib.Core.Bool.{Bool, true, false, cond, _&&_}
+use mathlib.Core.List.{List}
+use native.Mathlib.Nat.{zero-mul, zero-add, one-mul}
+use native.Mathlib.Omega.{arith}
+use borrow.Author.Tests.{eq-eqb, ne-eqb, ltb-true, ltb-false}
+use lib.Dec.{eqb, ltb}
+use lib.ListN.{length, getD}
+use lib.IntN.{ℤ}
+use lib.Ieee.{Float}
+use Rattle.lemmas.specs.Bools.{never, and-no}
+use Rattle.lemmas.specs.Counts.{count-most}
+use Rattle.lemmas.specs.Places.{Placed, Unplaced, place}
+use Rattle.lemmas.specs.Stores.{Cleared}
+use Rattle.paper.specs.declared.Task.{Task}
+use Rattle.paper.specs.declared.Mode.{Mode}
+use Rattle.paper.specs.declared.Mode.the-variants.{Houd, Pair, Perm, Gperm, Jorg, Cmr}
+use Rattle.paper.specs.declared.Form.{Form}
+use Rattle.paper.specs.declared.Form.the-variants.{Sw, Wolff, Observe, Grow}
+use Rattle.paper.specs.declared.Answer.the-variants.{Idle, Moved}
+use Rattle.paper.specs.Panel.Input.{Call, Choices, Pattern, pattern, graph}
+use Rattle.paper.specs.Panel.Made.{callOf, choicesOf}
+use Rattle.paper.specs.Panel.Takes.{isPerm, isCmr, growsBy, permsBy, greysBy, takesGreys, entries}
+use Rattle.paper.specs.Site.Acting.{acts, SomeActs}
+use Rattle.paper.specs.Component.Labels.{Joined}
+use Rattle.paper.specs.Component.Sizes.{labelOf}
+use Rattle.paper.specs.Move.Moving.{actBy, reachedBy, reached, after, final, Moves}
+use Rattle.paper.specs.Refusal.Rules.{Permutes, permRow}
+use Rattle.paper.specs.Refusal.Kept.{Valid, valid-kept}
+use Rattle.paper.specs.Answer.Move.{memberBonds, Answers}
+use Rattle.laws.specs.Choices.{perms-taken, perms-bytes}
+use Rattle.laws.specs.Forms.{forms-apart, grows-one}
+use Rattle.laws.specs.Counting.{cmr-acts, acts-one}
+use Rattle.column_rules.specs.Sight.{actsAt, SightedAt, none-acts}
+use Rattle.judge.specs.Judged.{Growable}
+use Rattle.judge.specs.Laws.{growable}
+use Rattle.turn.specs.Turned.{actedTo, turnedTo, OneCluster, Chooses, Turnable, Turned}
+use Rattle.turn.specs.Laws.{act-any, grey-any}
+use Rattle.grow.specs.Listed.{isIn, siteAt}
+use Rattle.grow.specs.Spread.{cluster-site, cluster-joined}
+use Rattle.grow.specs.Contract.{Seedable, Grew}
+use Rattle.grow.specs.Task.{Outputs, noOutputs, withOutputs, GrowAsks, grown-with}
+
+-- ---- the form
+one-cluster : (f : Form) (choices : List ℕ) → growsBy f ≡ true → OneCluster f choices
+one-cluster Sw choices e = never e
+one-cluster Wolff choices e = never e
+one-cluster Observe choices e = never e
+one-cluster Grow choices e = record { flips = λ r. refl; first = λ r. refl }
+
+reached-grown : (f : Form) (mode : Mode) (seed : ℕ) (l : List ℕ) (i : ℕ) → growsBy f ≡ true → reachedBy f mode seed l i ≡ eqb (labelOf l i) 1
+reached-grown Sw mode seed l i e = never e
+reached-grown Wolff mode seed l i e = never e
+reached-grown Observe mode seed l i e = never e
+reached-grown Grow mode seed l i e = refl
+
+is-cmr : (m : Mode) → isCmr m ≡ true → m ≡ Cmr
+is-cmr Houd e = never e
+is-cmr Pair e = never e
+is-cmr Perm e = never e
+is-cmr Gperm e = never e
+is-cmr Jorg e = never e
+is-cmr Cmr e = refl
+
+and-yes : (b : Bool) → (b && true) ≡ b
+and-yes true = refl
+and-yes false = refl
+
+grown-greys : (f : Form) (m : Mode) → growsBy f ≡ true → greysBy m f ≡ isCmr m
+grown-greys Sw m e = never e
+grown-greys Wolff m e = never e
+grown-greys Observe m e = never e
+grown-greys Grow m e = refl
+
+grown-perms : (f : Form) (m : Mode) → growsBy f ≡ true → permsBy m f ≡ isPerm m
+grown-perms Sw m e = never e
+grown-perms Wolff m e = never e
+grown-perms Observe m e = never e
+grown-perms Grow m e = refl
+
+grown-entries : (f : Form) (n : ℕ) → growsBy f ≡ true → entries f n ≡ 1
+grown-entries Sw n e = never e
+grown-entries Wolff n e = never e
+grown-entries Observe n e = never e
+grown-entries Grow n e = refl
+
+module _ (t : Task) (fwd bwd : List ℕ) (js : List ℤ) (cuts : List Float) (choices greys : List ℕ) (xs : List ℤ) (members : List ℕ)
+    (asks : GrowAsks (callOf t fwd bwd js cuts) (choicesOf choices greys) xs members) where
+  abbrev c : Call
+  c = callOf t fwd bwd js cuts
+
+  abbrev p : Choices
+  p = choicesOf choices greys
+
+  v : Valid c p (withOutputs noOutputs xs members)
+  v = asks .valid
+
+  -- ---- what the steps ask
+  pub seed-lt : t .seed < t .n
+  seed-lt = v .fit .seeded .below (grows-one (t .form) (asks .grows))
+
+  panel : Growable t xs js cuts
+  panel = growable t fwd bwd js cuts p (withOutputs noOutputs xs members) (v .sound) (v .fit .chosen .reference)
+
+  pub seen-at : SightedAt (t .mode) (t .n) (t .group) (t .reference) xs (t .seed)
+  seen-at = record { panel = panel .panel; below = seed-lt }
+
+  pub seedable : (room : ℕ) → room ≡ 4096 → Seedable t fwd bwd xs js cuts (length members) room
+  seedable room e = record {
+    growable = panel;
+    tables = record { fwd-long = v .sound .exact .fwd; bwd-long = v .sound .exact .bwd; inverse = v .sound .inverse };
+    seed-lt = seed-lt;
+    members-long = v .sound .exact .members (asks .grows);
+    list-long = omega (arith, e, v .sound .ranged .lattice .n-high);
+  }
+
+  pub members-long : length members ≡ t .n
+  members-long = v .sound .exact .members (asks .grows)
+
+  chooses : Chooses t choices
+  chooses = record {
+    size-low = omega (arith, v .sound .ranged .size-low);
+    size-high = v .sound .ranged .size-high;
+    one = one-cluster (t .form) choices (asks .grows);
+    long = λ q.
+        let taken : permsBy (t .mode) (t .form) ≡ true = grown-perms (t .form) (t .mode) (asks .grows) ∙ q in
+        v .sound .exact .choices (perms-taken (t .mode) (t .form) taken)
+        ∙ (perms-bytes (t .mode) (t .form) (t .n) (t .group .len) taken
+        ∙ (ap (λ (x : ℕ). x * t .group .len) (grown-entries (t .form) (t .n) (asks .grows)) ∙ one-mul (t .group .len)));
+    perm = λ q.
+        first-row
+        (v .fit .chosen .perms (grown-perms (t .form) (t .mode) (asks .grows) ∙ q) 0 (rw (grown-entries (t .form) (t .n) (asks .grows)) (omega arith)));
+  }
+    where
+      row : (k : ℕ) → permRow c p 0 k ≡ getD choices k 0
+      row k = rw (zero-mul, zero-add)
+
+      first-row : Permutes (t .group .len) (permRow c p 0) → Permutes (t .group .len) (λ k. getD choices k 0)
+      first-row h = record {
+        within = λ k l. rw (row k) at (h .within k l);
+        distinct = λ a b la lb e. h .distinct a b la lb (row a ∙ (e ∙ sym (row b)));
+      }
+
+  -- ---- the seed does not act, and so no site does
+  answered : (o : Outputs) → Valid c p (withOutputs o xs members)
+  answered o = grown-with noOutputs o (asks .grows) v
+
+  seed-tells : SomeActs c xs → acts c xs (t .seed) ≡ true
+  seed-tells = v .fit .seeded .acting (grows-one (t .form) (asks .grows))
+
+  pub acts-seed : {r : Bool} → r ≡ actsAt (t .mode) (t .n) (t .group) (t .reference) xs (t .seed) → acts c xs (t .seed) ≡ r
+  unfolding acts
+  acts-seed e = sym e
+
+  pub idle-answers :
+      acts c xs (t .seed) ≡ false → {after : List ℕ} → Cleared (length members) after → (o : Outputs)
+      → Answers c p (withOutputs o xs members) Idle (withOutputs o xs after)
+  idle-answers off cleared o = record {
+    valid = valid-kept c p (withOutputs o xs members) (answered o);
+    none = none-acts c xs (λ s. never (sym off ∙ seed-tells s));
+    still = refl;
+    seen = record {
+      all = λ l. forms-apart (t .form) l (asks .grows);
+      one = λ g. record {
+        members = λ on. never (sym off ∙ on);
+        none = λ e. rw members-long at cleared;
+        labels-kept = refl;
+        grey-kept = refl;
+        counts-kept = refl;
+        sizes-kept = refl;
+      };
+    };
+  }
+
+  -- ---- the seed acts
+  module _ (on : acts c xs (t .seed) ≡ true) {m l : List ℕ} {blue len : ℕ} (g : Grew c xs m l blue len) where
+    pub turnable : Turnable t xs choices greys l len
+    turnable = record {
+      panel = panel .panel;
+      distinct = v .sound .grouped .distinct;
+      chooses = chooses;
+      two = v .sound .ranged .cmr-two;
+      lent = λ q. rw (v .sound .exact .greys (takes q), grown-entries (t .form) (t .n) (asks .grows)) (omega arith);
+      small = λ q. v .fit .chosen .greys (takes q) 0 (rw (grown-entries (t .form) (t .n) (asks .grows)) (omega arith));
+      long = let w = g .cluster .listed in omega (arith, w .number, count-most (isIn m) (length m), w .room);
+      sites = cluster-site (g .cluster);
+      apart = g .cluster .listed .apart;
+    }
+      where
+        takes : isCmr (t .mode) ≡ true → greysBy (t .mode) (t .form) ≡ true
+        takes q = grown-greys (t .form) (t .mode) (asks .grows) ∙ q
+
+    -- every member acts
+    member-acts : {i : ℕ} → Joined (graph c) (memberBonds c xs) (t .seed) i → acts c xs i ≡ true
+    member-acts {i} j = go (isCmr (t .mode)) refl
+      where
+        go : (q : Bool) → isCmr (t .mode) ≡ q → acts c xs i ≡ true
+        go true q = cmr-acts c xs (is-cmr (t .mode) q) i
+        go false q = sym (acts-one c xs (rw q at j)) ∙ on
+
+    reached-in : (list : List ℕ) (i : ℕ) → acts c xs i ≡ true → reached c xs list i ≡ eqb (labelOf list i) 1
+    unfolding reached
+    reached-in list i e = rw e (reached-grown (t .form) (t .mode) (t .seed) list i (asks .grows))
+
+    reached-out : (list : List ℕ) (i : ℕ) → (labelOf list i ≡ 1 → ⊥) → reached c xs list i ≡ false
+    unfolding reached
+    reached-out list i other =
+        ap (λ (b : Bool). acts c xs i && b) (reached-grown (t .form) (t .mode) (t .seed) list i (asks .grows) ∙ ne-eqb (labelOf list i) 1 other)
+        ∙ and-no (acts c xs i)
+
+    abbrev one : OneCluster (t .form) choices
+    one = chooses .one
+
+    -- ---- at the place x of the list
+    module _ (x : ℕ) (xl : x < len) where
+      does : acts c xs (siteAt l x) ≡ true
+      does = member-acts (cluster-joined (g .cluster) x xl)
+
+      -- of the blue ones exactly where it stands among the first
+      blue-is : eqb (labelOf (g .blues) (siteAt l x)) 1 ≡ ltb x blue
+      blue-is = go (ltb x blue) refl
+        where
+          go : (b : Bool) → ltb x blue ≡ b → eqb (labelOf (g .blues) (siteAt l x)) 1 ≡ b
+          go true e = eq-eqb _ _ (g .first .listed .each x (ltb-true x blue e))
+          go false e = ne-eqb _ _ (λ q.
+              let w = g .first .listed .all (siteAt l x) q in
+              let same = g .cluster .listed .apart x (w .0) xl (omega (arith, w .1, g .more)) (w .2) in
+              omega (arith, same, w .1, ltb-false x blue e))
+
+      chosen-same : (P f : Pattern) (k : ℕ) (b : Bool)
+          → cond b (actBy (t .mode) c p P (labelOf (g .blues) (siteAt l x)) f k) (f k) ≡ actedTo t choices greys P b f k
+      chosen-same P f k true = act-any t choices one greys fwd bwd js cuts (labelOf (g .blues) (siteAt l x)) (t .mode) P f k
+      chosen-same P f k false = refl
+
+      after-is : (k : ℕ)
+          → after c p xs (g .blues) (siteAt l x) k
+          ≡ actedTo t choices greys (pattern c xs (t .reference)) (ltb x blue) (pattern c xs (siteAt l x)) k
+      after-is k =
+          rw (reached-in (g .blues) (siteAt l x) does ∙ blue-is)
+          (chosen-same (pattern c xs (t .reference)) (pattern c xs (siteAt l x)) k (ltb x blue))
+
+      pub final-is : (k : ℕ)
+          → final c p xs (g .blues) m (siteAt l x) k
+          ≡ turnedTo t choices greys (pattern c xs (t .reference)) (ltb x blue) (pattern c xs (siteAt l x)) k
+      unfolding final
+      final-is k =
+          rw (grey-here, grey-any t choices one greys fwd bwd js cuts (labelOf m (siteAt l x)), after-is k)
+        where
+          grey-here : (takesGreys c && reached c xs m (siteAt l x)) ≡ isCmr (t .mode)
+          grey-here =
+              rw (grown-greys (t .form) (t .mode) (asks .grows), reached-in m (siteAt l x) does, eq-eqb _ _ (g .cluster .listed .each x xl))
+              (and-yes (isCmr (t .mode)))
+
+    -- ---- at a site that is not listed
+    module _ (i k : ℕ) (apart : Unplaced len (siteAt l) i) where
+      final-else : final c p xs (g .blues) m i k ≡ pattern c xs i k
+      unfolding final
+      final-else =
+          rw (
+            reached-out m i (λ e. let w = g .cluster .listed .all i e in apart (w .0) (w .1) (w .2)),
+            reached-out (g .blues) i (λ e. let w = g .first .listed .all i e in apart (w .0) (omega (arith, w .1, g .more)) (w .2)),
+            and-no (takesGreys c),
+          )
+
+    pub moved : {ys : List ℤ} → Turned t choices greys l blue len xs ys → Moves c p xs (g .blues) m ys
+    moved {ys} w = record {
+      long = w .long;
+      group = λ i k il kl. at i k il kl (place len (siteAt l) i);
+      others = λ i s il none. w .systems i s il none;
+    }
+      where
+        at : (i k : ℕ) → i < t .n → k < t .group .len → Placed len (siteAt l) i ⊎ Unplaced len (siteAt l) i
+            → pattern c ys i k ≡ final c p xs (g .blues) m i k
+        at i k il kl (inl q) = rw (q .2) (w .listed (q .0) k (q .1) kl ∙ sym (final-is (q .0) (q .1) k))
+        at i k il kl (inr q) = w .others i _ il q ∙ sym (final-else i k q)
+
+    pub moved-answers : {ys : List ℤ} → Turned t choices greys l blue len xs ys → (o : Outputs)
+        → Answers c p (withOutputs o xs members) Moved (withOutputs o ys m)
+    moved-answers {ys} w o = record {
+      valid = valid-kept c p (withOutputs o xs members) (answered o);
+      some = record { site = t .seed; below = seed-lt; does = on };
+      moved = λ e. forms-apart (t .form) e (asks .grows);
+      turned = λ e. record { blue = g .blues; joined = g .first .members; moved = moved w };
+      seen = record {
+        all = λ e. forms-apart (t .form) e (asks .grows);
+        one = λ e. record {
+          members = λ _. g .cluster .members;
+          none = λ off. never (sym off ∙ on);
+          labels-kept = refl;
+          grey-kept = refl;
+          counts-kept = refl;
+          sizes-kept = refl;
+        };
+      };
+    }

@@ -1,0 +1,9 @@
+-- The members of a cluster; the list of them while it grows; the growth, for any rule of bonds; what the functions ask and promise; how tight that is.
+pub mod Members
+pub mod Listed
+pub mod Growth
+pub mod Spread
+pub mod Contract
+pub mod Task
+pub mod Answered
+pub mod Determined

@@ -1,0 +1,256 @@
+// The cluster of a seed, grown from site to site: only what it reaches is looked at.
+ghost use lib.ListN.{length, getD};
+ghost use mathlib.Core.Path.{_≡_};
+ghost use Rattle.paper.specs.Panel.Made.{callOf, choicesOf};
+ghost use Rattle.paper.specs.Answer.Move.{Answers};
+ghost use Rattle.judge.specs.Judged.{Ready, BondOf, columnFor};
+ghost use Rattle.judge.specs.Drawn.{judgedOn};
+ghost use Rattle.grow.specs.Growth.{Growing, Met, Visiting};
+ghost use Rattle.grow.specs.Spread.{Next, Spreads};
+ghost use Rattle.grow.specs.Contract.{graphFor, ruled, Grounds, Meeting, Waiting, Seedable, Grew};
+ghost use Rattle.grow.specs.Task.{Outputs, withOutputs, GrowAsks};
+use judge::Rule;
+use judge::judge;
+use judge::prepare;
+use lemmas::bytes::clear;
+use lemmas::wide;
+use paper::Answer;
+use paper::Group;
+use paper::Mode;
+use paper::Sampler;
+use paper::Task;
+
+// A bond: the site that it starts at, and its direction.
+struct Bond(usize, usize);
+
+// A bond is met at one end, which has the column `own`, and `found` is its other end: if it holds, that site is marked and listed, unless it is
+// already. Only then are its spins read. The new number of sites.
+fn meet(
+    rule: Rule,
+    spins: &[i8],
+    couplings: &[i32],
+    cuts: &[f32],
+    members: &mut [u8],
+    list: &mut [u32],
+    len: usize,
+    own: u8,
+    found: usize,
+    bond: Bond,
+) -> usize
+    requires { ⌜ Ready rule (now spins) (now couplings) (now cuts) ⌝ }
+    requires { ⌜ BondOf (rule .task) (bond .0) (bond .1) ⌝ }
+    requires { ⌜ Meeting (rule .task .n) found (now members) (now list) len ⌝ }
+    ensures { λ r. ⌜ Met
+        (judgedOn rule (now (couplings .entry)) (now (cuts .entry)) (bond .0) (bond .1) own (columnFor (rule .task) (now (spins .entry)) found))
+        found (now (members .entry)) (now (list .entry)) len (now (members .exit)) (now (list .exit)) r ⌝ }
+{
+    if members[found] == 1 {
+        return len;
+    }
+    let t = rule.task;
+    let group = t.group;
+    let other = columns::column_at(spins, t.n, group, found);
+    if judge(rule, couplings, cuts, bond.0, bond.1, own, other) {
+        members[found] = 1;
+        list[len] = found as u32;
+        return len + 1;
+    }
+    len
+}
+
+// Meets the bonds of site i in both senses. A bond has the coupling and the cut of the site that it starts at: one behind leads from its other end
+// to i.
+fn visit(
+    rule: Rule,
+    spins: &[i8],
+    fwd: &[u32],
+    bwd: &[u32],
+    couplings: &[i32],
+    cuts: &[f32],
+    members: &mut [u8],
+    list: &mut [u32],
+    start: usize,
+    i: usize,
+) -> usize
+    requires { ⌜ Grounds rule (now fwd) (now bwd) (now spins) (now couplings) (now cuts) ⌝ }
+    requires { ⌜ Growing
+        (graphFor (rule .task) (now fwd)) (ruled rule (now fwd) (now spins) (now couplings) (now cuts)) (rule .task .seed) (now members) (now list) start ⌝ }
+    requires { ⌜ getD (now members) i 0 ≡ 1 ⌝ }
+    ensures { λ r. ⌜ Visiting
+        (graphFor (rule .task) (now (fwd .entry)))
+        (ruled rule (now (fwd .entry)) (now (spins .entry)) (now (couplings .entry)) (now (cuts .entry)))
+        (rule .task .seed) i (now (members .entry)) (now (list .entry)) start (rule .task .d) (now (members .exit)) (now (list .exit)) r ⌝ }
+{
+    let t = rule.task;
+    let group = t.group;
+    let own = columns::column_at(spins, t.n, group, i);
+    let d = t.d;
+    let base = i * d;
+    let mut len = start;
+    let mut e = 0;
+    while e < d {
+        let to = wide(fwd[base + e]);
+        let ahead = Bond(i, e);
+        len = meet(
+            rule,
+            spins,
+            couplings,
+            cuts,
+            members,
+            list,
+            len,
+            own,
+            to,
+            ahead,
+        );
+        let from = wide(bwd[base + e]);
+        let back = Bond(from, e);
+        len = meet(
+            rule,
+            spins,
+            couplings,
+            cuts,
+            members,
+            list,
+            len,
+            own,
+            from,
+            back,
+        );
+        e += 1;
+    }
+    len
+}
+
+// The site to visit at the place head. Of the entries that the list started with each keeps its place; behind them the newest, at the place last, is
+// put there, so that the growth goes deep first.
+fn next(list: &mut [u32], start: usize, head: usize, last: usize) -> usize
+    requires { ⌜ Waiting head last (length (now list)) ⌝ }
+    ensures { λ r. ⌜ Next start head last (now (list .entry)) (now (list .exit)) r ⌝ }
+{
+    if head < start {
+        return wide(list[head]);
+    }
+    let newest = list[last];
+    list[last] = list[head];
+    list[head] = newest;
+    wide(newest)
+}
+
+// Grows the cluster on from the `start` sites of the list, until none waits. The number of its sites.
+fn spread(
+    rule: Rule,
+    spins: &[i8],
+    fwd: &[u32],
+    bwd: &[u32],
+    couplings: &[i32],
+    cuts: &[f32],
+    members: &mut [u8],
+    list: &mut [u32],
+    start: usize,
+) -> usize
+    requires { ⌜ Grounds rule (now fwd) (now bwd) (now spins) (now couplings) (now cuts) ⌝ }
+    requires { ⌜ Growing
+        (graphFor (rule .task) (now fwd)) (ruled rule (now fwd) (now spins) (now couplings) (now cuts)) (rule .task .seed) (now members) (now list) start ⌝ }
+    ensures { λ r. ⌜ Spreads
+        (graphFor (rule .task) (now (fwd .entry)))
+        (ruled rule (now (fwd .entry)) (now (spins .entry)) (now (couplings .entry)) (now (cuts .entry)))
+        (rule .task .seed) start (now (list .entry)) (now (members .exit)) (now (list .exit)) r ⌝ }
+{
+    let mut len = start;
+    let mut head = 0;
+    while head < len {
+        let i = next(list, start, head, len - 1);
+        len = visit(
+            rule,
+            spins,
+            fwd,
+            bwd,
+            couplings,
+            cuts,
+            members,
+            list,
+            len,
+            i,
+        );
+        head += 1;
+    }
+    len
+}
+
+// How many sites of the list the bonds join to the seed, in CMR the blue ones; and how many members there are.
+struct Grown {
+    blue: usize,
+    len: usize,
+}
+
+// The cluster of the task's seed. In CMR it is the grey one: it grows on from every site of the blue one, which stands first in the list.
+fn grow_cluster(
+    t: Task,
+    spins: &[i8],
+    fwd: &[u32],
+    bwd: &[u32],
+    couplings: &[i32],
+    cuts: &[f32],
+    members: &mut [u8],
+    list: &mut [u32],
+) -> Grown
+    requires { ⌜ Seedable t (now fwd) (now bwd) (now spins) (now couplings) (now cuts) (length (now members)) (length (now list)) ⌝ }
+    ensures { λ r. ⌜ Grew
+        (callOf t (now (fwd .entry)) (now (bwd .entry)) (now (couplings .entry)) (now (cuts .entry))) (now (spins .entry))
+        (now (members .exit)) (now (list .exit)) (r .blue) (r .len) ⌝ }
+{
+    let seed = t.seed;
+    lemmas::bytes::clear(members);
+    members[seed] = 1;
+    list[0] = seed as u32;
+    let rule = prepare(t, false, spins);
+    let blue = spread(rule, spins, fwd, bwd, couplings, cuts, members, list, 1);
+    let mode = t.mode;
+    if mode.is_cmr() {
+        let both = prepare(t, true, spins);
+        let len = spread(both, spins, fwd, bwd, couplings, cuts, members, list, blue);
+        return Grown {
+            blue: blue,
+            len: len,
+        };
+    }
+    Grown {
+        blue: blue,
+        len: blue,
+    }
+}
+
+// One task of the form that grows, once its input is tested: the members and the spins as the paper has them. Beside the seed, and in gperm the
+// reference, no site is read that the cluster does not reach.
+pub fn run_grow(
+    t: Task,
+    spins: &mut [i8],
+    fwd: &[u32],
+    bwd: &[u32],
+    couplings: &[i32],
+    cuts: &[f32],
+    choices: &[u8],
+    greys: &[u8],
+    members: &mut [u8],
+) -> Answer
+    requires { ⌜ GrowAsks
+        (callOf t (now fwd) (now bwd) (now couplings) (now cuts)) (choicesOf (now choices) (now greys)) (now spins) (now members) ⌝ }
+    ensures { λ r. ⌜ ((o : Outputs) → Answers
+        (callOf t (now (fwd .entry)) (now (bwd .entry)) (now (couplings .entry)) (now (cuts .entry)))
+        (choicesOf (now (choices .entry)) (now (greys .entry)))
+        (withOutputs o (now (spins .entry)) (now (members .entry)))
+        r
+        (withOutputs o (now (spins .exit)) (now (members .exit)))) ⌝ }
+{
+    let mode = t.mode;
+    let group = t.group;
+    if !column_rules::acts_at(mode, t.n, spins, group, t.reference, t.seed) {
+        clear(members);
+        return Answer::Idle;
+    }
+    let mut list = [0u32; 4096];
+    let grown = grow_cluster(t, spins, fwd, bwd, couplings, cuts, members, &mut list);
+    turn::turn(t, spins, choices, greys, &list, grown.blue, grown.len);
+    Answer::Moved
+}

@@ -1,0 +1,2 @@
+-- The number of a bond.
+pub mod Number

@@ -1,0 +1,3 @@
+-- The cluster's choice on one column, then one member more.
+pub mod Choice
+pub mod Step

@@ -1,0 +1,115 @@
+//! A sweep: its tasks and its refusals.
+use super::refusals::*;
+use super::{Panel, Task};
+use calls::Sweep;
+
+pub fn sweep_panel<'a>(call: &'a Sweep) -> Panel<'a> {
+    Panel {
+        n: call.n,
+        d: call.d,
+        s: call.s,
+        spins: call.spins,
+        fwd: call.fwd,
+        bwd: call.bwd,
+    }
+}
+
+fn part<T>(buffer: &[T], task: usize, length: usize) -> &[T] {
+    &buffer[task * length..(task + 1) * length]
+}
+
+/// A task's part of a buffer that the call takes; nothing of one that it does not.
+fn taken<T>(wanted: Option<usize>, buffer: &[T], task: usize) -> &[T] {
+    match wanted {
+        Some(length) => part(buffer, task, length),
+        None => &[],
+    }
+}
+
+pub fn sweep_task<'a>(call: &'a Sweep, number: usize) -> Task<'a> {
+    let groups = call.r / call.members;
+    let (j, g) = (number / groups, number % groups);
+    let each = lengths(call.mode, call.form, call.n, call.d, call.members, 1);
+    let from = j * call.r + g * call.members;
+    let first = |numbers: &[u32]| numbers.first().map_or(0, |&number| number as usize);
+    Task {
+        mode: call.mode,
+        form: call.form,
+        group: call.order[from..from + call.members]
+            .iter()
+            .map(|&system| system as usize)
+            .collect(),
+        couplings: call.couplings,
+        temperature: if call.mode.draws() {
+            call.temperatures[j]
+        } else {
+            1.0
+        },
+        cuts: taken(each.cuts, call.cuts, number),
+        reference: first(taken(each.references, call.references, number)),
+        seed: first(taken(each.seeds, call.seeds, number)),
+        flips: taken(each.flips, call.flips, number),
+        perms: taken(each.perms, call.perms, number),
+        greys: taken(each.greys, call.greys, number),
+    }
+}
+
+fn sweep_length_refused(call: &Sweep) -> bool {
+    let tasks = call.t * (call.r / call.members);
+    let exact = lengths(call.mode, call.form, call.n, call.d, call.members, tasks);
+    panel_length_refused(sweep_panel(call))
+        || differs(exact.couplings, call.couplings.len())
+        || call.order.len() != call.s
+        || call.masks.len() != call.t
+        || (call.mode.draws() && call.temperatures.len() != call.t)
+        || differs(exact.cuts, call.cuts.len())
+        || differs(exact.references, call.references.len())
+        || differs(exact.seeds, call.seeds.len())
+        || differs(exact.flips, call.flips.len())
+        || differs(exact.perms, call.perms.len())
+        || differs(exact.greys, call.greys.len())
+        || differs(exact.labels, call.labels.len())
+        || differs(exact.grey_labels, call.grey_labels.len())
+        || differs(exact.counts, call.counts.len())
+        || differs(exact.sizes, call.sizes.len())
+        || differs(exact.member_sites, call.member_sites.len())
+}
+
+/// The unmasked tasks in ascending order.
+pub fn unmasked(call: &Sweep) -> Vec<usize> {
+    let groups = call.r / call.members;
+    (0..call.t * groups)
+        .filter(|task| call.masks[task / groups] == 0)
+        .collect()
+}
+
+pub fn sweep_refusal(call: &Sweep) -> Option<u8> {
+    let draws = call.mode.draws();
+    let panel = sweep_panel(call);
+    let systems = call.t as u128 * call.r as u128;
+    if sizes_refused(call.n, call.d, call.s)
+        || members_refused(call.mode, call.members)
+        || systems != call.s as u128
+        || call.members > call.r
+    {
+        Some(1)
+    } else if sweep_length_refused(call) {
+        Some(2)
+    } else if spins_refused(call.spins) {
+        Some(3)
+    } else if tables_refused(panel) {
+        Some(4)
+    } else if systems_refused(call.order, call.s) {
+        Some(5)
+    } else if draws && coupling_refused(call.couplings) {
+        Some(6)
+    } else if draws && call.temperatures.iter().any(|&t| temperature_refused(t)) {
+        Some(7)
+    } else if call.masks.iter().any(|&mask| mask > 1) {
+        Some(9)
+    } else {
+        unmasked(call)
+            .iter()
+            .find_map(|&number| task_refusal(panel, &sweep_task(call, number)))
+    }
+}
