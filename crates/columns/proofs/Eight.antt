@@ -39,3 +39,8 @@ pub eight-bits : (m : ℕ) (f : ℕ → Bool) → m ≤ 8 → Eight f m
 unfolding code
 eight-bits m f h =
     nine (Eight f) (omega arith) (omega arith) (omega arith) (omega arith) (omega arith) (omega arith) (omega arith) (omega arith) (omega arith) m h
+
+-- a group of two has the first two alone
+pub two-bits : (f : ℕ → Bool) → bitIn 2 0 (f 0) + bitIn 2 1 (f 1) ≡ code 2 f
+unfolding code
+two-bits f = omega arith

@@ -42,15 +42,6 @@ isUp z = eqZ z (pos 1)
 abbrev pub columnOf : ℕ → Pattern → ℕ
 columnOf m f = code m (λ k. isUp (f k))
 
--- the sign that a mode multiplies member k's spin with: gperm takes the reference site's pattern P
-abbrev pub signBy : Mode → Pattern → Pattern
-signBy Houd P k = pos 1
-signBy Pair P k = pos 1
-signBy Perm P k = pos 1
-signBy Gperm P k = P k
-signBy Jorg P k = pos 1
-signBy Cmr P k = pos 1
-
 -- what a chosen flip makes of a pattern of m systems; the perm modes take no flip
 abbrev pub flipped : Mode → ℕ → Pattern → Pattern
 flipped Houd m f k = cond (ltb k (2 * (m / 2))) (negℤ (f k)) (f k)

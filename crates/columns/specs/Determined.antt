@@ -4,7 +4,7 @@ use mathlib.Core.Path.{_≡_, sym, _∙_}
 use mathlib.Core.Logic.{_⊎_, inl, inr, _≢_}
 use mathlib.Core.List.{List}
 use native.Mathlib.Omega.{arith}
-use native.Mathlib.Decide.{ℕ-discrete, decLt}
+use native.Mathlib.Decide.{ℕ-discrete}
 use native.Mathlib.Nat.{div-add-mod', mod-lt}
 use lib.ListN.{length, getD}
 use lib.Seq.{ext-getD}
@@ -15,7 +15,7 @@ use Rattle.paper.specs.declared.Mode.{Mode}
 use Rattle.paper.specs.Panel.Input.{Pattern, member, spin, patternOf}
 use Rattle.columns.specs.Column.{shown, columnOf, Columns}
 use Rattle.columns.specs.Gauge.{gaugeOf}
-use Rattle.columns.specs.Rows.{Signed, Written, SiteWritten}
+use Rattle.columns.specs.Rows.{Written, SiteWritten}
 
 pub permute-group-site-determined :
     (column : ℕ) (g : Group) (perm : List ℕ) (r r′ : ℕ)
@@ -62,21 +62,13 @@ write-rows-determined n g cols xs ys zs w v = go (ℕ-discrete n 0)
     go (yes e) = w .empty e ∙ sym (v .empty e)
     go (no e) = ext-getD (pos 0) ys zs (w .long ∙ sym (v .long)) (λ x h. cell (omega (arith, e)) x)
 
-pub signs-determined :
-    (mode : Mode) (n : ℕ) (g : Group) (xs : List ℤ) (reference : ℕ) (r r′ : List ℤ)
-    → Signed mode n g xs reference r
-    → Signed mode n g xs reference r′
-    → r ≡ r′
-signs-determined mode n g xs reference r r′ s s′ = ext-getD (pos 0) r r′ (s .long ∙ sym (s′ .long)) (λ k h. at k h (decLt k (g .len)))
-  where
-    at : (k : ℕ) → k < length r → Dec (k < g .len) → getD r k (pos 0) ≡ getD r′ k (pos 0)
-    at k h (yes l) = s .at k l ∙ sym (s′ .at k l)
-    at k h (no l) = let b : k < 8 = omega (arith, s .long) in s .rest k (omega arith) b ∙ sym (s′ .rest k (omega arith) b)
-
 -- ---- one site
 module _ (n : ℕ) (g : Group) (xs : List ℤ) (i : ℕ) where
   pub column-at-determined : (r r′ : ℕ) → r ≡ columnOf (g .len) (patternOf n g xs i) → r′ ≡ columnOf (g .len) (patternOf n g xs i) → r ≡ r′
   column-at-determined r r′ e e′ = e ∙ sym e′
+
+  pub quick-column-at-determined : (r r′ : ℕ) → r ≡ columnOf (g .len) (patternOf n g xs i) → r′ ≡ columnOf (g .len) (patternOf n g xs i) → r ≡ r′
+  quick-column-at-determined r r′ e e′ = e ∙ sym e′
 
   pub gauge-at-determined :
       (mode : Mode) (r r′ : ℕ)

@@ -1,69 +1,16 @@
 -- What callers of the functions on columns need of their promises.
 use Prim.Native.Nat.{ℕ, _+_, _*_, _/_, _%_, _<_}
-use mathlib.Core.Path.{_≡_, refl, sym, _∙_, ap}
-use mathlib.Core.Logic.{inl, _≢_}
-use mathlib.Core.Bool.{true, false}
+use mathlib.Core.Path.{_≡_, sym, _∙_, ap}
+use mathlib.Core.Logic.{_≢_}
 use mathlib.Core.List.{List}
 use lib.ListN.{getD}
-use lib.IntN.{ℤ, pos, _*ℤ_, one, *ℤ-one, *ℤ-comm}
-use Rattle.lemmas.specs.Bools.{never}
+use lib.IntN.{ℤ}
 use Rattle.lemmas.specs.Cells.{row-of, column-of}
 use Rattle.paper.specs.declared.Group.{Group}
-use Rattle.paper.specs.declared.Mode.{Mode}
-use Rattle.paper.specs.declared.Mode.the-variants.{Houd, Pair, Perm, Gperm, Jorg, Cmr}
 use Rattle.paper.specs.Panel.Input.{Pattern, member, spin, patternOf}
-use Rattle.paper.specs.Panel.Takes.{isGperm}
-use Rattle.paper.specs.Site.Acting.{gauge}
 use Rattle.paper.specs.Refusal.Rules.{Spin}
-use Rattle.columns.specs.Column.{columnOf, shown, shown-column, shown-spin, signBy, Columns, Spinning}
-use Rattle.columns.specs.Rows.{Signed, Signs, signed, Written, SiteWritten}
-
--- ---- signs
-
-pub mode-gperm : (mode : Mode) → isGperm mode ≡ true → mode ≡ Gperm
-mode-gperm Houd e = never e
-mode-gperm Pair e = never e
-mode-gperm Perm e = never e
-mode-gperm Gperm e = refl
-mode-gperm Jorg e = never e
-mode-gperm Cmr e = never e
-
-pub plain-sign : (mode : Mode) (P : Pattern) (k : ℕ) → isGperm mode ≡ false → signBy mode P k ≡ pos 1
-plain-sign Houd P k e = refl
-plain-sign Pair P k e = refl
-plain-sign Perm P k e = refl
-plain-sign Gperm P k e = never (sym e)
-plain-sign Jorg P k e = refl
-plain-sign Cmr P k e = refl
-
-by-one : (z : ℤ) → pos 1 *ℤ z ≡ z
-unfolding one
-by-one z = *ℤ-comm (pos 1) z ∙ *ℤ-one z
-
--- a spin times its sign is the spin as the mode sees it
-pub sign-gauge : (mode : Mode) (P f : Pattern) (k : ℕ) → signBy mode P k *ℤ f k ≡ gauge mode P f k
-sign-gauge Houd P f k = by-one (f k)
-sign-gauge Pair P f k = by-one (f k)
-sign-gauge Perm P f k = by-one (f k)
-sign-gauge Gperm P f k = refl
-sign-gauge Jorg P f k = by-one (f k)
-sign-gauge Cmr P f k = by-one (f k)
-
-sign-spin : (mode : Mode) (P : Pattern) (k : ℕ) → (isGperm mode ≡ true → Spin (P k)) → Spin (signBy mode P k)
-sign-spin Houd P k s = inl refl
-sign-spin Pair P k s = inl refl
-sign-spin Perm P k s = inl refl
-sign-spin Gperm P k s = s refl
-sign-spin Jorg P k s = inl refl
-sign-spin Cmr P k s = inl refl
-
-module _ {mode : Mode} {n : ℕ} {g : Group} {xs ss : List ℤ} {reference : ℕ} (s : Signed mode n g xs reference ss) where
-  -- the signs of spins are spins
-  pub signed-spins : Spinning n g xs → (isGperm mode ≡ true → reference < n) → Signs (g .len) ss
-  signed-spins spins site k h = rw (s .at k h) (sign-spin mode (patternOf n g xs reference) k (λ e. spins reference k (site e) h))
-
-  pub signed-gauge : (i k : ℕ) → k < g .len → signed n g ss xs i k ≡ gauge mode (patternOf n g xs reference) (patternOf n g xs i) k
-  signed-gauge i k h = ap (λ (z : ℤ). z *ℤ patternOf n g xs i k) (s .at k h) ∙ sign-gauge mode (patternOf n g xs reference) (patternOf n g xs i) k
+use Rattle.columns.specs.Column.{columnOf, shown, shown-column, shown-spin, Columns}
+use Rattle.columns.specs.Rows.{Written, SiteWritten}
 
 -- ---- columns
 

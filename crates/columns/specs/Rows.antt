@@ -6,14 +6,14 @@ use mathlib.Core.Bool.{Bool, true, cond}
 use mathlib.Core.List.{List}
 use lib.Dec.{ltb}
 use lib.ListN.{length, getD}
-use lib.IntN.{ℤ, pos, _*ℤ_}
+use lib.IntN.{ℤ, pos}
 use Rattle.lemmas.specs.Counts.{bit}
 use Rattle.paper.specs.declared.Group.{Group}
 use Rattle.paper.specs.declared.Mode.{Mode}
-use Rattle.paper.specs.Panel.Input.{Pattern, member, spin, patternOf}
+use Rattle.paper.specs.Panel.Input.{member, spin, patternOf}
 use Rattle.paper.specs.Panel.Takes.{isGperm}
-use Rattle.paper.specs.Refusal.Rules.{Spin, Distinct}
-use Rattle.columns.specs.Column.{shown, isUp, signBy, Inside}
+use Rattle.paper.specs.Refusal.Rules.{Distinct}
+use Rattle.columns.specs.Column.{shown, isUp, Inside}
 
 -- what permute_group_site asks: perm has a byte for each of the m places of a group, and each names a place
 pub record Places (m : ℕ) (perm : List ℕ) : Type 0 where
@@ -21,25 +21,11 @@ pub record Places (m : ℕ) (perm : List ℕ) : Type 0 where
   pub long : length perm ≡ m
   pub below : (k : ℕ) → k < m → getD perm k 0 < m
 
--- what signs asks
+-- what gauge_at asks
 pub record Signable (mode : Mode) (n : ℕ) (g : Group) (xs : List ℤ) (reference : ℕ) : Type 0 where
   pub few : g .len ≤ 8
   pub inside : Inside n g xs
   pub site : isGperm mode ≡ true → reference < n
-
--- a sign for each member, and +1 past them
-pub record Signed (mode : Mode) (n : ℕ) (g : Group) (xs : List ℤ) (reference : ℕ) (signs : List ℤ) : Type 0 where
-  pub long : length signs ≡ 8
-  pub at : (k : ℕ) → k < g .len → getD signs k (pos 0) ≡ signBy mode (patternOf n g xs reference) k
-  pub rest : (k : ℕ) → g .len ≤ k → k < 8 → getD signs k (pos 0) ≡ pos 1
-
--- the sign of each of the first m members is +1 or -1
-abbrev pub Signs : ℕ → List ℤ → Type 0
-Signs m signs = (k : ℕ) → k < m → Spin (getD signs k (pos 0))
-
--- the group's spins at the site i, each times its member's sign
-abbrev pub signed : ℕ → Group → List ℤ → List ℤ → ℕ → Pattern
-signed n g signs xs i k = getD signs k (pos 0) *ℤ patternOf n g xs i k
 
 -- what pack asks
 pub record Packable (n : ℕ) (g : Group) (xs : List ℤ) (cols : List ℕ) : Type 0 where
@@ -81,9 +67,14 @@ pub record MemberIn (n m k s : ℕ) (xs : List ℤ) (i : ℕ) : Type 0 where
 abbrev pub bitIn : ℕ → ℕ → Bool → ℕ
 bitIn m k b = cond (ltb k m) (bit b * 2 ^ k) 0
 
+-- the group of the first len systems of a list
+abbrev pub groupOf : ℕ → List ℕ → Group
+groupOf len systems = record { len = len; systems = systems }
+
 -- what write_site asks
 pub record SiteOut (n : ℕ) (g : Group) (xs : List ℤ) (i : ℕ) : Type 0 where
   pub site : SiteIn n g xs i
+  pub listed : g .len ≤ length (g .systems)
   pub distinct : Distinct (g .len) (member g)
 
 -- ys is xs with the spins of the first m members at the site i written from the column

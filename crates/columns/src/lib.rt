@@ -8,40 +8,11 @@ ghost use Rattle.paper.specs.Panel.Input.{spin, patternOf};
 ghost use Rattle.columns.specs.Column.{shown, isUp, columnOf, Columns};
 ghost use Rattle.lemmas.specs.Stores.{Whole};
 ghost use Rattle.columns.specs.Gauge.{gaugeOf, Gaugeable};
-ghost use Rattle.columns.specs.Rows.{Signable, Signed, Places, Packable, Writable, Written, Adds, Fills, added};
-ghost use Rattle.columns.specs.Rows.{SiteIn, SiteOut, SiteWritten, MemberIn, bitIn};
+ghost use Rattle.columns.specs.Rows.{Signable, Places, Packable, Writable, Written, Adds, Fills, added};
+ghost use Rattle.columns.specs.Rows.{groupOf, SiteIn, SiteOut, SiteWritten, MemberIn, bitIn};
 use lemmas::bytes::clear;
 use paper::Group;
 use paper::Mode;
-
-// The spins of the group's members at the reference site, and +1 past them.
-fn reference_signs(spins: &[i8], n: usize, group: Group, reference: usize) -> [i8; 8]
-    requires { ⌜ Signable Mode.Gperm n group (now spins) reference ⌝ }
-    ensures { λ r. ⌜ Signed Mode.Gperm n group (now (spins .entry)) reference r ⌝ }
-{
-    let mut signs = [1i8; 8];
-    let len = group.len;
-    let mut k: usize = 0;
-    while k < len {
-        let s = group.systems[k];
-        let v = spins[s * n + reference];
-        signs[k] = v;
-        k += 1;
-    }
-    signs
-}
-
-// Each member's sign: in gperm its spin at the reference site, else +1.
-pub fn signs(mode: Mode, spins: &[i8], n: usize, group: Group, reference: usize) -> [i8; 8]
-    requires { ⌜ Signable mode n group (now spins) reference ⌝ }
-    ensures { λ r. ⌜ Signed mode n group (now (spins .entry)) reference r ⌝ }
-{
-    if mode.is_gperm() {
-        reference_signs(spins, n, group, reference)
-    } else {
-        [1i8; 8]
-    }
-}
 
 // Replica k gets what replica perm[k] had.
 pub fn permute_group_site(column: u8, group: Group, perm: &[u8]) -> u8
@@ -158,15 +129,27 @@ pub fn column_at(spins: &[i8], n: usize, group: Group, i: usize) -> u8
     (a + b) + (c + d)
 }
 
-// Writes the group's spins at one site from a column.
-pub fn write_site(spins: &mut [i8], n: usize, group: Group, i: usize, column: u8)
-    requires { ⌜ SiteOut n group (now spins) i ⌝ }
-    ensures { λ _. ⌜ SiteWritten n (group .len) group i column (now (spins .entry)) (now (spins .exit)) ⌝ }
+// The same, quicker for two members, the most common group: which places it has is not asked. Apart, so that each of the two stays small enough for
+// the compiler to make it a part of the code that asks.
+pub fn quick_column_at(spins: &[i8], n: usize, group: Group, i: usize) -> u8
+    requires { ⌜ SiteIn n group (now spins) i ⌝ }
+    ensures { λ r. ⌜ r ≡ columnOf (group .len) (patternOf n group (now (spins .entry)) i) ⌝ }
 {
-    let len = group.len;
+    if group.len == 2 {
+        let s = group.systems;
+        return member_bit(spins, n, 2, 0, s[0], i) + member_bit(spins, n, 2, 1, s[1], i);
+    }
+    column_at(spins, n, group, i)
+}
+
+// Writes a group's spins at one site from a column. Its systems are lent: a group handed over would be copied for each site.
+pub fn write_site(spins: &mut [i8], n: usize, len: usize, systems: &[usize], i: usize, column: u8)
+    requires { ⌜ SiteOut n (groupOf len (now systems)) (now spins) i ⌝ }
+    ensures { λ _. ⌜ SiteWritten n len (groupOf len (now (systems .entry))) i column (now (spins .entry)) (now (spins .exit)) ⌝ }
+{
     let mut k: usize = 0;
     while k < len {
-        let s = group.systems[k];
+        let s = systems[k];
         let v = pick(column, k);
         spins[s * n + i] = v;
         k += 1;

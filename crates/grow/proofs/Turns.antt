@@ -1,6 +1,7 @@
 -- A turn of `visit`, by the rule that bonds are judged by: the bond ahead is met, and then the bond behind.
 use Prim.Native.Nat.{ℕ, _+_, _*_, _≤_, _<_}
 use mathlib.Core.Path.{_≡_, refl, ap, sym, _∙_}
+use mathlib.Core.Bool.{Bool}
 use mathlib.Core.List.{List}
 use native.Mathlib.Nat.{mul-le-mul}
 use native.Mathlib.Omega.{arith}
@@ -8,12 +9,21 @@ use lib.ListN.{getD}
 use lib.IntN.{ℤ}
 use lib.Ieee.{Float}
 use Rattle.lemmas.specs.Cells.{cell-lt}
+use Rattle.paper.specs.declared.Task.{Task}
 use Rattle.judge.specs.declared.Rule.{Rule}
 use Rattle.judge.specs.Judged.{columnFor, judged}
 use Rattle.judge.specs.Drawn.{judgedOn}
 use Rattle.judge.specs.Ends.{judged-turned, judged-columns}
+use Rattle.grow.specs.Kept.{Keeping}
 use Rattle.grow.specs.Growth.{Met, Visiting, Halfway, site, visit-ahead, visit-behind}
 use Rattle.grow.specs.Contract.{graphFor, ruled, Grounds}
+
+-- where the arms of a test meet, what stands there is what the arm left
+pub met-same :
+    {b : Bool} {found len len′ len″ : ℕ} {m l m′ l′ cols′ m″ l″ cols″ : List ℕ} {t : Task} {xs : List ℤ}
+    → m″ ≡ m′ → l″ ≡ l′ → cols″ ≡ cols′ → len″ ≡ len′
+    → Keeping (Met b found m l len m′ l′ len′) t xs m′ cols′ → Keeping (Met b found m l len m″ l″ len″) t xs m″ cols″
+met-same p q s e w = rw (p, q, s, e) w
 
 module _ {r : Rule} {fwd bwd : List ℕ} {xs js : List ℤ} {cuts : List Float} (g : Grounds r fwd bwd xs js cuts) where
   -- a site and a direction have a place in the tables

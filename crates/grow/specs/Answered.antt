@@ -40,6 +40,7 @@ use Rattle.judge.specs.Laws.{growable}
 use Rattle.turn.specs.Turned.{actedTo, turnedTo, OneCluster, Chooses, Turnable, Turned}
 use Rattle.turn.specs.Laws.{act-any, grey-any}
 use Rattle.grow.specs.Listed.{isIn, siteAt}
+use Rattle.grow.specs.Kept.{Kept}
 use Rattle.grow.specs.Spread.{cluster-site, cluster-joined}
 use Rattle.grow.specs.Contract.{Seedable, Grew}
 use Rattle.grow.specs.Task.{Outputs, noOutputs, withOutputs, GrowAsks, grown-with}
@@ -108,13 +109,17 @@ module _ (t : Task) (fwd bwd : List ℕ) (js : List ℤ) (cuts : List Float) (ch
   pub seen-at : SightedAt (t .mode) (t .n) (t .group) (t .reference) xs (t .seed)
   seen-at = record { panel = panel .panel; below = seed-lt }
 
-  pub seedable : (room : ℕ) → room ≡ 4096 → Seedable t fwd bwd xs js cuts (length members) room
-  seedable room e = record {
+  pub seedable :
+      (room cells : ℕ) → room ≡ 4096 → cells ≡ 4096 → actsAt (t .mode) (t .n) (t .group) (t .reference) xs (t .seed) ≡ true
+      → Seedable t fwd bwd xs js cuts (length members) room cells
+  seedable room cells e c on = record {
     growable = panel;
     tables = record { fwd-long = v .sound .exact .fwd; bwd-long = v .sound .exact .bwd; inverse = v .sound .inverse };
     seed-lt = seed-lt;
     members-long = v .sound .exact .members (asks .grows);
     list-long = omega (arith, e, v .sound .ranged .lattice .n-high);
+    cols-long = c;
+    seed-acts = λ _. on;
   }
 
   pub members-long : length members ≡ t .n
@@ -177,8 +182,8 @@ module _ (t : Task) (fwd bwd : List ℕ) (js : List ℤ) (cuts : List Float) (ch
 
   -- ---- the seed acts
   module _ (on : acts c xs (t .seed) ≡ true) {m l : List ℕ} {blue len : ℕ} (g : Grew c xs m l blue len) where
-    pub turnable : Turnable t xs choices greys l len
-    turnable = record {
+    pub turnable : {cols : List ℕ} → Kept t xs m cols → Turnable t xs choices greys l cols len
+    turnable k = record {
       panel = panel .panel;
       distinct = v .sound .grouped .distinct;
       chooses = chooses;
@@ -188,6 +193,8 @@ module _ (t : Task) (fwd bwd : List ℕ) (js : List ℤ) (cuts : List Float) (ch
       long = let w = g .cluster .listed in omega (arith, w .number, count-most (isIn m) (length m), w .room);
       sites = cluster-site (g .cluster);
       apart = g .cluster .listed .apart;
+      room = omega (arith, k .long, v .sound .ranged .lattice .n-high);
+      kept = λ x xl. k .at (siteAt l x) (g .cluster .listed .each x xl);
     }
       where
         takes : isCmr (t .mode) ≡ true → greysBy (t .mode) (t .form) ≡ true

@@ -20,6 +20,7 @@ use Rattle.paper.specs.Refusal.Rules.{Inverse}
 use Rattle.paper.specs.Answer.Move.{memberBonds}
 use Rattle.judge.specs.declared.Rule.{Rule}
 use Rattle.judge.specs.Judged.{Growable, Ready, judged}
+use Rattle.grow.specs.Kept.{MemberActs}
 use Rattle.grow.specs.Listed.{Listed}
 use Rattle.grow.specs.Spread.{Cluster}
 
@@ -42,23 +43,26 @@ pub record Grounds (r : Rule) (fwd bwd : List ℕ) (xs js : List ℤ) (cuts : Li
   pub ready : Ready r xs js cuts
   pub tables : Tabled (r .task) fwd bwd
 
--- a site and the list that it may come to
+-- a site that is not marked, and the list that it may come to
 pub record Meeting (n found : ℕ) (m l : List ℕ) (len : ℕ) : Type 0 where
   pub long : length m ≡ n
   pub site : found < n
   pub listed : Listed m l len
+  pub new : getD m found 0 ≡ 1 → ⊥
 
 -- the place head waits, and last is the end of the list
 pub record Waiting (head last room : ℕ) : Type 0 where
   pub head-lt : head < room
   pub last-lt : last < room
 
-pub record Seedable (t : Task) (fwd bwd : List ℕ) (xs js : List ℤ) (cuts : List Float) (members list : ℕ) : Type 0 where
+pub record Seedable (t : Task) (fwd bwd : List ℕ) (xs js : List ℤ) (cuts : List Float) (members list cols : ℕ) : Type 0 where
   pub growable : Growable t xs js cuts
   pub tables : Tabled t fwd bwd
   pub seed-lt : t .seed < t .n
   pub members-long : members ≡ t .n
   pub list-long : t .n ≤ list
+  pub cols-long : cols ≡ 4096
+  pub seed-acts : MemberActs t xs (t .seed)
 
 -- ---- what is promised
 

@@ -3,6 +3,7 @@ pub mod Members
 pub mod Listed
 pub mod Growth
 pub mod Spread
+pub mod Kept
 pub mod Contract
 pub mod Task
 pub mod Answered

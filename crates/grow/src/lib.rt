@@ -3,8 +3,9 @@ ghost use lib.ListN.{length, getD};
 ghost use mathlib.Core.Path.{_≡_};
 ghost use Rattle.paper.specs.Panel.Made.{callOf, choicesOf};
 ghost use Rattle.paper.specs.Answer.Move.{Answers};
-ghost use Rattle.judge.specs.Judged.{Ready, BondOf, columnFor};
+ghost use Rattle.judge.specs.Judged.{Ready, BondOf, KnownToAct, columnFor};
 ghost use Rattle.judge.specs.Drawn.{judgedOn};
+ghost use Rattle.grow.specs.Kept.{Kept, Keeping};
 ghost use Rattle.grow.specs.Growth.{Growing, Met, Visiting};
 ghost use Rattle.grow.specs.Spread.{Next, Spreads};
 ghost use Rattle.grow.specs.Contract.{graphFor, ruled, Grounds, Meeting, Waiting, Seedable, Grew};
@@ -23,43 +24,45 @@ use paper::Task;
 // A bond: the site that it starts at, and its direction.
 struct Bond(usize, usize);
 
-// A bond is met at one end, which has the column `own`, and `found` is its other end: if it holds, that site is marked and listed, unless it is
-// already. Only then are its spins read. The new number of sites.
+// A bond is met at one end, which has the column `own`; `found` is its other end, which is not marked. If it holds, that site is marked and listed, and
+// its column is kept. The new number of sites. What only the modes that draw read comes last: the first eight arguments need no memory.
 fn meet(
     rule: Rule,
     spins: &[i8],
-    couplings: &[i32],
-    cuts: &[f32],
     members: &mut [u8],
     list: &mut [u32],
+    cols: &mut [u8],
     len: usize,
     own: u8,
     found: usize,
     bond: Bond,
+    couplings: &[i32],
+    cuts: &[f32],
 ) -> usize
     requires { ⌜ Ready rule (now spins) (now couplings) (now cuts) ⌝ }
     requires { ⌜ BondOf (rule .task) (bond .0) (bond .1) ⌝ }
+    requires { ⌜ KnownToAct rule own ⌝ }
     requires { ⌜ Meeting (rule .task .n) found (now members) (now list) len ⌝ }
-    ensures { λ r. ⌜ Met
+    requires { ⌜ Kept (rule .task) (now spins) (now members) (now cols) ⌝ }
+    ensures { λ r. ⌜ Keeping (Met
         (judgedOn rule (now (couplings .entry)) (now (cuts .entry)) (bond .0) (bond .1) own (columnFor (rule .task) (now (spins .entry)) found))
-        found (now (members .entry)) (now (list .entry)) len (now (members .exit)) (now (list .exit)) r ⌝ }
+        found (now (members .entry)) (now (list .entry)) len (now (members .exit)) (now (list .exit)) r)
+        (rule .task) (now (spins .entry)) (now (members .exit)) (now (cols .exit)) ⌝ }
 {
-    if members[found] == 1 {
-        return len;
-    }
     let t = rule.task;
     let group = t.group;
-    let other = columns::column_at(spins, t.n, group, found);
+    let other = columns::quick_column_at(spins, t.n, group, found);
     if judge(rule, couplings, cuts, bond.0, bond.1, own, other) {
         members[found] = 1;
         list[len] = found as u32;
+        cols[found] = other;
         return len + 1;
     }
     len
 }
 
-// Meets the bonds of site i in both senses. A bond has the coupling and the cut of the site that it starts at: one behind leads from its other end
-// to i.
+// Meets the bonds of site i in both senses that do not lead to a marked site. A bond has the coupling and the cut of the site that it starts at: one
+// behind leads from its other end to i.
 fn visit(
     rule: Rule,
     spins: &[i8],
@@ -69,6 +72,7 @@ fn visit(
     cuts: &[f32],
     members: &mut [u8],
     list: &mut [u32],
+    cols: &mut [u8],
     start: usize,
     i: usize,
 ) -> usize
@@ -76,47 +80,54 @@ fn visit(
     requires { ⌜ Growing
         (graphFor (rule .task) (now fwd)) (ruled rule (now fwd) (now spins) (now couplings) (now cuts)) (rule .task .seed) (now members) (now list) start ⌝ }
     requires { ⌜ getD (now members) i 0 ≡ 1 ⌝ }
-    ensures { λ r. ⌜ Visiting
+    requires { ⌜ Kept (rule .task) (now spins) (now members) (now cols) ⌝ }
+    ensures { λ r. ⌜ Keeping (Visiting
         (graphFor (rule .task) (now (fwd .entry)))
         (ruled rule (now (fwd .entry)) (now (spins .entry)) (now (couplings .entry)) (now (cuts .entry)))
-        (rule .task .seed) i (now (members .entry)) (now (list .entry)) start (rule .task .d) (now (members .exit)) (now (list .exit)) r ⌝ }
+        (rule .task .seed) i (now (members .entry)) (now (list .entry)) start (rule .task .d) (now (members .exit)) (now (list .exit)) r)
+        (rule .task) (now (spins .entry)) (now (members .exit)) (now (cols .exit)) ⌝ }
 {
     let t = rule.task;
-    let group = t.group;
-    let own = columns::column_at(spins, t.n, group, i);
+    let own = cols[i];
     let d = t.d;
     let base = i * d;
     let mut len = start;
     let mut e = 0;
     while e < d {
         let to = wide(fwd[base + e]);
-        let ahead = Bond(i, e);
-        len = meet(
-            rule,
-            spins,
-            couplings,
-            cuts,
-            members,
-            list,
-            len,
-            own,
-            to,
-            ahead,
-        );
+        if members[to] != 1 {
+            let ahead = Bond(i, e);
+            len = meet(
+                rule,
+                spins,
+                members,
+                list,
+                cols,
+                len,
+                own,
+                to,
+                ahead,
+                couplings,
+                cuts,
+            );
+        }
         let from = wide(bwd[base + e]);
-        let back = Bond(from, e);
-        len = meet(
-            rule,
-            spins,
-            couplings,
-            cuts,
-            members,
-            list,
-            len,
-            own,
-            from,
-            back,
-        );
+        if members[from] != 1 {
+            let back = Bond(from, e);
+            len = meet(
+                rule,
+                spins,
+                members,
+                list,
+                cols,
+                len,
+                own,
+                from,
+                back,
+                couplings,
+                cuts,
+            );
+        }
         e += 1;
     }
     len
@@ -147,15 +158,18 @@ fn spread(
     cuts: &[f32],
     members: &mut [u8],
     list: &mut [u32],
+    cols: &mut [u8],
     start: usize,
 ) -> usize
     requires { ⌜ Grounds rule (now fwd) (now bwd) (now spins) (now couplings) (now cuts) ⌝ }
     requires { ⌜ Growing
         (graphFor (rule .task) (now fwd)) (ruled rule (now fwd) (now spins) (now couplings) (now cuts)) (rule .task .seed) (now members) (now list) start ⌝ }
-    ensures { λ r. ⌜ Spreads
+    requires { ⌜ Kept (rule .task) (now spins) (now members) (now cols) ⌝ }
+    ensures { λ r. ⌜ Keeping (Spreads
         (graphFor (rule .task) (now (fwd .entry)))
         (ruled rule (now (fwd .entry)) (now (spins .entry)) (now (couplings .entry)) (now (cuts .entry)))
-        (rule .task .seed) start (now (list .entry)) (now (members .exit)) (now (list .exit)) r ⌝ }
+        (rule .task .seed) start (now (list .entry)) (now (members .exit)) (now (list .exit)) r)
+        (rule .task) (now (spins .entry)) (now (members .exit)) (now (cols .exit)) ⌝ }
 {
     let mut len = start;
     let mut head = 0;
@@ -170,6 +184,7 @@ fn spread(
             cuts,
             members,
             list,
+            cols,
             len,
             i,
         );
@@ -194,22 +209,48 @@ fn grow_cluster(
     cuts: &[f32],
     members: &mut [u8],
     list: &mut [u32],
+    cols: &mut [u8],
 ) -> Grown
-    requires { ⌜ Seedable t (now fwd) (now bwd) (now spins) (now couplings) (now cuts) (length (now members)) (length (now list)) ⌝ }
-    ensures { λ r. ⌜ Grew
+    requires { ⌜ Seedable t (now fwd) (now bwd) (now spins) (now couplings) (now cuts) (length (now members)) (length (now list)) (length (now cols)) ⌝ }
+    ensures { λ r. ⌜ Keeping (Grew
         (callOf t (now (fwd .entry)) (now (bwd .entry)) (now (couplings .entry)) (now (cuts .entry))) (now (spins .entry))
-        (now (members .exit)) (now (list .exit)) (r .blue) (r .len) ⌝ }
+        (now (members .exit)) (now (list .exit)) (r .blue) (r .len))
+        t (now (spins .entry)) (now (members .exit)) (now (cols .exit)) ⌝ }
 {
     let seed = t.seed;
     lemmas::bytes::clear(members);
     members[seed] = 1;
     list[0] = seed as u32;
+    let group = t.group;
+    cols[seed] = columns::column_at(spins, t.n, group, seed);
     let rule = prepare(t, false, spins);
-    let blue = spread(rule, spins, fwd, bwd, couplings, cuts, members, list, 1);
+    let blue = spread(
+        rule,
+        spins,
+        fwd,
+        bwd,
+        couplings,
+        cuts,
+        members,
+        list,
+        cols,
+        1,
+    );
     let mode = t.mode;
     if mode.is_cmr() {
         let both = prepare(t, true, spins);
-        let len = spread(both, spins, fwd, bwd, couplings, cuts, members, list, blue);
+        let len = spread(
+            both,
+            spins,
+            fwd,
+            bwd,
+            couplings,
+            cuts,
+            members,
+            list,
+            cols,
+            blue,
+        );
         return Grown {
             blue: blue,
             len: len,
@@ -250,7 +291,27 @@ pub fn run_grow(
         return Answer::Idle;
     }
     let mut list = [0u32; 4096];
-    let grown = grow_cluster(t, spins, fwd, bwd, couplings, cuts, members, &mut list);
-    turn::turn(t, spins, choices, greys, &list, grown.blue, grown.len);
+    let mut cols = [0u8; 4096];
+    let grown = grow_cluster(
+        t,
+        spins,
+        fwd,
+        bwd,
+        couplings,
+        cuts,
+        members,
+        &mut list,
+        &mut cols,
+    );
+    turn::turn(
+        t,
+        spins,
+        choices,
+        greys,
+        &list,
+        &cols,
+        grown.blue,
+        grown.len,
+    );
     Answer::Moved
 }

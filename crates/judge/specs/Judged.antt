@@ -1,7 +1,7 @@
 -- One bond, judged from the spins at its two ends: what is asked and what is answered. No table of neighbours is read.
 use Prim.Native.Nat.{ℕ, _+_, _*_, _≤_, _<_}
 use mathlib.Core.Path.{_≡_}
-use mathlib.Core.Bool.{Bool, cond, _&&_}
+use mathlib.Core.Bool.{Bool, true, false, cond, _&&_}
 use mathlib.Core.List.{List}
 use lib.ListN.{getD}
 use lib.IntN.{ℤ, pos}
@@ -66,6 +66,10 @@ endsAct t xs i j = actsAt (t .mode) (t .n) (t .group) (t .reference) xs i && act
 -- does a site with the column x act, seen through the rule's gauge?
 abbrev pub columnActs : Rule → ℕ → Bool
 columnActs r x = testBy (r .task .mode) (r .task .group .len) (shown (bitXor x (r .gauge)))
+
+-- in a mode that does not draw its bonds it does
+abbrev pub KnownToAct : Rule → ℕ → Type 0
+KnownToAct r x = isDrawn (r .task .mode) ≡ false → columnActs r x ≡ true
 
 abbrev pub couplingOf : Task → List ℤ → ℕ → ℕ → ℤ
 couplingOf t js i e = getD js (i * t .d + e) (pos 0)

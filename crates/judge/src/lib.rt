@@ -4,13 +4,12 @@ use paper::Mode;
 use paper::Sampler;
 use paper::Task;
 ghost use mathlib.Core.Path.{_≡_};
-ghost use mathlib.Core.Bool.{_&&_};
 ghost use Prim.Native.Nat.{_≤_};
 ghost use lib.IntN.{natAbs};
 ghost use Rattle.paper.specs.Panel.Takes.{isCmr};
 ghost use Rattle.columns.specs.Column.{shown};
 ghost use Rattle.columns.specs.Rows.{Signable};
-ghost use Rattle.judge.specs.Judged.{Prepared, Judgeable, BondOf, columnActs};
+ghost use Rattle.judge.specs.Judged.{Prepared, Judgeable, BondOf, columnActs, KnownToAct};
 ghost use Rattle.judge.specs.Drawn.{drawnBy, judgedOn};
 
 // What all bonds of one growth share. In CMR it asks for the blue bonds, and with `grey` for the blue and the red ones.
@@ -38,17 +37,16 @@ pub fn prepare(t: Task, grey: bool, spins: &[i8]) -> Rule
     }
 }
 
-// Whether the columns of a bond's two ends both act.
-fn ends_act(rule: Rule, a: u8, b: u8) -> bool
+// Whether a site with this column acts.
+fn acts(rule: Rule, column: u8) -> bool
     requires { ⌜ rule .task .group .len ≤ 8 ⌝ }
-    ensures { λ r. ⌜ r ≡ (columnActs rule a && columnActs rule b) ⌝ }
+    ensures { λ r. ⌜ r ≡ columnActs rule column ⌝ }
 {
     let t = rule.task;
     let mode = t.mode;
     let group = t.group;
     let gauge = rule.gauge;
-    column_rules::acts_column(mode, group, a ^ gauge)
-        & column_rules::acts_column(mode, group, b ^ gauge)
+    column_rules::acts_column(mode, group, column ^ gauge)
 }
 
 // Whether a bond is drawn, in the two modes that draw. A bond that Jörg draws has two ends that act.
@@ -71,7 +69,8 @@ fn is_drawn(rule: Rule, coupling: i32, cut: f32, a: u8, b: u8) -> bool
     bonds::jorg_holds(coupling, group.len, a, b, sampler, cut)
 }
 
-// Whether the bond (from, e) holds whose ends have the columns a and b. Which of them is the first does not matter.
+// Whether the bond (from, e) holds whose ends have the columns a and b. Which of them is the first does not matter, but in a mode that does not draw
+// its bonds the end with the column a is known to act, and is not looked at.
 pub fn judge(
     rule: Rule,
     couplings: &[i32],
@@ -83,6 +82,7 @@ pub fn judge(
 ) -> bool
     requires { ⌜ Judgeable (rule .task) (now couplings) (now cuts) ⌝ }
     requires { ⌜ BondOf (rule .task) from e ⌝ }
+    requires { ⌜ KnownToAct rule a ⌝ }
     ensures { λ r. ⌜ r ≡ judgedOn rule (now (couplings .entry)) (now (cuts .entry)) from e a b ⌝ }
 {
     let t = rule.task;
@@ -91,5 +91,5 @@ pub fn judge(
         let bond = from * t.d + e;
         return is_drawn(rule, couplings[bond], cuts[bond], a, b);
     }
-    ends_act(rule, a, b)
+    acts(rule, b)
 }

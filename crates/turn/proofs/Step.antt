@@ -10,7 +10,7 @@ use lib.ListN.{getD}
 use lib.IntN.{ℤ}
 use Rattle.paper.specs.declared.Task.{Task}
 use Rattle.paper.specs.Panel.Input.{Pattern, member, patternOf}
-use Rattle.columns.specs.Column.{shown, columnOf, column-ext}
+use Rattle.columns.specs.Column.{shown, columnOf}
 use Rattle.columns.specs.Gauge.{gaugeOf}
 use Rattle.columns.specs.Rows.{SiteWritten}
 use Rattle.columns.specs.Laws.{other-sites, other-systems}
@@ -36,24 +36,21 @@ module _ (t : Task) (choices greys list : List ℕ) (blue : ℕ) (xs : List ℤ)
     empty = λ e. refl;
   }
 
-  module _ {len x : ℕ} {ys : List ℤ} (a : Turnable t xs choices greys list len) (h : x < len) (was : Turned t choices greys list blue x xs ys) where
+  module _ {cols : List ℕ} {len x : ℕ} {ys : List ℤ} (a : Turnable t xs choices greys list cols len) (h : x < len)
+      (was : Turned t choices greys list blue x xs ys) where
     -- the sites before it on the list are others
     before : (y : ℕ) → y < x → site x ≢ site y
     before y l e = absurd (omega (arith, a .apart x y h (omega arith) e))
 
-    -- so the member is as it was
-    pub as-was : columnOf m (at ys (site x)) ≡ columnOf m (at xs (site x))
-    as-was = column-ext m _ _ (λ k l. was .others (site x) (member (t .group) k) (a .sites x h) before)
-
-    -- and is turned
+    -- the member is turned
     module _
         {gauge new : ℕ} {zs : List ℤ} (seen : gauge ≡ gaugeOf (t .mode) m (columnOf m (at xs (t .reference))))
-        (e : new ≡ turnedColumn t gauge choices greys (ltb x blue) (columnOf m (at ys (site x)))) (w : SiteWritten (t .n) m (t .group) (site x) new ys zs)
+        (e : new ≡ turnedColumn t gauge choices greys (ltb x blue) (columnOf m (at xs (site x)))) (w : SiteWritten (t .n) m (t .group) (site x) new ys zs)
       where
         here : (k : ℕ) → k < m → at zs (site x) k ≡ turnedTo t choices greys (at xs (t .reference)) (ltb x blue) (at xs (site x)) k
         here k l =
             w .group k l
-            ∙ (ap (λ (z : ℕ). shown z k) (e ∙ (λ i. turnedColumn t (seen i) choices greys (ltb x blue) (as-was i)))
+            ∙ (ap (λ (z : ℕ). shown z k) (e ∙ (λ i. turnedColumn t (seen i) choices greys (ltb x blue) (columnOf m (at xs (site x)))))
             ∙ turned-shown t choices greys (a .chooses) (a .two) (at xs (t .reference)) (at xs (site x))
             (λ q j g. a .panel .spins (t .reference) j (a .panel .reference q) g) (λ j g. a .panel .spins (site x) j (a .sites x h) g) (ltb x blue) k l)
 

@@ -14,6 +14,7 @@ use Rattle.paper.specs.Panel.Made.{callOf, choicesOf}
 use Rattle.paper.specs.Panel.Takes.{isPerm, isCmr, entry}
 use Rattle.paper.specs.Move.Moving.{flipBy, flipSome, actBy, greyAt, greyBit}
 use Rattle.paper.specs.Refusal.Rules.{When, Distinct, Permutes}
+use Rattle.columns.specs.Column.{columnOf}
 use Rattle.column_rules.specs.Acted.{choiceColumn}
 use Rattle.column_rules.specs.Sight.{Sighted}
 use Rattle.choose.specs.Chosen.{greyed}
@@ -64,8 +65,8 @@ pub record Turns (t : Task) (choices greys : List ℕ) (column : ℕ) : Type 0 w
   pub small : When (isCmr (t .mode)) (getD greys 0 0 ≤ 3)
   pub narrow : column < 2 ^ t .group .len
 
--- the group's spins, and a list of different sites
-pub record Turnable (t : Task) (xs : List ℤ) (choices greys list : List ℕ) (len : ℕ) : Type 0 where
+-- the group's spins, and a list of different sites, with the column of each
+pub record Turnable (t : Task) (xs : List ℤ) (choices greys list cols : List ℕ) (len : ℕ) : Type 0 where
   pub panel : Sighted (t .mode) (t .n) (t .group) (t .reference) xs
   pub distinct : Distinct (t .group .len) (member (t .group))
   pub chooses : Chooses t choices
@@ -75,6 +76,8 @@ pub record Turnable (t : Task) (xs : List ℤ) (choices greys list : List ℕ) (
   pub long : len ≤ length list
   pub sites : (x : ℕ) → x < len → getD list x 0 < t .n
   pub apart : Distinct len (λ x. getD list x 0)
+  pub room : t .n ≤ length cols
+  pub kept : (x : ℕ) → x < len → getD cols (getD list x 0) 0 ≡ columnOf (t .group .len) (patternOf (t .n) (t .group) xs (getD list x 0))
 
 -- ---- what is promised: ys is xs with the group turned at the first `len` sites of the list, of which the first `blue` act
 pub record Turned (t : Task) (choices greys list : List ℕ) (blue len : ℕ) (xs ys : List ℤ) : Type 0 where

@@ -37,30 +37,32 @@ fn turned_column(t: Task, gauge: u8, choices: &[u8], greys: &[u8], acts: bool, c
     out
 }
 
-// The group's spins at the first `len` sites of the list become those after the move. The first `blue` of them take the cluster's choice; in
-// CMR all take the grey flips. gperm's gauge is read before any spin is written.
+// The group's spins at the first `len` sites of the list become those after the move, from their columns before it, which are kept by site. The first
+// `blue` sites take the cluster's choice; in CMR all take the grey flips. gperm's gauge is read before any spin is written.
 pub fn turn(
     t: Task,
     spins: &mut [i8],
     choices: &[u8],
     greys: &[u8],
     list: &[u32],
+    cols: &[u8],
     blue: usize,
     len: usize,
 )
-    requires { ⌜ Turnable t (now spins) (now choices) (now greys) (now list) len ⌝ }
+    requires { ⌜ Turnable t (now spins) (now choices) (now greys) (now list) (now cols) len ⌝ }
     ensures { λ _. ⌜ Turned t (now (choices .entry)) (now (greys .entry)) (now (list .entry)) blue len (now (spins .entry)) (now (spins .exit)) ⌝ }
 {
     let mode = t.mode;
     let group = t.group;
     let n = t.n;
     let gauge = columns::gauge_at(mode, spins, n, group, t.reference);
+    let size = group.len;
+    let systems = group.systems;
     let mut x: usize = 0;
     while x < len {
         let i = wide(list[x]);
-        let column = columns::column_at(spins, n, group, i);
-        let new = turned_column(t, gauge, choices, greys, x < blue, column);
-        columns::write_site(spins, n, group, i, new);
+        let new = turned_column(t, gauge, choices, greys, x < blue, cols[i]);
+        columns::write_site(spins, n, size, &systems, i, new);
         x += 1;
     }
 }

@@ -2,37 +2,43 @@
 use Prim.Native.Nat.{_-_, _<_}
 use native.Mathlib.Omega.{arith}
 use borrow.Author.Needs.{needs}
+use Rattle.grow.specs.Kept.{Keeping}
 use Rattle.grow.specs.Contract.{graphFor, ruled}
 use Rattle.grow.specs.Spread.{Spreading, spread-start, spread-high, spread-room, next-spreading, next-at, next-marked, spread-more, spread-end}
 use Rattle.grow.proofs.spread.Statement.{statement}
 use Rattle.grow.proofs.spread.Tie as tie
 
 abbrev Inv-loop : tie.InvT-loop
-Inv-loop rule spins fwd bwd couplings cuts members₀ list₀ start len₀ head₀ members list len head =
-    Spreading (graphFor (rule .task) fwd) (ruled rule fwd spins couplings cuts) (rule .task .seed) start list₀ head members list len
+Inv-loop rule spins fwd bwd couplings cuts members₀ list₀ cols₀ start len₀ head₀ members list cols len head =
+    Keeping
+    (Spreading (graphFor (rule .task) fwd) (ruled rule fwd spins couplings cuts) (rule .task .seed) start list₀ head members list len)
+    (rule .task) spins members cols
 
 abbrev μ-loop : tie.MeasureT-loop
-μ-loop rule spins fwd bwd couplings cuts members₀ list₀ start len₀ head₀ members list len head = rule .task .n - head
+μ-loop rule spins fwd bwd couplings cuts members₀ list₀ cols₀ start len₀ head₀ members list cols len head = rule .task .n - head
 
--- where the function starts; the turn in which the next site is told, and behind it the call that visits it
+-- where the function starts, before the loop and in it; the turn in which the next site is told, and behind it the call that visits it
+abbrev B : tie.After-slice-known3 Inv-loop μ-loop → tie.Start Inv-loop μ-loop
+B c = c .before .before .before .before .before .before
+
 abbrev S : tie.In-loop Inv-loop μ-loop → tie.Start Inv-loop μ-loop
-S c = c .before .before .before .before .before .before .before
+S c = B (c .before .before)
 
 abbrev T : tie.After-next Inv-loop μ-loop → tie.In-loop Inv-loop μ-loop
 T c = c .before .before
 
-abbrev X : tie.After-visit-arg2 Inv-loop μ-loop → tie.After-next Inv-loop μ-loop
-X c = c .before .before .before .before
+abbrev X : tie.After-visit-arg3 Inv-loop μ-loop → tie.After-next Inv-loop μ-loop
+X c = c .before .before .before .before .before
 
-abbrev U : tie.After-slice-known5 Inv-loop μ-loop → tie.After-visit Inv-loop μ-loop
-U c = c .before .before .before .before
+abbrev U : tie.After-slice-known7 Inv-loop μ-loop → tie.After-visit Inv-loop μ-loop
+U c = c .before .before .before .before .before .before
 
 -- the site waits at a place below n
 waits : (c : tie.In-loop Inv-loop μ-loop) → c .before .loop .head < S c .args .rule .task .n
-waits c = omega (arith, c .loop-test .taken, spread-high (c .before .loop .inv))
+waits c = omega (arith, c .loop-test .taken, spread-high (c .before .loop .inv .grown))
 
 loop-holds : tie.Need-loop-holds Inv-loop μ-loop
-loop-holds c = spread-start (c .before .before .before .before .before .pre .1)
+loop-holds c = let s = B c in record { grown = spread-start (s .pre .1 .0); kept = s .pre .1 .1 }
 
 sub-next : tie.Need-sub-next Inv-loop μ-loop
 sub-next c = search needs
@@ -40,7 +46,7 @@ sub-next c = search needs
 next-requires : tie.Need-next-requires Inv-loop μ-loop
 next-requires c κs =
     let t = c .before in
-    let room = spread-room (t .before .loop .inv) in
+    let room = spread-room (t .before .loop .inv .grown) in
     record { head-lt = omega (arith, t .loop-test .taken, room); last-lt = omega (arith, t .loop-test .taken, room) }
 
 visit-requires : tie.Need-visit-requires Inv-loop μ-loop
@@ -50,8 +56,8 @@ visit-requires c κs =
     let inv = t .before .loop .inv in
     let hl = t .loop-test .taken in
     let last = t .before .loop .len - 1 in
-    let after = next-spreading inv hl last (omega arith) (x .next .ensures) in
-    (S t .pre .0, (after .growing, next-marked after hl (next-at inv hl last (omega arith) (x .next .ensures))))
+    let after = next-spreading (inv .grown) hl last (omega arith) (x .next .ensures) in
+    (S t .pre .0, (after .growing, (next-marked after hl (next-at (inv .grown) hl last (omega arith) (x .next .ensures)), inv .kept)))
 
 add-head : tie.Need-add-head Inv-loop μ-loop
 add-head c = let t = T (X (U c .before)) in omega (arith, waits t, S t .pre .0 .ready .growable .panel .n-high)
@@ -64,19 +70,26 @@ loop-again c =
     let v = U c in
     let x = X (v .before) in
     let t = T x in
-    let inv = t .before .loop .inv in
+    let was = t .before .loop .inv .grown in
     let hl = t .loop-test .taken in
     let last = t .before .loop .len - 1 in
-    spread-more (next-spreading inv hl last (omega arith) (x .next .ensures)) hl (next-at inv hl last (omega arith) (x .next .ensures)) (v .visit .ensures)
+    let next = next-spreading was hl last (omega arith) (x .next .ensures) in
+    record {
+      grown = spread-more next hl (next-at was hl last (omega arith) (x .next .ensures)) (v .visit .ensures .grown);
+      kept = v .visit .ensures .kept;
+    }
 
 same-length : tie.Need-same-length Inv-loop μ-loop
-same-length c = search needs
+same-length c = omega (arith, c .before .loop .inv .grown .growing .long, B (c .before .before) .pre .1 .0 .long)
 
 same-length-2 : tie.Need-same-length-2 Inv-loop μ-loop
-same-length-2 c = c .before .loop .inv .long
+same-length-2 c = c .before .loop .inv .grown .long
+
+same-length-3 : tie.Need-same-length-3 Inv-loop μ-loop
+same-length-3 c = omega (arith, c .before .loop .inv .kept .long, B (c .before .before) .pre .1 .1 .long)
 
 returns : tie.Need-returns Inv-loop μ-loop
-returns c = spread-end (c .before .loop .inv) (c .loop-test .left)
+returns c = let inv = c .before .loop .inv in record { grown = spread-end (inv .grown) (c .loop-test .left); kept = inv .kept }
 
 pub spread-spec : {M : Type 1} → statement M
 spread-spec =
@@ -93,4 +106,5 @@ spread-spec =
     loop-again
     same-length
     same-length-2
+    same-length-3
     returns)

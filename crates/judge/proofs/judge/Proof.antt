@@ -28,7 +28,7 @@ plain m = sym (m .before .is-drawn .ensures) ∙ m .if1 .left
 
 -- the bond's number is one of at most 16,384
 place : (m : tie.Then1) → let a = S (m .before) .args in a .from * a .rule .task .d + a .e < a .rule .task .n * a .rule .task .d
-place m = let s = S (m .before) in let p = s .pre .1 in bond-lt _ _ (s .args .from) (s .args .e) (p .from) (p .direction)
+place m = let s = S (m .before) in let p = s .pre .1 .0 in bond-lt _ _ (s .args .from) (s .args .e) (p .from) (p .direction)
 
 few : (m : tie.Then1) → let t = S (m .before) .args .rule .task in t .n * t .d ≤ 16384
 few m = let g = S (m .before) .pre .0 in bonds-few _ _ (g .sites) (g .directions)
@@ -78,11 +78,11 @@ returns c =
     ∙ ap (λ (z : ℤ). drawnBy (isCmr (r .task .mode)) (r .grey) (r .task) (r .sampler) (shown (a .a)) (shown (a .b)) z
     (cutOf (r .task) (now (a .cuts)) (a .from) (a .e))) (whole (c .before)))
 
-ends-act-requires : tie.Need-ends-act-requires
-ends-act-requires c κs = search needs
+acts-requires : tie.Need-acts-requires
+acts-requires c κs = search needs
 
 returns-2 : tie.Need-returns-2
-returns-2 c = rw (plain (c .before)) (c .ends-act .ensures)
+returns-2 c = let m = c .before in rw (plain m, S (m .before) .pre .1 .1 (plain m)) (c .acts .ensures)
 
 pub judge-spec : {M : Type 1} → statement M
 judge-spec =
@@ -97,5 +97,5 @@ judge-spec =
     shared-slice-read-is-drawn
     is-drawn-requires-2
     returns
-    ends-act-requires
+    acts-requires
     returns-2)

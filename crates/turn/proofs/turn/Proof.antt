@@ -1,10 +1,11 @@
 -- `turn` meets its contract. The invariant: the first x members are turned.
 use borrow.Author.Needs.{needs}
 use Prim.Native.Nat.{ℕ, _-_, _≤_}
-use mathlib.Core.Path.{_≡_, _∙_, ap, subst}
+use mathlib.Core.Path.{_≡_, sym, _∙_, ap, subst}
 use native.Mathlib.Omega.{arith}
 use denote.Ref.{now}
 use lib.Dec.{ltb}
+use lib.ListN.{length, getD}
 use Rattle.paper.specs.Panel.Input.{patternOf}
 use Rattle.columns.specs.Column.{columnOf, column-lt}
 use Rattle.columns.specs.Rows.{SiteIn, SiteWritten}
@@ -14,13 +15,17 @@ use Rattle.turn.proofs.turn.Statement.{statement}
 use Rattle.turn.proofs.turn.Tie as tie
 
 abbrev Inv-loop : tie.InvT-loop
-Inv-loop t spins₀ choices greys list blue len group n gauge x₀ spins x = (x ≤ len) × Turned t choices greys list blue x spins₀ spins
+Inv-loop t spins₀ choices greys list cols blue len n gauge size systems x₀ spins x = (x ≤ len) × Turned t choices greys list blue x spins₀ spins
 
 abbrev μ-loop : tie.MeasureT-loop
-μ-loop t spins₀ choices greys list blue len group n gauge x₀ spins x = len - x
+μ-loop t spins₀ choices greys list cols blue len n gauge size systems x₀ spins x = len - x
 
 abbrev S : tie.In-loop Inv-loop μ-loop → tie.Start Inv-loop μ-loop
-S l = l .before .before .before .before .before .before .before .before
+S l = l .before .before .before .before .before .before .before .before .before .before
+
+-- a group has room for eight systems
+eight : (s : tie.Start Inv-loop μ-loop) → length (s .args .t .group .systems) ≡ 8
+eight s = search needs
 
 abbrev L : tie.After-wide Inv-loop μ-loop → tie.In-loop Inv-loop μ-loop
 L w = w .before .before
@@ -51,27 +56,37 @@ shared-slice-read-wide c = search needs
 wide-requires : tie.Need-wide-requires Inv-loop μ-loop
 wide-requires c κs = search needs
 
-column-at-requires : tie.Need-column-at-requires Inv-loop μ-loop
-column-at-requires c κs = site (c .before)
+shared-slice-read-turned-column : tie.Need-shared-slice-read-turned-column Inv-loop μ-loop
+shared-slice-read-turned-column c = let w = c .before in omega (arith, site w .below, S (L w) .pre .room)
+
+-- the column that is kept for it is that of its spins before the move
+column : (w : tie.After-wide Inv-loop μ-loop) → let a = S (L w) .args in
+    getD (now (a .cols)) (w .wide .result) 0
+    ≡ columnOf (a .t .group .len) (patternOf (a .t .n) (a .t .group) (now (a .spins)) (getD (now (a .list)) (L w .before .loop .x) 0))
+column w =
+    ap (λ (i : ℕ). getD (now (S (L w) .args .cols)) i 0) (w .wide .ensures) ∙ S (L w) .pre .kept (L w .before .loop .x) (L w .loop-test .taken)
 
 turned-column-requires : tie.Need-turned-column-requires Inv-loop μ-loop
 turned-column-requires c κs =
-    let w = c .before .before in
-    let l = L w in
-    let t = S l .args .t in
-    let p = S l .pre in
+    let w = c .before in
+    let a = S (L w) .args in
+    let p = S (L w) .pre in
+    let site = getD (now (a .list)) (L w .before .loop .x) 0 in
     record {
       chooses = p .chooses;
       two = p .two;
       lent = p .lent;
       small = p .small;
-      narrow = rw (c .column-at .ensures) (column-lt (t .group .len) (patternOf (t .n) (t .group) (l .before .loop .spins) (w .wide .result)));
+      narrow = rw (column w) (column-lt (a .t .group .len) (patternOf (a .t .n) (a .t .group) (now (a .spins)) site));
     }
+
+slice-aggregate-write-site : tie.Need-slice-aggregate-write-site Inv-loop μ-loop
+slice-aggregate-write-site c = sym (eight (S (L (c .before .before .before .before))))
 
 write-site-requires : tie.Need-write-site-requires Inv-loop μ-loop
 write-site-requires c κs =
     let w = c .before .before .before .before in
-    record { site = site w; distinct = S (L w) .pre .distinct }
+    record { site = site w; listed = omega (arith, S (L w) .pre .panel .size-high, eight (S (L w))); distinct = S (L w) .pre .distinct }
 
 add-x : tie.Need-add-x Inv-loop μ-loop
 add-x c = search needs
@@ -81,17 +96,16 @@ loop-less c = search needs
 
 loop-again : tie.Need-loop-again Inv-loop μ-loop
 loop-again c =
-    let d = c .before .before .before in
-    let w = d .before .before .before in
+    let d = c .before .before .before .before in
+    let w = d .before .before in
     let l = L w in
     let s = S l in
     let a = s .args in
     let t = a .t in
     let i = l .before .loop in
-    let gauge = l .before .before .gauge-at in
+    let gauge = l .before .before .before .gauge-at in
     let e = w .wide .ensures in
-    let column = d .before .column-at .ensures ∙ ap (λ (j : ℕ). columnOf (t .group .len) (patternOf (t .n) (t .group) (i .spins) j)) e in
-    let new = ap (λ (x : ℕ). turnedColumn t (gauge .result) (now (a .choices)) (now (a .greys)) (ltb (i .x) (a .blue)) x) column in
+    let new = ap (λ (x : ℕ). turnedColumn t (gauge .result) (now (a .choices)) (now (a .greys)) (ltb (i .x) (a .blue)) x) (column w) in
     let there : ℕ → Type 0 =
     λ j. SiteWritten (t .n) (t .group .len) (t .group) j (d .turned-column .result) (i .spins) (c .before .write-site .last .0)
     in (
@@ -105,7 +119,7 @@ same-length c = omega (arith, c .before .loop .inv .1 .long)
 
 returns : tie.Need-returns Inv-loop μ-loop
 returns c =
-    let e : c .before .loop .x ≡ c .before .before .before .before .before .before .before .before .args .len = omega arith in
+    let e : c .before .loop .x ≡ c .before .before .before .before .before .before .before .before .before .before .args .len = omega arith in
     rw e at (c .before .loop .inv .1)
 
 pub turn-spec : {M : Type 1} → statement M
@@ -119,8 +133,9 @@ turn-spec =
     mul-wide
     shared-slice-read-wide
     wide-requires
-    column-at-requires
+    shared-slice-read-turned-column
     turned-column-requires
+    slice-aggregate-write-site
     write-site-requires
     add-x
     loop-less
