@@ -1,7 +1,8 @@
 /* A small panel through the C interface: a torus of 4 by 4 sites, four systems at two temperatures, one sweep of each
- * mode in the all-clusters form, a sweep that is refused, and one that grows a cluster in each task. Its couplings come
- * from an edge list, in the file that is named behind the program, or else in examples/panel.edges; every choice is drawn
- * from one seed, so that each run is the same. panel.rs is the same program in Rust; both print panel.out. */
+ * mode in the all-clusters form, a sweep that is refused, and one that grows a cluster in each task. The sweeps keep each
+ * system's energy as a total, which is metered before them, handed over, and held to the meter after each. The couplings
+ * come from an edge list, in the file that is named behind the program, or else in examples/panel.edges; every choice is
+ * drawn from one seed, so that each run is the same. panel.rs is the same program in Rust; both print panel.out. */
 #include "tsorvenk.h"
 #include <stdio.h>
 #include <stdlib.h>
@@ -17,6 +18,7 @@ static const float CUTS[8] = {2.7726f, 1.6740f, 1.1632f, 0.8267f, 0.5754f, 0.374
 
 /* what a sweep writes */
 struct outputs {
+    int64_t totals[S];
     int8_t spins[S * N];
     uint32_t labels[TASKS * N], grey_labels[TASKS * N], counts[TASKS * (N + 1)], sizes[TASKS * 4], outcomes[2];
 };
@@ -92,11 +94,13 @@ static void make_choices(struct choices *c) {
     drawn(tsorvenk_fill_bytes_below(4, source, 4, c->greys, TASKS * N));
 }
 
-/* what only some modes take may be lent in all, and the seeds, for the one-cluster form, are left out */
-static uint8_t sweep(uint8_t mode, const struct choices *c, struct outputs *o) {
+/* what every sweep here takes; what is not named is left out */
+static struct tsorvenk_sweep_args lent(uint8_t mode, uint8_t form, const struct choices *c, struct outputs *o) {
     struct tsorvenk_sweep_args args = {
-        .mode = mode, .form = TSORVENK_SW, .n = N, .d = D, .s = S, .t = T, .r = R, .members = MEMBERS,
+        .mode = mode, .form = form, .keeps = TSORVENK_KEEPS_TOTALS,
+        .n = N, .d = D, .s = S, .t = T, .r = R, .members = MEMBERS,
         .spins = o->spins, .spins_len = S * N,
+        .totals = o->totals, .totals_len = S,
         .fwd = fwd, .fwd_len = N * D,
         .bwd = bwd, .bwd_len = N * D,
         .couplings = couplings, .couplings_len = N * D,
@@ -104,43 +108,61 @@ static uint8_t sweep(uint8_t mode, const struct choices *c, struct outputs *o) {
         .masks = masks, .masks_len = T,
         .temperatures = TEMPERATURES, .temperatures_len = T,
         .cuts = c->cuts, .cuts_len = TASKS * N * D,
-        .references = c->references, .references_len = TASKS,
-        .flips = c->flips, .flips_len = TASKS * N,
-        .perms = c->perms, .perms_len = TASKS * N * MEMBERS,
-        .greys = c->greys, .greys_len = TASKS * N,
-        .labels = o->labels, .labels_len = TASKS * N,
-        .grey_labels = o->grey_labels, .grey_labels_len = TASKS * N,
-        .counts = o->counts, .counts_len = TASKS * (N + 1),
-        .sizes = o->sizes, .sizes_len = TASKS * 4,
         .outcomes = o->outcomes, .outcomes_len = 2,
     };
+    return args;
+}
+
+/* what only some modes take may be lent in all */
+static uint8_t sweep(uint8_t mode, const struct choices *c, struct outputs *o) {
+    struct tsorvenk_sweep_args args = lent(mode, TSORVENK_SW, c, o);
+    args.references = c->references, args.references_len = TASKS;
+    args.flips = c->flips, args.flips_len = TASKS * N;
+    args.perms = c->perms, args.perms_len = TASKS * N * MEMBERS;
+    args.greys = c->greys, args.greys_len = TASKS * N;
+    args.labels = o->labels, args.labels_len = TASKS * N;
+    args.grey_labels = o->grey_labels, args.grey_labels_len = TASKS * N;
+    args.counts = o->counts, args.counts_len = TASKS * (N + 1);
+    args.sizes = o->sizes, args.sizes_len = TASKS * 4;
     return tsorvenk_sweep_with(&args);
 }
 
 /* one cluster in each task, from the first site at which its two systems differ: there they act. No labels, counts and sizes
- * are taken, and what is not named is left out */
+ * are taken */
 static uint8_t grow(const struct choices *c, uint8_t *member_sites, struct outputs *o) {
+    struct tsorvenk_sweep_args args = lent(TSORVENK_JORG, TSORVENK_GROW, c, o);
     uint32_t seeds[TASKS];
     for (int k = 0; k < TASKS; k++) {
         const int8_t *a = o->spins + k * MEMBERS * N, *b = a + N;
         for (seeds[k] = 0; seeds[k] < N - 1 && a[seeds[k]] == b[seeds[k]];)
             seeds[k]++;
     }
-    struct tsorvenk_sweep_args args = {
-        .mode = TSORVENK_JORG, .form = TSORVENK_GROW, .n = N, .d = D, .s = S, .t = T, .r = R, .members = MEMBERS,
-        .spins = o->spins, .spins_len = S * N,
-        .fwd = fwd, .fwd_len = N * D,
-        .bwd = bwd, .bwd_len = N * D,
-        .couplings = couplings, .couplings_len = N * D,
-        .order = order, .order_len = S,
-        .masks = masks, .masks_len = T,
-        .temperatures = TEMPERATURES, .temperatures_len = T,
-        .cuts = c->cuts, .cuts_len = TASKS * N * D,
-        .seeds = seeds, .seeds_len = TASKS,
-        .member_sites = member_sites, .member_sites_len = TASKS * N,
-        .outcomes = o->outcomes, .outcomes_len = 2,
-    };
+    args.seeds = seeds, args.seeds_len = TASKS;
+    args.member_sites = member_sites, args.member_sites_len = TASKS * N;
     return tsorvenk_sweep_with(&args);
+}
+
+static int64_t meter(const struct outputs *o, size_t system) {
+    int64_t energy = 0;
+    struct tsorvenk_energy_args args = {
+        .n = N, .d = D, .s = S, .spins = o->spins, .spins_len = S * N,
+        .fwd = fwd, .fwd_len = N * D, .bwd = bwd, .bwd_len = N * D, .couplings = couplings, .couplings_len = N * D,
+        .system = system, .energy = &energy, .energy_len = 1,
+    };
+    uint8_t code = tsorvenk_energy_with(&args);
+    if (code) {
+        fprintf(stderr, "the meter is refused with %d: %s\n", code, tsorvenk_refusal_words(code));
+        exit(1);
+    }
+    return energy;
+}
+
+static uint8_t hand_over(const struct outputs *o) {
+    struct tsorvenk_hand_over_args args = {
+        .n = N, .d = D, .s = S, .spins = o->spins, .spins_len = S * N, .totals = o->totals, .totals_len = S,
+        .fwd = fwd, .fwd_len = N * D, .bwd = bwd, .bwd_len = N * D, .couplings = couplings, .couplings_len = N * D,
+    };
+    return tsorvenk_hand_over_with(&args);
 }
 
 static void print_grown(uint8_t code, const uint8_t *member_sites, const struct outputs *o) {
@@ -158,22 +180,25 @@ static void print_grown(uint8_t code, const uint8_t *member_sites, const struct 
     printf("\n");
 }
 
-static void print_energies(const struct outputs *o) {
-    printf("  energies");
+static void print_totals(const struct outputs *o) {
+    int metered = 1;
+    printf("  totals");
     for (size_t k = 0; k < S; k++) {
-        int64_t energy = 0;
-        struct tsorvenk_energy_args args = {
-            .n = N, .d = D, .s = S, .spins = o->spins, .spins_len = S * N,
-            .fwd = fwd, .fwd_len = N * D, .bwd = bwd, .bwd_len = N * D, .couplings = couplings, .couplings_len = N * D,
-            .system = k, .energy = &energy, .energy_len = 1,
-        };
-        uint8_t code = tsorvenk_energy_with(&args);
-        if (code)
-            printf(" refused with %d", code);
-        else
-            printf(" %4lld", (long long)energy);
+        metered = metered && o->totals[k] == meter(o, k);
+        printf(" %4lld", (long long)o->totals[k]);
     }
-    printf("\n");
+    printf(", %s\n", metered ? "as metered" : "metered otherwise");
+}
+
+/* the totals are metered once, and handed over; so is one that is wrong */
+static void start_totals(struct outputs *o) {
+    for (size_t k = 0; k < S; k++)
+        o->totals[k] = meter(o, k);
+    print_totals(o);
+    printf("  handed over: %s\n", tsorvenk_refusal_words(hand_over(o)));
+    o->totals[0]++;
+    printf("  handed over with one too large: refused with %d\n", hand_over(o));
+    o->totals[0]--;
 }
 
 static void print_sweep(uint8_t mode, uint8_t code, const struct outputs *o) {
@@ -194,11 +219,11 @@ int main(int argc, char **argv) {
     uint8_t member_sites[TASKS * N];
     make_panel(argc > 1 ? argv[1] : "examples/panel.edges", &o);
     printf("start\n");
-    print_energies(&o);
+    start_totals(&o);
     for (uint8_t mode = TSORVENK_HOUD; mode <= TSORVENK_CMR; mode++) {
         make_choices(&c);
         print_sweep(mode, sweep(mode, &c, &o), &o);
-        print_energies(&o);
+        print_totals(&o);
     }
     /* a fault in the last task: the first task does not move either */
     make_choices(&c);
@@ -206,9 +231,9 @@ int main(int argc, char **argv) {
     before = o;
     print_sweep(TSORVENK_PAIR, sweep(TSORVENK_PAIR, &c, &o), &o);
     printf("  %s\n", memcmp(&before, &o, sizeof o) ? "buffers were written" : "every buffer is as it was");
-    print_energies(&o);
+    print_totals(&o);
     make_choices(&c);
     print_grown(grow(&c, member_sites, &o), member_sites, &o);
-    print_energies(&o);
+    print_totals(&o);
     return 0;
 }

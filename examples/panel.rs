@@ -1,10 +1,12 @@
 //! A small panel through the safe crate: a torus of 4 by 4 sites, four systems at two temperatures, one sweep of each mode
-//! in the all-clusters form, a sweep that is refused, and one that grows a cluster in each task. Its couplings come from an
-//! edge list, in the file that is named behind the program, or else in examples/panel.edges; every choice is drawn from one
-//! seed, so that each run is the same. panel.c is the same program in C; both print panel.out.
+//! in the all-clusters form, a sweep that is refused, and one that grows a cluster in each task. The sweeps keep each
+//! system's energy as a total, which is metered before them, handed over, and held to the meter after each. The couplings
+//! come from an edge list, in the file that is named behind the program, or else in examples/panel.edges; every choice is
+//! drawn from one seed, so that each run is the same. panel.c is the same program in C; both print panel.out.
 use std::error::Error;
 use tsorvenk::{
-    Energy, Form, Mode, ReadEdges, Refusal, Source, Sweep, Swept, WriteEdges, EDGES_ROOM,
+    refusal_words, Form, HandOver, Keeps, MeterAll, Mode, ReadEdges, Refusal, Source, Sweep, Swept,
+    WriteEdges, EDGES_ROOM,
 };
 
 const SIDE: usize = 4;
@@ -34,6 +36,7 @@ const CUTS: [f32; 8] = [
 /// What a sweep writes.
 #[derive(Clone, PartialEq)]
 struct Outputs {
+    totals: [i64; S],
     spins: [i8; S * N],
     labels: [u32; TASKS * N],
     grey_labels: [u32; TASKS * N],
@@ -104,6 +107,7 @@ fn make_panel(path: &str, source: &mut Source) -> Result<(Panel, Outputs), Box<d
     }
     read_couplings(path, &mut panel)?;
     let mut outputs = Outputs {
+        totals: [0; S],
         spins: [0; S * N],
         labels: [0; TASKS * N],
         grey_labels: [0; TASKS * N],
@@ -135,18 +139,23 @@ fn make_choices(source: &mut Source) -> Result<Choices, Refusal> {
     Ok(c)
 }
 
-/// What only some modes take may be lent in all, and the seeds, for the one-cluster form, are left out.
-fn sweep(mode: Mode, panel: &Panel, c: &Choices, o: &mut Outputs) -> Result<Swept, Refusal> {
-    tsorvenk::sweep(Sweep {
-        mode,
-        form: Form::Sw,
+/// What every sweep here takes; what is not named is left out.
+fn lent<'a>(
+    panel: &'a Panel,
+    c: &'a Choices,
+    spins: &'a mut [i8],
+    totals: &'a mut [i64],
+) -> Sweep<'a> {
+    Sweep {
+        keeps: Keeps::Totals,
         n: N,
         d: D,
         s: S,
         t: T,
         r: R,
         members: MEMBERS,
-        spins: &mut o.spins,
+        spins,
+        totals,
         fwd: &panel.fwd,
         bwd: &panel.bwd,
         couplings: &panel.couplings,
@@ -154,6 +163,15 @@ fn sweep(mode: Mode, panel: &Panel, c: &Choices, o: &mut Outputs) -> Result<Swep
         masks: &[0; T],
         temperatures: &TEMPERATURES,
         cuts: &c.cuts,
+        ..Default::default()
+    }
+}
+
+/// What only some modes take may be lent in all.
+fn sweep(mode: Mode, panel: &Panel, c: &Choices, o: &mut Outputs) -> Result<Swept, Refusal> {
+    tsorvenk::sweep(Sweep {
+        mode,
+        form: Form::Sw,
         references: &c.references,
         flips: &c.flips,
         perms: &c.perms,
@@ -162,12 +180,12 @@ fn sweep(mode: Mode, panel: &Panel, c: &Choices, o: &mut Outputs) -> Result<Swep
         grey_labels: &mut o.grey_labels,
         counts: &mut o.counts,
         sizes: &mut o.sizes,
-        ..Default::default()
+        ..lent(panel, c, &mut o.spins, &mut o.totals)
     })
 }
 
 /// One cluster in each task, from the first site at which its two systems differ: there they act. No labels, counts and
-/// sizes are taken, and what is not named is left out.
+/// sizes are taken.
 fn grow(
     panel: &Panel,
     c: &Choices,
@@ -181,24 +199,40 @@ fn grow(
     tsorvenk::sweep(Sweep {
         mode: Mode::Jorg,
         form: Form::Grow,
+        seeds: &seeds,
+        member_sites,
+        ..lent(panel, c, &mut o.spins, &mut o.totals)
+    })
+}
+
+/// The energies of all systems.
+fn meter(panel: &Panel, spins: &[i8]) -> Result<[i64; S], Refusal> {
+    let mut totals = [0; S];
+    tsorvenk::meter_all(MeterAll {
         n: N,
         d: D,
         s: S,
-        t: T,
-        r: R,
-        members: MEMBERS,
-        spins: &mut o.spins,
+        spins,
+        totals: &mut totals,
         fwd: &panel.fwd,
         bwd: &panel.bwd,
         couplings: &panel.couplings,
-        order: &[0, 1, 2, 3],
-        masks: &[0; T],
-        temperatures: &TEMPERATURES,
-        cuts: &c.cuts,
-        seeds: &seeds,
-        member_sites,
-        ..Default::default()
-    })
+    })?;
+    Ok(totals)
+}
+
+fn hand_over(panel: &Panel, o: &Outputs) -> u8 {
+    let answer = tsorvenk::hand_over(HandOver {
+        n: N,
+        d: D,
+        s: S,
+        spins: &o.spins,
+        totals: &o.totals,
+        fwd: &panel.fwd,
+        bwd: &panel.bwd,
+        couplings: &panel.couplings,
+    });
+    answer.map_or_else(|refusal| refusal.number, |()| 0)
 }
 
 fn print_grown(answer: Result<Swept, Refusal>, member_sites: &[u8]) {
@@ -217,24 +251,26 @@ fn print_grown(answer: Result<Swept, Refusal>, member_sites: &[u8]) {
     }
 }
 
-fn print_energies(panel: &Panel, spins: &[i8]) {
-    print!("  energies");
-    for system in 0..S {
-        match tsorvenk::energy(Energy {
-            n: N,
-            d: D,
-            s: S,
-            spins,
-            fwd: &panel.fwd,
-            bwd: &panel.bwd,
-            couplings: &panel.couplings,
-            system,
-        }) {
-            Ok(energy) => print!(" {energy:4}"),
-            Err(refusal) => print!(" refused with {}", refusal.number),
-        }
-    }
-    println!();
+fn print_totals(panel: &Panel, o: &Outputs) -> Result<(), Refusal> {
+    let how = match meter(panel, &o.spins)? == o.totals {
+        true => "as metered",
+        false => "metered otherwise",
+    };
+    let totals: Vec<String> = o.totals.iter().map(|total| format!(" {total:4}")).collect();
+    println!("  totals{}, {how}", totals.concat());
+    Ok(())
+}
+
+/// The totals are metered once, and handed over; so is one that is wrong.
+fn start_totals(panel: &Panel, o: &mut Outputs) -> Result<(), Refusal> {
+    o.totals = meter(panel, &o.spins)?;
+    print_totals(panel, o)?;
+    println!("  handed over: {}", refusal_words(hand_over(panel, o)));
+    o.totals[0] += 1;
+    let number = hand_over(panel, o);
+    println!("  handed over with one too large: refused with {number}");
+    o.totals[0] -= 1;
+    Ok(())
 }
 
 fn print_sweep(mode: Mode, answer: Result<Swept, Refusal>, sizes: &[u32]) {
@@ -260,12 +296,12 @@ fn main() -> Result<(), Box<dyn Error>> {
     let mut source = Source::new(SEED)?;
     let (panel, mut o) = make_panel(&path, &mut source)?;
     println!("start");
-    print_energies(&panel, &o.spins);
+    start_totals(&panel, &mut o)?;
     for mode in Mode::ALL {
         let c = make_choices(&mut source)?;
         let answer = sweep(mode, &panel, &c, &mut o);
         print_sweep(mode, answer, &o.sizes);
-        print_energies(&panel, &o.spins);
+        print_totals(&panel, &o)?;
     }
     // A fault in the last task: the first task does not move either.
     let mut c = make_choices(&mut source)?;
@@ -281,11 +317,11 @@ fn main() -> Result<(), Box<dyn Error>> {
             "buffers were written"
         }
     );
-    print_energies(&panel, &o.spins);
+    print_totals(&panel, &o)?;
     let c = make_choices(&mut source)?;
     let mut member_sites = [0; TASKS * N];
     let answer = grow(&panel, &c, &mut member_sites, &mut o);
     print_grown(answer, &member_sites);
-    print_energies(&panel, &o.spins);
+    print_totals(&panel, &o)?;
     Ok(())
 }

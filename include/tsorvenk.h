@@ -16,7 +16,7 @@
  * Refusals, tested in this order. A refusal returns its number, and every buffer keeps its bytes:
  *
  *   1  n not 1 to 4096, d not 1 to 4, s not 1 to 64, group size not 2 to 8, or not 2 in CMR; a mode above 5, a form
- *      above 3; in a sweep t * r not s, or members above r
+ *      above 3, keeps above 1; in a sweep t * r not s, or members above r
  *   2  a buffer's length is not the exact one
  *   3  a spin of any system is not +1 or -1
  *   4  a neighbour is n or more, or fwd and bwd are not inverse
@@ -30,6 +30,8 @@
  *      are not 2 to 8, or 64 words in a row are taken again
  *  13  of the edge list alone, between 4 and 6: a text that is none, another n or m, a site outside 1 to n, or a line for
  *      which no bond is left
+ *  14  last of all: at the hand-over a total is not its system's energy; in a call that keeps totals one of them, of any
+ *      system, is above 16,384,000,000 in size, which no energy reaches
  *
  * The draws and the edge list say their order themselves, further down.
  *
@@ -40,6 +42,12 @@
  *
  * Grow moves what Wolff moves, given the same seed, cuts and choices, and answers and refuses alike. It looks only at what the
  * seed's component reaches, and writes the sites of that component in place of labels, counts and sizes.
+ *
+ * Keeps: 0 nothing, 1 totals. A call that keeps totals is lent each system's energy beside the spins and brings these totals
+ * current. It takes couplings in every mode. It does not meter: a total changes by what the move changed, so that totals
+ * which equal the energies still do, and one that was wrong stays wrong by as much. tsorvenk_hand_over says once whether
+ * they are right; tsorvenk_energy, system by system, makes them. To observe moves nothing and keeps nothing, whatever keeps
+ * says; it is 0 or 1 there too.
  */
 #ifndef TSORVENK_H
 #define TSORVENK_H
@@ -53,6 +61,7 @@ extern "C" {
 
 enum { TSORVENK_HOUD, TSORVENK_PAIR, TSORVENK_PERM, TSORVENK_GPERM, TSORVENK_JORG, TSORVENK_CMR };
 enum { TSORVENK_SW, TSORVENK_WOLFF, TSORVENK_OBSERVE, TSORVENK_GROW };
+enum { TSORVENK_KEEPS_NOTHING, TSORVENK_KEEPS_TOTALS };
 
 /* Numbers that are no refusals: of a step with no acting site, and of frames for whose answer there is no room. */
 enum { TSORVENK_IDLE = 64, TSORVENK_NO_ROOM = 65 };
@@ -62,7 +71,7 @@ enum { TSORVENK_IDLE = 64, TSORVENK_NO_ROOM = 65 };
  *   n, d, s      sites, directions, systems
  *   spins        s * n, system by system: the spin of site i in system k is at k * n + i, +1 or -1
  *   fwd, bwd     n * d: entry i * d + e is the neighbour of site i in direction e, forward and backward
- *   couplings    n * d, at the bond's entry                        Joerg, CMR, in every form
+ *   couplings    n * d, at the bond's entry                        Joerg, CMR, in every form; totals kept, in every mode
  *   group        N systems, 2 to 8 (CMR: 2); they differ, and their order matters
  *   temperature                                                    Joerg, CMR, in every form
  *   cuts         n * d, at the bond's entry; a bond is drawn where scale * strength is above its cut
@@ -90,10 +99,13 @@ enum { TSORVENK_IDLE = 64, TSORVENK_NO_ROOM = 65 };
  *   member_sites n: 1 at the sites of the seed's component (CMR: of its grey one), else 0; idle: all 0
  *                                                                  grow
  *   spins        the group's rows after the move; idle and observe leave them as they are
+ *   totals       s, one for each system: that of a system of the group changes by its energy after the move less its
+ *                energy before; those of others stay                SW, Wolff, grow where keeps is 1
  *
- * Returns 0 if some site acts (CMR: always), TSORVENK_IDLE if none does, else the refusal 1 to 10. */
-uint8_t tsorvenk_step(uint8_t mode, uint8_t form, size_t n, size_t d, size_t s,
-    int8_t *spins, size_t spins_len, const uint32_t *fwd, size_t fwd_len, const uint32_t *bwd, size_t bwd_len,
+ * Returns 0 if some site acts (CMR: always), TSORVENK_IDLE if none does, else the refusal 1 to 10 or 14. */
+uint8_t tsorvenk_step(uint8_t mode, uint8_t form, uint8_t keeps, size_t n, size_t d, size_t s,
+    int8_t *spins, size_t spins_len, int64_t *totals, size_t totals_len,
+    const uint32_t *fwd, size_t fwd_len, const uint32_t *bwd, size_t bwd_len,
     const int32_t *couplings, size_t couplings_len, const uint32_t *group, size_t group_len,
     float temperature, const float *cuts, size_t cuts_len, size_t reference, size_t seed,
     const uint8_t *flips, size_t flips_len, const uint8_t *perms, size_t perms_len, const uint8_t *greys, size_t greys_len,
@@ -127,13 +139,15 @@ uint8_t tsorvenk_step(uint8_t mode, uint8_t form, size_t n, size_t d, size_t s,
  *   member_sites  K * n                                            grow
  *   outcomes      2: how many unmasked tasks were idle, and how many were not, even if every choice was 0
  *   spins         the rows of the groups of unmasked tasks
+ *   totals        s, as in a step                                  SW, Wolff, grow where keeps is 1
  *
  * Tests 1 to 7 and the mask bytes (9) are made over the whole sweep, masked temperatures too, then 8, 9 and 10 of each
- * unmasked task in ascending order; all before anything is written.
+ * unmasked task in ascending order, and 14 after all of these; all before anything is written.
  *
- * Returns 0 if swept, else the refusal 1 to 10. */
-uint8_t tsorvenk_sweep(uint8_t mode, uint8_t form, size_t n, size_t d, size_t s, size_t t, size_t r, size_t members,
-    int8_t *spins, size_t spins_len, const uint32_t *fwd, size_t fwd_len, const uint32_t *bwd, size_t bwd_len,
+ * Returns 0 if swept, else the refusal 1 to 10 or 14. */
+uint8_t tsorvenk_sweep(uint8_t mode, uint8_t form, uint8_t keeps, size_t n, size_t d, size_t s,
+    size_t t, size_t r, size_t members, int8_t *spins, size_t spins_len, int64_t *totals, size_t totals_len,
+    const uint32_t *fwd, size_t fwd_len, const uint32_t *bwd, size_t bwd_len,
     const int32_t *couplings, size_t couplings_len, const uint32_t *order, size_t order_len,
     const uint8_t *masks, size_t masks_len, const float *temperatures, size_t temperatures_len,
     const float *cuts, size_t cuts_len, const uint32_t *references, size_t references_len,
@@ -153,6 +167,17 @@ uint8_t tsorvenk_sweep(uint8_t mode, uint8_t form, size_t n, size_t d, size_t s,
 uint8_t tsorvenk_energy(size_t n, size_t d, size_t s,
     const int8_t *spins, size_t spins_len, const uint32_t *fwd, size_t fwd_len, const uint32_t *bwd, size_t bwd_len,
     const int32_t *couplings, size_t couplings_len, size_t system, int64_t *energy, size_t energy_len);
+
+/* Whether each total is its system's energy: asked once, before the first call that keeps them.
+ *
+ *   spins s * n, fwd and bwd n * d, couplings n * d                as in a step, all of them taken
+ *   totals       s, one for each system
+ *
+ * Nothing is written. Returns 0, or the refusal 1, 2, 3, 4, 6 or 14. */
+uint8_t tsorvenk_hand_over(size_t n, size_t d, size_t s,
+    const int8_t *spins, size_t spins_len, const int64_t *totals, size_t totals_len,
+    const uint32_t *fwd, size_t fwd_len, const uint32_t *bwd, size_t bwd_len,
+    const int32_t *couplings, size_t couplings_len);
 
 /* The components of the bonds whose byte in holds is 1.
  *
@@ -275,10 +300,12 @@ enum { TSORVENK_EDGES_ROOM = 302451 };
  * initialised by name, or to 0 and then field by field, needs no change where a field is added. The functions are inline:
  * the struct is no part of what is linked. */
 struct tsorvenk_step_args {
-    uint8_t mode, form;
+    uint8_t mode, form, keeps;
     size_t n, d, s;
     int8_t *spins;
     size_t spins_len;
+    int64_t *totals;
+    size_t totals_len;
     const uint32_t *fwd;
     size_t fwd_len;
     const uint32_t *bwd;
@@ -310,10 +337,12 @@ struct tsorvenk_step_args {
 };
 
 struct tsorvenk_sweep_args {
-    uint8_t mode, form;
+    uint8_t mode, form, keeps;
     size_t n, d, s, t, r, members;
     int8_t *spins;
     size_t spins_len;
+    int64_t *totals;
+    size_t totals_len;
     const uint32_t *fwd;
     size_t fwd_len;
     const uint32_t *bwd;
@@ -365,6 +394,20 @@ struct tsorvenk_energy_args {
     size_t system;
     int64_t *energy;
     size_t energy_len;
+};
+
+struct tsorvenk_hand_over_args {
+    size_t n, d, s;
+    const int8_t *spins;
+    size_t spins_len;
+    const int64_t *totals;
+    size_t totals_len;
+    const uint32_t *fwd;
+    size_t fwd_len;
+    const uint32_t *bwd;
+    size_t bwd_len;
+    const int32_t *couplings;
+    size_t couplings_len;
 };
 
 struct tsorvenk_label_args {
@@ -443,11 +486,12 @@ static inline uint8_t tsorvenk_step_with(const struct tsorvenk_step_args *args) 
     uint8_t no_u8 = 0;
     int32_t no_i32 = 0;
     uint32_t no_u32 = 0;
+    int64_t no_i64 = 0;
     float no_f32 = 0;
-    return tsorvenk_step(args->mode, args->form, args->n, args->d, args->s, TSORVENK_LENT(spins, no_i8),
-        TSORVENK_LENT(fwd, no_u32), TSORVENK_LENT(bwd, no_u32), TSORVENK_LENT(couplings, no_i32),
-        TSORVENK_LENT(group, no_u32), args->temperature, TSORVENK_LENT(cuts, no_f32), args->reference, args->seed,
-        TSORVENK_LENT(flips, no_u8), TSORVENK_LENT(perms, no_u8), TSORVENK_LENT(greys, no_u8),
+    return tsorvenk_step(args->mode, args->form, args->keeps, args->n, args->d, args->s, TSORVENK_LENT(spins, no_i8),
+        TSORVENK_LENT(totals, no_i64), TSORVENK_LENT(fwd, no_u32), TSORVENK_LENT(bwd, no_u32),
+        TSORVENK_LENT(couplings, no_i32), TSORVENK_LENT(group, no_u32), args->temperature, TSORVENK_LENT(cuts, no_f32),
+        args->reference, args->seed, TSORVENK_LENT(flips, no_u8), TSORVENK_LENT(perms, no_u8), TSORVENK_LENT(greys, no_u8),
         TSORVENK_LENT(labels, no_u32), TSORVENK_LENT(grey_labels, no_u32), TSORVENK_LENT(counts, no_u32),
         TSORVENK_LENT(sizes, no_u32), TSORVENK_LENT(member_sites, no_u8));
 }
@@ -457,9 +501,10 @@ static inline uint8_t tsorvenk_sweep_with(const struct tsorvenk_sweep_args *args
     uint8_t no_u8 = 0;
     int32_t no_i32 = 0;
     uint32_t no_u32 = 0;
+    int64_t no_i64 = 0;
     float no_f32 = 0;
-    return tsorvenk_sweep(args->mode, args->form, args->n, args->d, args->s, args->t, args->r, args->members,
-        TSORVENK_LENT(spins, no_i8), TSORVENK_LENT(fwd, no_u32), TSORVENK_LENT(bwd, no_u32),
+    return tsorvenk_sweep(args->mode, args->form, args->keeps, args->n, args->d, args->s, args->t, args->r, args->members,
+        TSORVENK_LENT(spins, no_i8), TSORVENK_LENT(totals, no_i64), TSORVENK_LENT(fwd, no_u32), TSORVENK_LENT(bwd, no_u32),
         TSORVENK_LENT(couplings, no_i32), TSORVENK_LENT(order, no_u32), TSORVENK_LENT(masks, no_u8),
         TSORVENK_LENT(temperatures, no_f32), TSORVENK_LENT(cuts, no_f32), TSORVENK_LENT(references, no_u32),
         TSORVENK_LENT(seeds, no_u32), TSORVENK_LENT(flips, no_u8), TSORVENK_LENT(perms, no_u8),
@@ -475,6 +520,15 @@ static inline uint8_t tsorvenk_energy_with(const struct tsorvenk_energy_args *ar
     int64_t no_i64 = 0;
     return tsorvenk_energy(args->n, args->d, args->s, TSORVENK_LENT(spins, no_i8), TSORVENK_LENT(fwd, no_u32),
         TSORVENK_LENT(bwd, no_u32), TSORVENK_LENT(couplings, no_i32), args->system, TSORVENK_LENT(energy, no_i64));
+}
+
+static inline uint8_t tsorvenk_hand_over_with(const struct tsorvenk_hand_over_args *args) {
+    int8_t no_i8 = 0;
+    int32_t no_i32 = 0;
+    uint32_t no_u32 = 0;
+    int64_t no_i64 = 0;
+    return tsorvenk_hand_over(args->n, args->d, args->s, TSORVENK_LENT(spins, no_i8), TSORVENK_LENT(totals, no_i64),
+        TSORVENK_LENT(fwd, no_u32), TSORVENK_LENT(bwd, no_u32), TSORVENK_LENT(couplings, no_i32));
 }
 
 static inline uint8_t tsorvenk_label_with(const struct tsorvenk_label_args *args) {
@@ -567,7 +621,7 @@ static inline uint8_t tsorvenk_write_edges_with(const struct tsorvenk_write_edge
 static inline const char *tsorvenk_refusal_words(int number) {
     switch (number) {
     case 0: return "not refused";
-    case 1: return "a size, a group's size, the mode or the form is out of its range";
+    case 1: return "a size, a group's size, the mode, the form or what is kept is out of its range";
     case 2: return "a buffer's length is not the exact one";
     case 3: return "a spin is not +1 or -1";
     case 4: return "a neighbour is n or more, or the forward and backward tables are not inverse";
@@ -580,6 +634,7 @@ static inline const char *tsorvenk_refusal_words(int number) {
     case 11: return "a frame is missing, misplaced, misspelt or of the wrong length, or there is one too many";
     case 12: return "a source of draws is all 0, m or the members are out of range, or 64 words in a row were taken again";
     case 13: return "a text is no edge list of this lattice: its form, n, m, a site, or a line for which no bond is left";
+    case 14: return "a total is not its system's energy at the hand-over, or is above 16,384,000,000 in size";
     case TSORVENK_IDLE: return "not refused: no site acts";
     case TSORVENK_NO_ROOM: return "there is no room for the answer";
     default: return "a number that no call gives";

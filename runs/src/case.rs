@@ -1,10 +1,12 @@
 //! Calls with buffers of their own.
-use calls::{Answer, Form, Label, Meter, Mode, Port, Step, Sweep, SweepAnswer};
+use crate::model::Lengths;
+use calls::{Answer, Form, HandOver, Keeps, Label, Meter, Mode, Port, Step, Sweep, SweepAnswer};
 
 /// The buffers that a call may write.
 #[derive(Clone, Debug, Default, PartialEq, Eq)]
 pub struct Lent {
     pub spins: Vec<i8>,
+    pub totals: Vec<i64>,
     pub labels: Vec<u32>,
     pub grey_labels: Vec<u32>,
     pub counts: Vec<u32>,
@@ -12,17 +14,67 @@ pub struct Lent {
     pub member_sites: Vec<u8>,
 }
 
+impl Lent {
+    /// No totals, and every output that the call takes at its exact length, filled.
+    pub fn filled(exact: Lengths, spins: Vec<i8>, number: u32, byte: u8) -> Lent {
+        let output = |length: Option<usize>| vec![number; length.unwrap_or(0)];
+        Lent {
+            spins,
+            totals: Vec::new(),
+            labels: output(exact.labels),
+            grey_labels: output(exact.grey_labels),
+            counts: output(exact.counts),
+            sizes: output(exact.sizes),
+            member_sites: vec![byte; exact.member_sites.unwrap_or(0)],
+        }
+    }
+}
+
 /// What single moves and sweeps share.
 #[derive(Clone, Debug)]
 pub struct Panel {
     pub mode: Mode,
     pub form: Form,
+    pub keeps: Keeps,
     pub n: usize,
     pub d: usize,
     pub s: usize,
     pub fwd: Vec<u32>,
     pub bwd: Vec<u32>,
     pub couplings: Vec<i32>,
+}
+
+impl Panel {
+    /// Whether a call on it takes totals.
+    pub fn keeping(&self) -> bool {
+        self.keeps.totals(self.form)
+    }
+
+    pub fn meter<'a>(&'a self, spins: &'a [i8], system: usize) -> Meter<'a> {
+        Meter {
+            n: self.n,
+            d: self.d,
+            s: self.s,
+            spins,
+            fwd: &self.fwd,
+            bwd: &self.bwd,
+            couplings: &self.couplings,
+            system,
+        }
+    }
+
+    pub fn hand_over<'a>(&'a self, lent: &'a Lent) -> HandOver<'a> {
+        HandOver {
+            n: self.n,
+            d: self.d,
+            s: self.s,
+            spins: &lent.spins,
+            totals: &lent.totals,
+            fwd: &self.fwd,
+            bwd: &self.bwd,
+            couplings: &self.couplings,
+        }
+    }
 }
 
 #[derive(Clone, Debug, Default)]
@@ -87,33 +139,43 @@ impl Bonds {
     }
 }
 
+/// A call of a case with buffers lent to it: what a move and a sweep share, and the fields of its own.
+macro_rules! call_of {
+    ($call:ident, $case:expr, $lent:expr, { $($field:ident: $value:expr,)* }) => {
+        $call {
+            mode: $case.panel.mode,
+            form: $case.panel.form,
+            keeps: $case.panel.keeps,
+            n: $case.panel.n,
+            d: $case.panel.d,
+            s: $case.panel.s,
+            spins: &mut $lent.spins,
+            totals: &mut $lent.totals,
+            fwd: &$case.panel.fwd,
+            bwd: &$case.panel.bwd,
+            couplings: &$case.panel.couplings,
+            cuts: &$case.choices.cuts,
+            flips: &$case.choices.flips,
+            perms: &$case.choices.perms,
+            greys: &$case.choices.greys,
+            labels: &mut $lent.labels,
+            grey_labels: &mut $lent.grey_labels,
+            counts: &mut $lent.counts,
+            sizes: &mut $lent.sizes,
+            member_sites: &mut $lent.member_sites,
+            $($field: $value,)*
+        }
+    };
+}
+
 impl Single {
     pub fn step<'a>(&'a self, lent: &'a mut Lent) -> Step<'a> {
-        let (panel, choices) = (&self.panel, &self.choices);
-        Step {
-            mode: panel.mode,
-            form: panel.form,
-            n: panel.n,
-            d: panel.d,
-            s: panel.s,
-            spins: &mut lent.spins,
-            fwd: &panel.fwd,
-            bwd: &panel.bwd,
-            couplings: &panel.couplings,
+        call_of!(Step, self, lent, {
             group: &self.group,
             temperature: self.temperature,
-            cuts: &choices.cuts,
             reference: self.reference,
             seed: self.seed,
-            flips: &choices.flips,
-            perms: &choices.perms,
-            greys: &choices.greys,
-            labels: &mut lent.labels,
-            grey_labels: &mut lent.grey_labels,
-            counts: &mut lent.counts,
-            sizes: &mut lent.sizes,
-            member_sites: &mut lent.member_sites,
-        }
+        })
     }
 
     pub fn run(&self, side: &mut dyn Port) -> (Answer, Lent) {
@@ -122,50 +184,22 @@ impl Single {
     }
 
     pub fn meter(&self, system: usize) -> Meter<'_> {
-        Meter {
-            n: self.panel.n,
-            d: self.panel.d,
-            s: self.panel.s,
-            spins: &self.lent.spins,
-            fwd: &self.panel.fwd,
-            bwd: &self.panel.bwd,
-            couplings: &self.panel.couplings,
-            system,
-        }
+        self.panel.meter(&self.lent.spins, system)
     }
 }
 
 impl Swept {
     pub fn sweep<'a>(&'a self, lent: &'a mut Lent) -> Sweep<'a> {
-        let (panel, choices) = (&self.panel, &self.choices);
-        Sweep {
-            mode: panel.mode,
-            form: panel.form,
-            n: panel.n,
-            d: panel.d,
-            s: panel.s,
+        call_of!(Sweep, self, lent, {
             t: self.t,
             r: self.r,
             members: self.members,
-            spins: &mut lent.spins,
-            fwd: &panel.fwd,
-            bwd: &panel.bwd,
-            couplings: &panel.couplings,
             order: &self.order,
             masks: &self.masks,
             temperatures: &self.temperatures,
-            cuts: &choices.cuts,
             references: &self.references,
             seeds: &self.seeds,
-            flips: &choices.flips,
-            perms: &choices.perms,
-            greys: &choices.greys,
-            labels: &mut lent.labels,
-            grey_labels: &mut lent.grey_labels,
-            counts: &mut lent.counts,
-            sizes: &mut lent.sizes,
-            member_sites: &mut lent.member_sites,
-        }
+        })
     }
 
     pub fn run(&self, side: &mut dyn Port) -> (SweepAnswer, Lent) {

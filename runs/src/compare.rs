@@ -1,5 +1,5 @@
 //! One case, every side: what differs, as text.
-use crate::case::{Bonds, Lent, Single, Swept};
+use crate::case::{Lent, Single, Swept};
 use crate::grown;
 use crate::idle;
 use crate::model::{self, Model};
@@ -7,6 +7,10 @@ use calls::{Answer, Form, Mode, Port, SweepAnswer};
 use published_patched::Branch;
 use std::fmt::{Debug, Write};
 use std::panic::{catch_unwind, AssertUnwindSafe};
+
+mod labelling;
+
+pub use labelling::{damaged_labelling, labelling};
 
 /// How much was compared for one mode and form.
 #[derive(Default)]
@@ -24,7 +28,11 @@ pub struct Line {
     pub port: usize,
     pub damaged: usize,
     /// Damaged calls by the model's refusal number; entry 0 those that are accepted all the same.
-    pub refused: [usize; 11],
+    pub refused: [usize; 15],
+    /// Calls that keep totals.
+    pub kept: usize,
+    /// What the model answers to a hand-over of the panel, good or damaged, by number.
+    pub handed: [usize; 15],
     pub differences: usize,
 }
 
@@ -41,13 +49,19 @@ pub fn keep(smallest: &mut Option<Found>, found: Found) {
     }
 }
 
-fn differ<T: PartialEq + Debug>(text: &mut String, what: &str, one: T, other: T) {
+pub fn differ<T: PartialEq + Debug>(text: &mut String, what: &str, one: T, other: T) {
     if one != other {
         let _ = writeln!(text, "  {what}: {one:?}\n  against {other:?}");
     }
 }
 
-fn differ_lent(text: &mut String, model: &Lent, other: &Lent) {
+pub fn differ_lent(text: &mut String, model: &Lent, other: &Lent) {
+    differ(text, "totals", &model.totals, &other.totals);
+    differ_untotalled(text, model, other);
+}
+
+/// The Rust keeps no totals.
+fn differ_untotalled(text: &mut String, model: &Lent, other: &Lent) {
     differ(text, "spins", &model.spins, &other.spins);
     differ(text, "labels", &model.labels, &other.labels);
     differ(text, "grey", &model.grey_labels, &other.grey_labels);
@@ -65,7 +79,7 @@ fn rust<T>(text: &mut String, run: impl FnOnce() -> T) -> Option<T> {
     answer.ok()
 }
 
-fn report(heading: &str, case: &impl Debug, text: &str) -> String {
+pub fn report(heading: &str, case: &impl Debug, text: &str) -> String {
     format!("{heading}\n{text}  case: {case:?}\n")
 }
 
@@ -90,7 +104,7 @@ fn branches(form: Form) -> &'static [Branch] {
 /// Depth first the Rust leaves the spins alone to compare, and of a call that grows its members.
 fn differ_depth_first(text: &mut String, form: Form, model: &Lent, rust: &Lent) {
     match form {
-        Form::Grow => differ_lent(text, model, rust),
+        Form::Grow => differ_untotalled(text, model, rust),
         _ => differ(text, "depth first", &model.spins, &rust.spins),
     }
 }
@@ -130,7 +144,7 @@ fn single_rust(case: &Single, answer: Answer, lent: &Lent, line: &mut Line) -> S
         match branch {
             Branch::UnionFind => {
                 line.union_find += 1;
-                differ_lent(&mut text, lent, &rust_lent);
+                differ_untotalled(&mut text, lent, &rust_lent);
             }
             Branch::DepthFirst => {
                 line.depth_first += 1;
@@ -171,7 +185,15 @@ fn single_port(case: &Single, answer: Answer, lent: &Lent, port: &mut dyn Port) 
         );
         differ(&mut text, "energy", ours, theirs);
     }
+    let handed = |side: &mut dyn Port| side.hand_over(case.panel.hand_over(&case.lent));
+    differ(&mut text, "hand-over", handed(&mut Model), handed(port));
     text
+}
+
+fn count_kept(case: &Single, line: &mut Line) {
+    line.kept += usize::from(case.panel.keeping());
+    let number = Model.hand_over(case.panel.hand_over(&case.lent));
+    line.handed[usize::from(number)] += 1;
 }
 
 /// A good single move on every side.
@@ -182,6 +204,7 @@ pub fn single(case: &Single, port: Option<&mut Box<dyn Port>>, line: &mut Line) 
         let _ = writeln!(text, "  the model refuses a good call: {number}");
     }
     line.singles += 1;
+    count_kept(case, line);
     line.odd += usize::from(odd(case.panel.mode, case.group.len()));
     line.idle += usize::from(answer == Answer::Idle);
     if published_patched::PRESENT {
@@ -243,7 +266,7 @@ fn sweep_rust(case: &Swept, answer: SweepAnswer, lent: &Lent, line: &mut Line) -
         match branch {
             Branch::UnionFind => {
                 line.union_find += 1;
-                differ_lent(&mut text, lent, &rust_lent);
+                differ_untotalled(&mut text, lent, &rust_lent);
             }
             Branch::DepthFirst => {
                 line.depth_first += 1;
@@ -263,6 +286,7 @@ pub fn swept(case: &Swept, port: Option<&mut Box<dyn Port>>, line: &mut Line) ->
     let (answer, lent) = case.run(&mut Model);
     let mut text = String::new();
     line.sweeps += 1;
+    line.kept += usize::from(case.panel.keeping());
     line.odd += usize::from(odd(case.panel.mode, case.members));
     match answer {
         SweepAnswer::Refused(number) => {
@@ -305,6 +329,7 @@ pub fn damaged_single(
     let (answer, lent) = case.run(&mut Model);
     let mut text = String::new();
     line.damaged += 1;
+    count_kept(case, line);
     if let Answer::Refused(number) = answer {
         line.refused[usize::from(number)] += 1;
         differ_lent(&mut text, &case.lent, &lent);
@@ -351,33 +376,4 @@ pub fn damaged_sweep(
         text = report("damaged sweep", case, &text);
     }
     found(text, case.lent.spins.len() + case.panel.fwd.len(), line)
-}
-
-/// The port's labelling of a table of bonds against the model's; a refusal leaves every buffer alone.
-pub fn labelling(case: &Bonds, port: Option<&mut Box<dyn Port>>, line: &mut Line) -> Option<Found> {
-    let (code, lent) = case.run(&mut Model);
-    let mut text = String::new();
-    if code != 0 {
-        differ_lent(&mut text, &case.lent, &lent);
-    }
-    if let Some(port) = port {
-        let (port_code, port_lent) = case.run(port.as_mut());
-        differ(&mut text, "code", code, port_code);
-        differ_lent(&mut text, &lent, &port_lent);
-    }
-    if !text.is_empty() {
-        text = report("labelling", case, &text);
-    }
-    found(text, case.fwd.len(), line)
-}
-
-/// The same of a damaged one.
-pub fn damaged_labelling(
-    case: &Bonds,
-    port: Option<&mut Box<dyn Port>>,
-    line: &mut Line,
-) -> Option<Found> {
-    line.damaged += 1;
-    line.refused[usize::from(case.run(&mut Model).0)] += 1;
-    labelling(case, port, line)
 }

@@ -1,5 +1,6 @@
 //! Damaged copies of good calls: one to three faults each, so that the first number in the table's order must win.
 use crate::case::{Bonds, Choices, Lent, Panel, Single, Swept};
+use crate::model::LARGEST;
 use crate::rand::Rand;
 
 fn longer_or_shorter<T: Copy + Default>(rand: &mut Rand, buffer: &mut Vec<T>) {
@@ -63,8 +64,19 @@ fn panel(rand: &mut Rand, panel: &mut Panel, lent: &mut Lent) {
     }
 }
 
+fn totals(rand: &mut Rand, totals: &mut [i64]) {
+    let most = LARGEST as i64;
+    set(
+        rand,
+        totals,
+        &[most + 1, -most - 1, i64::MIN, i64::MAX, most, -most],
+    );
+}
+
 fn outputs(rand: &mut Rand, lent: &mut Lent) {
-    match rand.range(0, 6) {
+    match rand.range(0, 9) {
+        6 => longer_or_shorter(rand, &mut lent.totals),
+        7..=9 => totals(rand, &mut lent.totals),
         0 => longer_or_shorter(rand, &mut lent.spins),
         1 => longer_or_shorter(rand, &mut lent.labels),
         2 => longer_or_shorter(rand, &mut lent.grey_labels),

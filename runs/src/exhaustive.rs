@@ -3,7 +3,7 @@ use crate::case::{Choices, Lent, Panel, Single};
 use crate::lattices::backward;
 use crate::make::{UNTOUCHED, UNTOUCHED_BYTE};
 use crate::model::lengths;
-use calls::{Form, Mode};
+use calls::{Form, Keeps, Mode};
 
 /// All orders of 0 to len-1.
 fn orders(len: usize) -> Vec<Vec<u8>> {
@@ -40,6 +40,9 @@ impl Digits {
     }
 }
 
+/// Couplings by which every bond is told from the others, where the mode draws none: totals are kept in all these cases.
+const TOLD_APART: [i32; 3] = [1, -2, 4];
+
 /// The case of one number and how many numbers there are. At T = 1 a bond of strength 1 is compared with 4 or 2, so
 /// the cuts are below, between and equal.
 fn case(mode: Mode, form: Form, n: usize, members: usize, number: usize) -> (Single, usize) {
@@ -65,19 +68,16 @@ fn case(mode: Mode, form: Form, n: usize, members: usize, number: usize) -> (Sin
     } else {
         &[0, 1, 2, 3]
     };
-    let output = |length: Option<usize>| vec![UNTOUCHED; length.unwrap_or(0)];
     let several = |count: Option<usize>| 0..count.unwrap_or(0);
+    let spins = (0..members * n).map(|_| digits.pick(&[1, -1])).collect();
     let lent = Lent {
-        spins: (0..members * n).map(|_| digits.pick(&[1, -1])).collect(),
-        labels: output(exact.labels),
-        grey_labels: output(exact.grey_labels),
-        counts: output(exact.counts),
-        sizes: output(exact.sizes),
-        member_sites: vec![UNTOUCHED_BYTE; exact.member_sites.unwrap_or(0)],
+        totals: vec![0; members],
+        ..Lent::filled(exact, spins, UNTOUCHED, UNTOUCHED_BYTE)
     };
-    let couplings = several(exact.couplings)
-        .map(|_| digits.pick(&[1, -1, 0]))
-        .collect();
+    let couplings = match exact.couplings {
+        Some(bonds) => (0..bonds).map(|_| digits.pick(&[1, -1, 0])).collect(),
+        None => TOLD_APART[..n].to_vec(),
+    };
     let choices = Choices {
         cuts: several(exact.cuts)
             .map(|_| digits.pick(&[1.0, 2.0, 4.0]))
@@ -92,6 +92,7 @@ fn case(mode: Mode, form: Form, n: usize, members: usize, number: usize) -> (Sin
         panel: Panel {
             mode,
             form,
+            keeps: Keeps::Totals,
             n,
             d: 1,
             s: members,

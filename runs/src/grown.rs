@@ -1,30 +1,24 @@
 //! A call that grows beside Wolff's call with the same seed, cuts and choices, each with its own outputs at their exact lengths: the answers are the
-//! same, refusals too, and so are the spins; the members are the sites whose label, in CMR the grey label, is the seed's.
+//! same, refusals too, and so are the spins and the totals; the members are the sites whose label, in CMR the grey label, is the seed's.
 use crate::case::{Lent, Single, Swept};
 use crate::make::{UNTOUCHED, UNTOUCHED_BYTE};
 use crate::model::lengths;
 use calls::{Answer, Form, Mode, Port, SweepAnswer};
 
 /// The outputs of a form at their exact lengths, none of those that it does not take. Sizes that are refused anyway have no outputs.
-fn own(form: Form, mode: Mode, sizes: [usize; 4], spins: &[i8]) -> Lent {
-    let spins = spins.to_vec();
+fn own(form: Form, mode: Mode, sizes: [usize; 4], lent: &Lent) -> Lent {
+    let (spins, totals) = (lent.spins.clone(), lent.totals.clone());
     let [n, d, members, tasks] = sizes;
     if n > 4096 || d > 4 || members > 8 || tasks > 64 {
         return Lent {
             spins,
+            totals,
             ..Lent::default()
         };
     }
     let exact = lengths(mode, form, n, d, members, tasks);
-    let output = |length: Option<usize>| vec![UNTOUCHED; length.unwrap_or(0)];
-    Lent {
-        spins,
-        labels: output(exact.labels),
-        grey_labels: output(exact.grey_labels),
-        counts: output(exact.counts),
-        sizes: output(exact.sizes),
-        member_sites: vec![UNTOUCHED_BYTE; exact.member_sites.unwrap_or(0)],
-    }
+    let filled = Lent::filled(exact, spins, UNTOUCHED, UNTOUCHED_BYTE);
+    Lent { totals, ..filled }
 }
 
 /// What the labels that Wolff wrote say of one task: the sites of the seed's component.
@@ -51,7 +45,7 @@ impl Single {
         let panel = &mut case.panel;
         panel.form = form;
         let sizes = [panel.n, panel.d, case.group.len(), 1];
-        case.lent = own(form, panel.mode, sizes, &self.lent.spins);
+        case.lent = own(form, panel.mode, sizes, &self.lent);
         case
     }
 }
@@ -69,6 +63,7 @@ pub fn single(case: &Single, side: &mut dyn Port) -> Option<&'static str> {
     first(&[
         (answer != wolff_answer, "the answer"),
         (lent.spins != wolff.spins, "the spins"),
+        (lent.totals != wolff.totals, "the totals"),
         (lent.member_sites != members, "the members"),
     ])
 }
@@ -83,7 +78,7 @@ impl Swept {
         let mut case = self.clone();
         case.panel.form = form;
         let sizes = [case.panel.n, case.panel.d, case.members, case.tasks()];
-        case.lent = own(form, case.panel.mode, sizes, &self.lent.spins);
+        case.lent = own(form, case.panel.mode, sizes, &self.lent);
         case
     }
 }
@@ -116,6 +111,7 @@ pub fn swept(case: &Swept, side: &mut dyn Port) -> Option<&'static str> {
     first(&[
         (answer != wolff_answer, "the answer"),
         (lent.spins != wolff.spins, "the spins"),
+        (lent.totals != wolff.totals, "the totals"),
         (lent.member_sites != members, "the members"),
     ])
 }

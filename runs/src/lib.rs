@@ -2,6 +2,7 @@
 pub mod case;
 pub mod compare;
 pub mod damage;
+pub mod days;
 pub mod draws;
 pub mod edges;
 pub mod exhaustive;

@@ -4,13 +4,15 @@ pub use crate::lattices::Size;
 use crate::lattices::{self, backward};
 use crate::model::{self, lengths, Lengths};
 use crate::rand::Rand;
-use calls::{Form, Mode};
+use calls::{Form, Keeps, Mode};
+
+mod kept;
 
 /// What an output holds before the call, so that a byte left alone is seen.
 pub const UNTOUCHED: u32 = 0xaaaa_aaaa;
 pub const UNTOUCHED_BYTE: u8 = 0xaa;
 
-fn couplings(rand: &mut Rand, bonds: usize) -> Vec<i32> {
+pub fn couplings(rand: &mut Rand, bonds: usize) -> Vec<i32> {
     let most = rand.pick(&[1, 3, 3, 100, 1_000_000]);
     let (zeros, ends) = (rand.once_in(3), rand.once_in(4));
     let draw = |_| {
@@ -25,7 +27,7 @@ fn couplings(rand: &mut Rand, bonds: usize) -> Vec<i32> {
     (0..bonds).map(draw).collect()
 }
 
-fn spins(rand: &mut Rand, n: usize, s: usize) -> Vec<i8> {
+pub fn spins(rand: &mut Rand, n: usize, s: usize) -> Vec<i8> {
     let sign = |up: bool| if up { 1 } else { -1 };
     let style = rand.range(0, 5);
     let mut spins = vec![0; s * n];
@@ -147,6 +149,7 @@ fn outputs(rand: &mut Rand, exact: Lengths, n: usize, spins: Vec<i8>) -> Lent {
     let rand = &mut rand.aside();
     Lent {
         spins,
+        totals: Vec::new(),
         labels: output(rand, exact.labels, n, UNTOUCHED),
         grey_labels,
         counts: output(rand, exact.counts, n, UNTOUCHED),
@@ -155,7 +158,7 @@ fn outputs(rand: &mut Rand, exact: Lengths, n: usize, spins: Vec<i8>) -> Lent {
     }
 }
 
-fn members(rand: &mut Rand, mode: Mode) -> usize {
+pub fn members(rand: &mut Rand, mode: Mode) -> usize {
     match mode {
         Mode::Cmr => 2,
         Mode::Perm | Mode::Gperm => rand.range(2, 8),
@@ -164,12 +167,13 @@ fn members(rand: &mut Rand, mode: Mode) -> usize {
     }
 }
 
-fn panel(rand: &mut Rand, mode: Mode, form: Form, size: Size, s: usize) -> Panel {
+pub fn panel(rand: &mut Rand, mode: Mode, form: Form, size: Size, s: usize) -> Panel {
     let lattice = lattices::any(rand, size);
     let (n, d) = (lattice.n, lattice.d);
     Panel {
         mode,
         form,
+        keeps: Keeps::Nothing,
         n,
         d,
         s,
@@ -199,8 +203,22 @@ pub fn single(rand: &mut Rand, mode: Mode, form: Form, size: Size) -> Single {
         _ => rand.range(members, members + 3),
     };
     let panel = panel(rand, mode, form, size, s);
+    let n = panel.n;
+    let mut case = single_on(rand, panel, members, |rand| spins(rand, n, s));
+    kept::keep(rand, &mut case.panel, &mut case.lent);
+    case
+}
+
+/// A move of some group of a panel, whose spins are made where they are first needed.
+pub fn single_on(
+    rand: &mut Rand,
+    panel: Panel,
+    members: usize,
+    spins: impl FnOnce(&mut Rand) -> Vec<i8>,
+) -> Single {
+    let (mode, form) = (panel.mode, panel.form);
     let exact = lengths(mode, form, panel.n, panel.d, members, 1);
-    let group = rand.permutation(s)[..members]
+    let group = rand.permutation(panel.s)[..members]
         .iter()
         .map(|&system| system as u32)
         .collect();
@@ -208,7 +226,7 @@ pub fn single(rand: &mut Rand, mode: Mode, form: Form, size: Size) -> Single {
         true => temperature(rand, &panel.couplings),
         false => f32::NAN,
     };
-    let spins = spins(rand, panel.n, s);
+    let spins = spins(rand);
     let mut case = Single {
         group,
         temperature,
@@ -279,8 +297,23 @@ pub fn spoil_masked(case: &mut Swept) {
 pub fn swept(rand: &mut Rand, mode: Mode, form: Form, size: Size) -> Swept {
     let members = members(rand, mode);
     let (t, r, masks) = sweep_shape(rand, members, size);
-    let s = t * r;
-    let panel = panel(rand, mode, form, size, s);
+    let panel = panel(rand, mode, form, size, t * r);
+    let (n, s) = (panel.n, panel.s);
+    let mut case = swept_on(rand, panel, members, masks, |rand| spins(rand, n, s));
+    kept::keep(rand, &mut case.panel, &mut case.lent);
+    case
+}
+
+/// A sweep of a panel over as many temperatures as there are masks.
+pub fn swept_on(
+    rand: &mut Rand,
+    panel: Panel,
+    members: usize,
+    masks: Vec<u8>,
+    spins: impl FnOnce(&mut Rand) -> Vec<i8>,
+) -> Swept {
+    let (mode, form, s) = (panel.mode, panel.form, panel.s);
+    let (t, r) = (masks.len(), s / masks.len());
     let tasks = t * (r / members);
     let exact = lengths(mode, form, panel.n, panel.d, members, tasks);
     let temperatures: Vec<f32> = match mode.draws() {
@@ -289,7 +322,7 @@ pub fn swept(rand: &mut Rand, mode: Mode, form: Form, size: Size) -> Swept {
             .collect(),
         false => untaken(rand, |word| f32::from_bits(word as u32)),
     };
-    let spins = spins(rand, panel.n, s);
+    let spins = spins(rand);
     let site = |rand: &mut Rand| rand.range(0, panel.n - 1) as u32;
     let mut case = Swept {
         t,

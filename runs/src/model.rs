@@ -1,7 +1,23 @@
 //! Document 01 in plain Rust, written from its text and not from overlap.rs: every sentence once, no speed. Counts and sizes are those of
-//! request 4/14, and the form that grows is that of request 5/14.
-use calls::{Answer, Label, Meter, MeterAnswer, Port, Step, Sweep, SweepAnswer};
+//! request 4/14, the form that grows is that of request 5/14, and the totals are those of 6/14.
+use crate::case;
+use calls::{Answer, HandOver, Label, Meter, MeterAnswer, Port, Step, Sweep, SweepAnswer};
 use calls::{Form, Mode};
+
+/// What a call of any kind lends of the panel.
+macro_rules! panel_of {
+    ($call:expr) => {
+        $crate::model::Panel {
+            n: $call.n,
+            d: $call.d,
+            s: $call.s,
+            spins: &*$call.spins,
+            fwd: $call.fwd,
+            bwd: $call.bwd,
+            couplings: $call.couplings,
+        }
+    };
+}
 
 mod bonds;
 mod components;
@@ -9,6 +25,7 @@ mod grow;
 mod moves;
 mod refusals;
 mod sweeps;
+mod totals;
 
 use bonds::acts;
 use components::{counts, four_largest, labels};
@@ -16,9 +33,11 @@ use grow::{grown, Grown};
 use moves::{outcome, Outcome};
 use refusals::*;
 pub use refusals::{lengths, Lengths};
-use sweeps::{sweep_panel, sweep_refusal, sweep_task, unmasked};
+use sweeps::{sweep_refusal, sweep_task, unmasked};
+pub use totals::LARGEST;
+use totals::{bring, handed_over, meter, metered, totals_length_refused, totals_refusal};
 
-/// What every call lends: the lattice and all spins.
+/// What every call lends: the lattice and all spins. Couplings are there where the call takes them.
 #[derive(Clone, Copy)]
 struct Panel<'a> {
     n: usize,
@@ -27,6 +46,7 @@ struct Panel<'a> {
     spins: &'a [i8],
     fwd: &'a [u32],
     bwd: &'a [u32],
+    couplings: &'a [i32],
 }
 
 /// One group's move: the group and the choices lent for it.
@@ -35,7 +55,6 @@ struct Task<'a> {
     mode: Mode,
     form: Form,
     group: Vec<usize>,
-    couplings: &'a [i32],
     temperature: f32,
     cuts: &'a [f32],
     reference: usize,
@@ -45,10 +64,14 @@ struct Task<'a> {
     greys: &'a [u8],
 }
 
+/// The energy of every system of a panel that is not refused.
+pub fn energies(panel: &case::Panel, spins: &[i8]) -> Vec<i64> {
+    metered(true, panel_of!(panel.meter(spins, 0)))
+}
+
 /// The acting sites of one move that is not refused.
 pub fn active(call: &Step) -> Vec<bool> {
-    let task = single_task(call);
-    let panel = single_panel(call);
+    let (panel, task) = (panel_of!(call), single_task(call));
     (0..call.n).map(|i| acts(panel, &task, i)).collect()
 }
 
@@ -57,6 +80,7 @@ pub fn active_in_task(call: &Sweep, number: usize) -> Vec<bool> {
     let unseeded = Sweep {
         form: Form::Observe,
         spins: &mut call.spins.to_vec(),
+        totals: &mut [],
         labels: &mut [],
         grey_labels: &mut [],
         counts: &mut [],
@@ -64,30 +88,21 @@ pub fn active_in_task(call: &Sweep, number: usize) -> Vec<bool> {
         member_sites: &mut [],
         ..*call
     };
-    let task = sweep_task(&unseeded, number);
-    let panel = sweep_panel(&unseeded);
+    let (panel, task) = (panel_of!(unseeded), sweep_task(&unseeded, number));
     (0..call.n).map(|i| acts(panel, &task, i)).collect()
 }
 
 // --- One move ---
 
-fn single_panel<'a>(call: &'a Step) -> Panel<'a> {
-    Panel {
-        n: call.n,
-        d: call.d,
-        s: call.s,
-        spins: call.spins,
-        fwd: call.fwd,
-        bwd: call.bwd,
-    }
+fn systems(numbers: &[u32]) -> Vec<usize> {
+    numbers.iter().map(|&system| system as usize).collect()
 }
 
 fn single_task<'a>(call: &'a Step) -> Task<'a> {
     Task {
         mode: call.mode,
         form: call.form,
-        group: call.group.iter().map(|&system| system as usize).collect(),
-        couplings: call.couplings,
+        group: systems(call.group),
         temperature: call.temperature,
         cuts: call.cuts,
         reference: call.reference,
@@ -100,7 +115,7 @@ fn single_task<'a>(call: &'a Step) -> Task<'a> {
 
 fn single_length_refused(call: &Step) -> bool {
     let exact = lengths(call.mode, call.form, call.n, call.d, call.group.len(), 1);
-    panel_length_refused(single_panel(call))
+    panel_length_refused(panel_of!(call))
         || differs(exact.couplings, call.couplings.len())
         || differs(exact.cuts, call.cuts.len())
         || differs(exact.flips, call.flips.len())
@@ -114,28 +129,22 @@ fn single_length_refused(call: &Step) -> bool {
 }
 
 fn single_refusal(call: &Step) -> Option<u8> {
-    let draws = call.mode.draws();
-    let panel = single_panel(call);
+    let (draws, keeping) = (call.mode.draws(), call.keeps.totals(call.form));
+    let panel = panel_of!(call);
     if sizes_refused(call.n, call.d, call.s) || members_refused(call.mode, call.group.len()) {
-        Some(1)
-    } else if single_length_refused(call) {
-        Some(2)
-    } else if spins_refused(call.spins) {
-        Some(3)
-    } else if tables_refused(panel) {
-        Some(4)
-    } else if systems_refused(call.group, call.s) {
-        Some(5)
-    } else if draws && coupling_refused(call.couplings) {
-        Some(6)
-    } else if draws && temperature_refused(call.temperature) {
-        Some(7)
-    } else {
-        task_refusal(panel, &single_task(call))
+        return Some(1);
     }
+    if single_length_refused(call) || totals_length_refused(keeping, panel, call.totals) {
+        return Some(2);
+    }
+    let temperature = [call.temperature];
+    let drawn: &[f32] = if draws { &temperature } else { &[] };
+    panel_refusal(panel, &systems(call.group), draws || keeping, drawn)
+        .or_else(|| task_refusal(panel, &single_task(call)))
+        .or_else(|| totals_refusal(keeping, call.totals))
 }
 
-// --- The four calls ---
+// --- The five calls ---
 
 /// A task's areas of the lent buffers.
 struct Areas<'a> {
@@ -252,10 +261,13 @@ impl Port for Model {
         if let Some(number) = single_refusal(&call) {
             return Answer::Refused(number);
         }
+        let keeping = call.keeps.totals(call.form);
+        let before = metered(keeping, panel_of!(call));
         let task = single_task(&call);
-        let done = Done::of(single_panel(&call), &task);
+        let done = Done::of(panel_of!(call), &task);
         let group = task.group;
         write_spins(call.spins, &group, done.columns());
+        bring(call.totals, &before, &metered(keeping, panel_of!(call)));
         done.write(Areas {
             labels: call.labels,
             grey_labels: call.grey_labels,
@@ -274,10 +286,12 @@ impl Port for Model {
             return SweepAnswer::Refused(number);
         }
         let each = lengths(call.mode, call.form, call.n, call.d, call.members, 1);
+        let keeping = call.keeps.totals(call.form);
+        let before = metered(keeping, panel_of!(call));
         let (mut idle, mut moved) = (0, 0);
         for number in unmasked(&call) {
             let task = sweep_task(&call, number);
-            let done = Done::of(sweep_panel(&call), &task);
+            let done = Done::of(panel_of!(call), &task);
             let group = task.group;
             write_spins(call.spins, &group, done.columns());
             done.write(Areas {
@@ -292,44 +306,16 @@ impl Port for Model {
                 false => moved += 1,
             }
         }
+        bring(call.totals, &before, &metered(keeping, panel_of!(call)));
         SweepAnswer::Swept { idle, moved }
     }
 
     fn energy(&mut self, call: Meter) -> MeterAnswer {
-        let panel = Panel {
-            n: call.n,
-            d: call.d,
-            s: call.s,
-            spins: call.spins,
-            fwd: call.fwd,
-            bwd: call.bwd,
-        };
-        let refusal = if sizes_refused(call.n, call.d, call.s) {
-            1
-        } else if panel_length_refused(panel) || call.couplings.len() != call.n * call.d {
-            2
-        } else if spins_refused(call.spins) {
-            3
-        } else if tables_refused(panel) {
-            4
-        } else if call.system >= call.s {
-            5
-        } else if coupling_refused(call.couplings) {
-            6
-        } else {
-            0
-        };
-        if refusal != 0 {
-            return MeterAnswer::Refused(refusal);
-        }
-        let row = &call.spins[call.system * call.n..(call.system + 1) * call.n];
-        let sum: i64 = (0..call.n * call.d)
-            .map(|bond| {
-                let ends = row[bond / call.d] * row[call.fwd[bond] as usize];
-                i64::from(call.couplings[bond]) * i64::from(ends)
-            })
-            .sum();
-        MeterAnswer::Energy(-sum)
+        meter(&call)
+    }
+
+    fn hand_over(&mut self, call: HandOver) -> u8 {
+        handed_over(&call)
     }
 
     fn label(&mut self, call: Label) -> u8 {

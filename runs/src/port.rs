@@ -12,7 +12,8 @@ pub fn linked() -> Option<Box<dyn Port>> {
 /// The calls of the runs as those of the crate `tsorvenk`, and its answers as those of the runs.
 #[cfg(port)]
 mod linked {
-    use calls::{Answer, Form, Label, Meter, MeterAnswer, Mode, Port, Step, Sweep, SweepAnswer};
+    use calls::{Answer, Form, HandOver, Keeps, Label, Meter, MeterAnswer, Mode, Port};
+    use calls::{Step, Sweep, SweepAnswer};
 
     pub struct Linked;
 
@@ -36,36 +37,59 @@ mod linked {
         }
     }
 
+    fn keeps(keeps: Keeps) -> tsorvenk::Keeps {
+        match keeps {
+            Keeps::Nothing => tsorvenk::Keeps::Nothing,
+            Keeps::Totals => tsorvenk::Keeps::Totals,
+        }
+    }
+
+    /// The crate's call of the same name: what a move and a sweep share, and the fields of its own.
+    macro_rules! call_of {
+        ($call:ident, $from:expr, { $($field:ident,)* }) => {
+            tsorvenk::$call {
+                mode: mode($from.mode),
+                form: form($from.form),
+                keeps: keeps($from.keeps),
+                n: $from.n,
+                d: $from.d,
+                s: $from.s,
+                spins: $from.spins,
+                totals: $from.totals,
+                fwd: $from.fwd,
+                bwd: $from.bwd,
+                couplings: $from.couplings,
+                cuts: $from.cuts,
+                flips: $from.flips,
+                perms: $from.perms,
+                greys: $from.greys,
+                labels: $from.labels,
+                grey_labels: $from.grey_labels,
+                counts: $from.counts,
+                sizes: $from.sizes,
+                member_sites: $from.member_sites,
+                $($field: $from.$field,)*
+            }
+        };
+    }
+
+    /// 0, or a refusal's number.
+    fn number(answer: Result<(), tsorvenk::Refusal>) -> u8 {
+        answer.err().map_or(0, |refusal| refusal.number)
+    }
+
     impl Port for Linked {
         fn name(&self) -> &'static str {
             "port"
         }
 
         fn step(&mut self, call: Step) -> Answer {
-            match tsorvenk::step(tsorvenk::Step {
-                mode: mode(call.mode),
-                form: form(call.form),
-                n: call.n,
-                d: call.d,
-                s: call.s,
-                spins: call.spins,
-                fwd: call.fwd,
-                bwd: call.bwd,
-                couplings: call.couplings,
-                group: call.group,
-                temperature: call.temperature,
-                cuts: call.cuts,
-                reference: call.reference,
-                seed: call.seed,
-                flips: call.flips,
-                perms: call.perms,
-                greys: call.greys,
-                labels: call.labels,
-                grey_labels: call.grey_labels,
-                counts: call.counts,
-                sizes: call.sizes,
-                member_sites: call.member_sites,
-            }) {
+            match tsorvenk::step(call_of!(Step, call, {
+                group,
+                temperature,
+                reference,
+                seed,
+            })) {
                 Ok(tsorvenk::Stepped::Moved) => Answer::Moved,
                 Ok(tsorvenk::Stepped::Idle) => Answer::Idle,
                 Err(refusal) => Answer::Refused(refusal.number),
@@ -73,34 +97,16 @@ mod linked {
         }
 
         fn sweep(&mut self, call: Sweep) -> SweepAnswer {
-            match tsorvenk::sweep(tsorvenk::Sweep {
-                mode: mode(call.mode),
-                form: form(call.form),
-                n: call.n,
-                d: call.d,
-                s: call.s,
-                t: call.t,
-                r: call.r,
-                members: call.members,
-                spins: call.spins,
-                fwd: call.fwd,
-                bwd: call.bwd,
-                couplings: call.couplings,
-                order: call.order,
-                masks: call.masks,
-                temperatures: call.temperatures,
-                cuts: call.cuts,
-                references: call.references,
-                seeds: call.seeds,
-                flips: call.flips,
-                perms: call.perms,
-                greys: call.greys,
-                labels: call.labels,
-                grey_labels: call.grey_labels,
-                counts: call.counts,
-                sizes: call.sizes,
-                member_sites: call.member_sites,
-            }) {
+            match tsorvenk::sweep(call_of!(Sweep, call, {
+                t,
+                r,
+                members,
+                order,
+                masks,
+                temperatures,
+                references,
+                seeds,
+            })) {
                 Ok(tsorvenk::Swept { idle, moved, .. }) => SweepAnswer::Swept { idle, moved },
                 Err(refusal) => SweepAnswer::Refused(refusal.number),
             }
@@ -122,8 +128,21 @@ mod linked {
             }
         }
 
+        fn hand_over(&mut self, call: HandOver) -> u8 {
+            number(tsorvenk::hand_over(tsorvenk::HandOver {
+                n: call.n,
+                d: call.d,
+                s: call.s,
+                spins: call.spins,
+                totals: call.totals,
+                fwd: call.fwd,
+                bwd: call.bwd,
+                couplings: call.couplings,
+            }))
+        }
+
         fn label(&mut self, call: Label) -> u8 {
-            match tsorvenk::label(tsorvenk::Label {
+            number(tsorvenk::label(tsorvenk::Label {
                 n: call.n,
                 d: call.d,
                 fwd: call.fwd,
@@ -132,10 +151,7 @@ mod linked {
                 labels: call.labels,
                 counts: call.counts,
                 sizes: call.sizes,
-            }) {
-                Ok(()) => 0,
-                Err(refusal) => refusal.number,
-            }
+            }))
         }
     }
 }

@@ -41,7 +41,7 @@
 //! call and compare all of them after it. n, S and N are at most 8, n*D at most 12, D, K and t at most 4.
 use crate::case::{Choices, Lent, Panel, Single, Swept};
 use crate::model::lengths;
-use calls::{Form, Mode};
+use calls::{Form, Keeps, Mode};
 use std::fmt::Write;
 
 /// What an output that must be left alone holds.
@@ -221,6 +221,7 @@ impl<'a> Reader<'a> {
         let exact = lengths(mode, form, n, d, members, tasks);
         Lent {
             spins: self.spins(spins),
+            totals: Vec::new(),
             labels: self.numbers(exact.labels.unwrap_or(0), 2),
             grey_labels: self.numbers(exact.grey_labels.unwrap_or(0), 2),
             counts: self.numbers(exact.counts.unwrap_or(0), 2),
@@ -245,6 +246,7 @@ impl<'a> Reader<'a> {
         let panel = Panel {
             mode,
             form,
+            keeps: Keeps::Nothing,
             n,
             d,
             s,
@@ -268,15 +270,6 @@ impl<'a> Reader<'a> {
         };
         let (idle, moved) = (self.number(1) as u8, self.number(1) as u8);
         let after = self.outputs(mode, form, [n, d, members, tasks], s * n);
-        let untouched = |output: &[u32]| vec![UNTOUCHED; output.len()];
-        let lent = Lent {
-            spins,
-            labels: untouched(&after.labels),
-            grey_labels: untouched(&after.grey_labels),
-            counts: untouched(&after.counts),
-            sizes: untouched(&after.sizes),
-            member_sites: Vec::new(),
-        };
         let case = Swept {
             panel,
             t,
@@ -288,7 +281,7 @@ impl<'a> Reader<'a> {
             references,
             seeds,
             choices,
-            lent,
+            lent: Lent::filled(exact, spins, UNTOUCHED, 0),
         };
         Entry {
             single,

@@ -3,8 +3,10 @@ use crate::case::{Choices, Lent, Panel, Single, Swept};
 use crate::lattices::backward;
 use crate::model::{self, lengths};
 use crate::rand::Rand;
-use calls::{Form, Mode};
+use calls::{Form, Keeps, Mode};
 use std::time::Instant;
+
+pub mod pieces;
 
 /// The median of single runs, in microseconds. `ready` is not timed.
 pub fn median<S>(
@@ -74,6 +76,7 @@ pub fn panel_of(rand: &mut Rand, mode: Mode, form: Form, n: usize, d: usize, s: 
     Panel {
         mode,
         form,
+        keeps: Keeps::Nothing,
         n,
         d,
         s,
@@ -118,15 +121,20 @@ fn choices(rand: &mut Rand, panel: &Panel, members: usize, tasks: usize) -> Choi
 
 fn outputs(panel: &Panel, members: usize, tasks: usize, spins: Vec<i8>) -> Lent {
     let exact = lengths(panel.mode, panel.form, panel.n, panel.d, members, tasks);
-    let output = |length: Option<usize>| vec![0; length.unwrap_or(0)];
-    Lent {
-        spins,
-        labels: output(exact.labels),
-        grey_labels: output(exact.grey_labels),
-        counts: output(exact.counts),
-        sizes: output(exact.sizes),
-        member_sites: vec![0; exact.member_sites.unwrap_or(0)],
+    Lent::filled(exact, spins, 0, 0)
+}
+
+/// The energy of the system whose row comes first, by a plain loop.
+pub fn plain_energy(panel: &Panel, row: &[i8]) -> i64 {
+    let mut sum = 0;
+    for i in 0..panel.n {
+        for d in 0..panel.d {
+            let bond = i * panel.d + d;
+            let ends = row[i] * row[panel.fwd[bond] as usize];
+            sum -= i64::from(panel.couplings[bond]) * i64::from(ends);
+        }
     }
+    sum
 }
 
 /// A move of one group in a panel of `s` systems.

@@ -26,10 +26,11 @@ pub struct Swept {
 ///
 /// The numbers are tested in their order, each only on what the mode and form take: the call is refused with the first
 /// that fits. A draw tests 12 before the length of what it fills, 2; an edge list is tested for 13 between 4 and 6, and its
-/// writer last of all for 2, room in `text`. [`refusal_words`] has words for each, which `Display` writes behind the number.
+/// writer last of all for 2, room in `text`; 14 is the last test of a call that keeps totals and of a hand-over.
+/// [`refusal_words`] has words for each, which `Display` writes behind the number.
 #[derive(Clone, Copy, Debug, PartialEq, Eq, Hash)]
 pub struct Refusal {
-    /// 1 to 10, 12 of a draw, or 13 of an edge list.
+    /// 1 to 10, 12 of a draw, 13 of an edge list, or 14 of totals.
     pub number: u8,
 }
 
@@ -60,12 +61,12 @@ impl fmt::Display for NoRoom {
 
 impl Error for NoRoom {}
 
-/// Words for each number of the C interface, whose `tsorvenk_refusal_words` has the same: the refusals 1 to 10, 12 and 13,
+/// Words for each number of the C interface, whose `tsorvenk_refusal_words` has the same: the refusals 1 to 10 and 12 to 14,
 /// 11 of a text of frames, and 0, 64 and 65, which are none.
 pub fn refusal_words(number: u8) -> &'static str {
     match number {
         0 => "not refused",
-        1 => "a size, a group's size, the mode or the form is out of its range",
+        1 => "a size, a group's size, the mode, the form or what is kept is out of its range",
         2 => "a buffer's length is not the exact one",
         3 => "a spin is not +1 or -1",
         4 => "a neighbour is n or more, or the forward and backward tables are not inverse",
@@ -78,6 +79,7 @@ pub fn refusal_words(number: u8) -> &'static str {
         11 => "a frame is missing, misplaced, misspelt or of the wrong length, or there is one too many",
         12 => "a source of draws is all 0, m or the members are out of range, or 64 words in a row were taken again",
         13 => "a text is no edge list of this lattice: its form, n, m, a site, or a line for which no bond is left",
+        14 => "a total is not its system's energy at the hand-over, or is above 16,384,000,000 in size",
         64 => "not refused: no site acts",
         65 => "there is no room for the answer",
         _ => "a number that no call gives",

@@ -60,6 +60,22 @@ impl Form {
     }
 }
 
+/// What a call keeps beside the spins.
+#[derive(Clone, Copy, Debug, Default, PartialEq, Eq, Hash)]
+pub enum Keeps {
+    /// Nothing: totals are not taken.
+    #[default]
+    Nothing = 0,
+    /// Each system's energy, brought current by what the move changed. Couplings are then taken in every mode. To observe
+    /// moves nothing, and keeps nothing.
+    Totals = 1,
+}
+
+impl Keeps {
+    /// Both.
+    pub const ALL: [Keeps; 2] = [Keeps::Nothing, Keeps::Totals];
+}
+
 /// One move or observation of one group, of N = `group.len()` systems.
 ///
 /// Behind each field stands its exact length, and which modes and forms take it if not all do. In SW the entry at a
@@ -70,6 +86,8 @@ pub struct Step<'a> {
     pub mode: Mode,
     /// SW if left out.
     pub form: Form,
+    /// Nothing if left out.
+    pub keeps: Keeps,
     /// Sites, 1 to 4096.
     pub n: usize,
     /// Directions, 1 to 4.
@@ -78,11 +96,14 @@ pub struct Step<'a> {
     pub s: usize,
     /// s * n, system by system: the spin of site i in system k is at k * n + i, +1 or -1. The group's are moved.
     pub spins: &'a mut [i8],
+    /// s, one for each system, each from -16,384,000,000 to 16,384,000,000: that of a system of the group changes by its
+    /// energy after the move less its energy before. Totals kept, in SW, Wolff and grow.
+    pub totals: &'a mut [i64],
     /// n * d: entry i * d + e is the forward neighbour of site i in direction e.
     pub fwd: &'a [u32],
     /// n * d: the backward neighbours, inverse to `fwd`.
     pub bwd: &'a [u32],
-    /// n * d, at the bond's entry, each from -1,000,000 to 1,000,000. Jörg, CMR, in every form.
+    /// n * d, at the bond's entry, each from -1,000,000 to 1,000,000. Jörg, CMR, in every form; totals kept, in every mode.
     pub couplings: &'a [i32],
     /// N systems, 2 to 8 (CMR: 2); they differ, and their order matters.
     pub group: &'a [u32],
@@ -128,6 +149,8 @@ pub struct Sweep<'a> {
     pub mode: Mode,
     /// SW if left out.
     pub form: Form,
+    /// Nothing if left out.
+    pub keeps: Keeps,
     /// Sites, 1 to 4096.
     pub n: usize,
     /// Directions, 1 to 4.
@@ -142,11 +165,13 @@ pub struct Sweep<'a> {
     pub members: usize,
     /// s * n, as in a step.
     pub spins: &'a mut [i8],
+    /// s, as in a step. Totals kept, in SW, Wolff and grow.
+    pub totals: &'a mut [i64],
     /// n * d, as in a step.
     pub fwd: &'a [u32],
     /// n * d, as in a step.
     pub bwd: &'a [u32],
-    /// n * d, as in a step. Jörg, CMR, in every form.
+    /// n * d, as in a step. Jörg, CMR, in every form; totals kept, in every mode.
     pub couplings: &'a [i32],
     /// s: a permutation of the systems.
     pub order: &'a [u32],
@@ -197,6 +222,48 @@ pub struct Energy<'a> {
     pub couplings: &'a [i32],
     /// Below s.
     pub system: usize,
+}
+
+/// The energy of every system, which totals start from: every field is taken.
+#[derive(Debug, Default)]
+pub struct MeterAll<'a> {
+    /// Sites, 1 to 4096.
+    pub n: usize,
+    /// Directions, 1 to 4.
+    pub d: usize,
+    /// Systems, 1 to 64.
+    pub s: usize,
+    /// s * n, as in a step.
+    pub spins: &'a [i8],
+    /// s. Written: each system's energy.
+    pub totals: &'a mut [i64],
+    /// n * d, as in a step.
+    pub fwd: &'a [u32],
+    /// n * d, as in a step.
+    pub bwd: &'a [u32],
+    /// n * d, as in a step.
+    pub couplings: &'a [i32],
+}
+
+/// Totals that a caller brings, to be held to the energies: every field is taken, and nothing is written.
+#[derive(Clone, Copy, Debug, Default)]
+pub struct HandOver<'a> {
+    /// Sites, 1 to 4096.
+    pub n: usize,
+    /// Directions, 1 to 4.
+    pub d: usize,
+    /// Systems, 1 to 64.
+    pub s: usize,
+    /// s * n, as in a step.
+    pub spins: &'a [i8],
+    /// s, one for each system.
+    pub totals: &'a [i64],
+    /// n * d, as in a step.
+    pub fwd: &'a [u32],
+    /// n * d, as in a step.
+    pub bwd: &'a [u32],
+    /// n * d, as in a step.
+    pub couplings: &'a [i32],
 }
 
 /// The components of the bonds whose byte in `holds` is 1: every field is taken.

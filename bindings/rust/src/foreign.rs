@@ -2,8 +2,9 @@
 #[rustfmt::skip]
 extern "C" {
     pub fn tsorvenk_step(
-        mode: u8, form: u8, n: usize, d: usize, s: usize,
-        spins: *mut i8, spins_len: usize, fwd: *const u32, fwd_len: usize, bwd: *const u32, bwd_len: usize,
+        mode: u8, form: u8, keeps: u8, n: usize, d: usize, s: usize,
+        spins: *mut i8, spins_len: usize, totals: *mut i64, totals_len: usize,
+        fwd: *const u32, fwd_len: usize, bwd: *const u32, bwd_len: usize,
         couplings: *const i32, couplings_len: usize, group: *const u32, group_len: usize,
         temperature: f32, cuts: *const f32, cuts_len: usize, reference: usize, seed: usize,
         flips: *const u8, flips_len: usize, perms: *const u8, perms_len: usize, greys: *const u8, greys_len: usize,
@@ -12,8 +13,9 @@ extern "C" {
         member_sites: *mut u8, member_sites_len: usize,
     ) -> u8;
     pub fn tsorvenk_sweep(
-        mode: u8, form: u8, n: usize, d: usize, s: usize, t: usize, r: usize, members: usize,
-        spins: *mut i8, spins_len: usize, fwd: *const u32, fwd_len: usize, bwd: *const u32, bwd_len: usize,
+        mode: u8, form: u8, keeps: u8, n: usize, d: usize, s: usize, t: usize, r: usize, members: usize,
+        spins: *mut i8, spins_len: usize, totals: *mut i64, totals_len: usize,
+        fwd: *const u32, fwd_len: usize, bwd: *const u32, bwd_len: usize,
         couplings: *const i32, couplings_len: usize, order: *const u32, order_len: usize,
         masks: *const u8, masks_len: usize, temperatures: *const f32, temperatures_len: usize,
         cuts: *const f32, cuts_len: usize, references: *const u32, references_len: usize,
@@ -28,6 +30,11 @@ extern "C" {
         n: usize, d: usize, s: usize,
         spins: *const i8, spins_len: usize, fwd: *const u32, fwd_len: usize, bwd: *const u32, bwd_len: usize,
         couplings: *const i32, couplings_len: usize, system: usize, energy: *mut i64, energy_len: usize,
+    ) -> u8;
+    pub fn tsorvenk_hand_over(
+        n: usize, d: usize, s: usize,
+        spins: *const i8, spins_len: usize, totals: *const i64, totals_len: usize,
+        fwd: *const u32, fwd_len: usize, bwd: *const u32, bwd_len: usize, couplings: *const i32, couplings_len: usize,
     ) -> u8;
     pub fn tsorvenk_label(
         n: usize, d: usize, fwd: *const u32, fwd_len: usize, holds: *const u8, holds_len: usize,

@@ -8,7 +8,8 @@
 //! every buffer as it was. For every input the library is proved to give one answer and one content of every buffer.
 //! A move draws nothing itself (cuts, flips, permutations and seeds are lent), allocates nothing and keeps nothing between
 //! calls, so calls on different buffers may run at the same time. A `Source` draws such choices, all but the cuts, from a
-//! seed of four words, so that a day can be repeated.
+//! seed of four words, so that a day can be repeated. A move or sweep may keep each system's energy current beside the
+//! spins ([`Keeps::Totals`]).
 //!
 //! ```
 //! use tsorvenk::{step, Form, Mode, Refusal, Step, Stepped};
@@ -56,9 +57,10 @@ mod safe;
 
 pub use answers::{refusal_words, NoRoom, Refusal, Stepped, Swept};
 pub use calls::{
-    Energy, Form, Frames, Label, Mode, ReadEdges, Step, Sweep, WriteEdges, EDGES_ROOM, FRAMES_ROOM,
+    Energy, Form, Frames, HandOver, Keeps, Label, MeterAll, Mode, ReadEdges, Step, Sweep,
+    WriteEdges, EDGES_ROOM, FRAMES_ROOM,
 };
 #[cfg(linked)]
 pub use draws::Source;
 #[cfg(linked)]
-pub use safe::{energy, frames, label, read_edges, step, sweep, write_edges};
+pub use safe::{energy, frames, hand_over, label, meter_all, read_edges, step, sweep, write_edges};

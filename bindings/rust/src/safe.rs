@@ -1,7 +1,7 @@
 //! Safe calls. Each pointer goes with the length of the slice that it was taken from, slices that are written overlap no
 //! other, and the library is proved to stay inside.
 use crate::answers::{NoRoom, Refusal, Stepped, Swept};
-use crate::calls::{Energy, Frames, Label, ReadEdges, Step, Sweep, WriteEdges};
+use crate::calls::{Energy, Frames, HandOver, Label, MeterAll, ReadEdges, Step, Sweep, WriteEdges};
 use crate::foreign::*;
 
 /// One move or observation of one group. The example of the [crate] is one; this one grows from its seed and labels nothing.
@@ -36,8 +36,8 @@ use crate::foreign::*;
 pub fn step(call: Step) -> Result<Stepped, Refusal> {
     let number = unsafe {
         tsorvenk_step(
-            call.mode as u8, call.form as u8, call.n, call.d, call.s,
-            call.spins.as_mut_ptr(), call.spins.len(),
+            call.mode as u8, call.form as u8, call.keeps as u8, call.n, call.d, call.s,
+            call.spins.as_mut_ptr(), call.spins.len(), call.totals.as_mut_ptr(), call.totals.len(),
             call.fwd.as_ptr(), call.fwd.len(), call.bwd.as_ptr(), call.bwd.len(),
             call.couplings.as_ptr(), call.couplings.len(), call.group.as_ptr(), call.group.len(),
             call.temperature, call.cuts.as_ptr(), call.cuts.len(), call.reference, call.seed,
@@ -93,8 +93,8 @@ pub fn sweep(call: Sweep) -> Result<Swept, Refusal> {
     let mut outcomes = [0u32; 2];
     let number = unsafe {
         tsorvenk_sweep(
-            call.mode as u8, call.form as u8, call.n, call.d, call.s, call.t, call.r, call.members,
-            call.spins.as_mut_ptr(), call.spins.len(),
+            call.mode as u8, call.form as u8, call.keeps as u8, call.n, call.d, call.s, call.t, call.r, call.members,
+            call.spins.as_mut_ptr(), call.spins.len(), call.totals.as_mut_ptr(), call.totals.len(),
             call.fwd.as_ptr(), call.fwd.len(), call.bwd.as_ptr(), call.bwd.len(),
             call.couplings.as_ptr(), call.couplings.len(), call.order.as_ptr(), call.order.len(),
             call.masks.as_ptr(), call.masks.len(), call.temperatures.as_ptr(), call.temperatures.len(),
@@ -146,6 +146,75 @@ pub fn energy(call: Energy) -> Result<i64, Refusal> {
     };
     match number {
         0 => Ok(energy[0]),
+        number => Err(Refusal { number }),
+    }
+}
+
+/// The energy of every system into `totals`, where a day that keeps them starts.
+///
+/// Refused with 1, 2, 3, 4 or 6, in this order, and then nothing is written.
+///
+/// ```
+/// use tsorvenk::{hand_over, meter_all, step, Form, HandOver, Keeps, MeterAll, Mode, Refusal, Step, Stepped};
+///
+/// // a ring of three, and two systems that differ at its first site
+/// let (fwd, bwd, couplings) = (&[1, 2, 0], &[2, 0, 1], &[1, 2, -3]);
+/// let (mut spins, mut totals) = ([1, 1, 1, -1, 1, 1], [0; 2]);
+/// meter_all(MeterAll { n: 3, d: 1, s: 2, spins: &spins, totals: &mut totals, fwd, bwd, couplings })?;
+/// assert_eq!(totals, [0, -4]);
+/// let mut member_sites = [0; 3];
+/// let stepped = step(Step {
+///     mode: Mode::Pair,
+///     form: Form::Grow,
+///     keeps: Keeps::Totals,
+///     n: 3,
+///     d: 1,
+///     s: 2,
+///     spins: &mut spins,
+///     totals: &mut totals,
+///     fwd,
+///     bwd,
+///     couplings,
+///     group: &[0, 1],
+///     member_sites: &mut member_sites,
+///     ..Default::default()
+/// })?;
+/// assert_eq!((stepped, totals), (Stepped::Moved, [-4, 0]));
+/// let handed = HandOver { n: 3, d: 1, s: 2, spins: &spins, totals: &totals, fwd, bwd, couplings };
+/// assert_eq!(hand_over(handed), Ok(()));
+/// assert_eq!(hand_over(HandOver { totals: &[-4, 1], ..handed }), Err(Refusal { number: 14 }));
+/// # Ok::<(), Refusal>(())
+/// ```
+#[rustfmt::skip]
+pub fn meter_all(call: MeterAll) -> Result<(), Refusal> {
+    let MeterAll { n, d, s, spins, totals, fwd, bwd, couplings } = call;
+    let meter = |system| energy(Energy { n, d, s, spins, fwd, bwd, couplings, system });
+    // the first meter makes every test but that of this length, which comes behind 1
+    let first = meter(0);
+    if totals.len() != s && first != Err(Refusal { number: 1 }) {
+        return Err(Refusal { number: 2 });
+    }
+    first?;
+    for (system, total) in totals.iter_mut().enumerate() {
+        *total = meter(system)?;
+    }
+    Ok(())
+}
+
+/// Whether each total is its system's energy: asked once, before the first call that keeps totals. The example of
+/// [`meter_all`] asks it at the end too.
+#[inline]
+#[rustfmt::skip]
+pub fn hand_over(call: HandOver) -> Result<(), Refusal> {
+    let number = unsafe {
+        tsorvenk_hand_over(
+            call.n, call.d, call.s, call.spins.as_ptr(), call.spins.len(), call.totals.as_ptr(), call.totals.len(),
+            call.fwd.as_ptr(), call.fwd.len(), call.bwd.as_ptr(), call.bwd.len(),
+            call.couplings.as_ptr(), call.couplings.len(),
+        )
+    };
+    match number {
+        0 => Ok(()),
         number => Err(Refusal { number }),
     }
 }

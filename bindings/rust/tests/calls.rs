@@ -171,7 +171,7 @@ fn a_refusal_is_an_error_with_words() {
     let refusal: Box<dyn Error> = sweep(Sweep::default()).unwrap_err().into();
     assert_eq!(
         refusal.to_string(),
-        "refused with 1: a size, a group's size, the mode or the form is out of its range"
+        "refused with 1: a size, a group's size, the mode, the form or what is kept is out of its range"
     );
     let no_room: Box<dyn Error> = NoRoom.into();
     assert_eq!(no_room.to_string(), "there is no room for the answer");
@@ -180,7 +180,7 @@ fn a_refusal_is_an_error_with_words() {
         .collect();
     assert_eq!(
         known,
-        [0, 1, 2, 3, 4, 5, 6, 7, 8, 9, 10, 11, 12, 13, 64, 65]
+        [0, 1, 2, 3, 4, 5, 6, 7, 8, 9, 10, 11, 12, 13, 14, 64, 65]
     );
     let mut words: Vec<&str> = known.iter().map(|&number| refusal_words(number)).collect();
     words.sort_unstable();

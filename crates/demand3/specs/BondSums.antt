@@ -5,17 +5,15 @@ use mathlib.Core.Bool.{Bool, true, false, cond}
 use mathlib.Core.List.{List}
 use lib.IntN.{ℤ, _*ℤ_}
 use Rattle.lemmas.specs.Sums.{sum, sum-ext}
-use Rattle.paper.specs.Component.Links.{Linked.stay, Linked.along}
 use Rattle.paper.specs.declared.Form.{Form}
 use Rattle.paper.specs.declared.Form.the-variants.{Sw, Wolff, Observe, Grow}
-use Rattle.paper.specs.Panel.Input.{graph, Call, Choices, pattern, size, ahead}
+use Rattle.paper.specs.Panel.Input.{Call, Choices, pattern, size, ahead}
 use Rattle.paper.specs.Site.Acting.{acts}
 use Rattle.paper.specs.Site.Bonds.{holds}
 use Rattle.paper.specs.Component.Sizes.{labelOf}
 use Rattle.paper.specs.Move.Moving.{chosen, reached, reachedBy}
 use Rattle.paper.specs.Refusal.Rules.{Permutes}
 use Rattle.paper.specs.Site.Energy.{bondSum}
-use Rattle.laws.specs.Unique.{same-label}
 use Rattle.laws.specs.Permuted.{sum-permuted}
 use Rattle.laws.specs.Patterns.{Spinning}
 use Rattle.demand3.specs.Reversible.{holds-both, gauge-product, still}
@@ -94,9 +92,7 @@ module _ {c : Call} {p : Choices} {xs : List ℤ} {l : List ℕ} {ys : List ℤ}
       on = holds-both (c .mode) (size c) (s .reversible) c xs i e ∙ rw (ai, aj) refl
 
       label : labelOf l i ≡ labelOf l (ahead c i e)
-      label =
-          same-label (graph c) (holds c xs) l (s .labels) i (ahead c i e) hi hj .1
-          (along (record { site = hi; dir = e; dir-lt = he; on = on; leads = refl }) stay)
+      label = s .told .joint i e hi he on
 
       alike : reached c xs l i ≡ reached c xs l (ahead c i e)
       alike = rw (ai, aj) (same-reached (c .form) c l i (ahead c i e) label)

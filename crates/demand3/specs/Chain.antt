@@ -126,8 +126,8 @@ module _
 
     pub next : {q : Choices} {d : Buffers} → d .spins ≡ b′ .spins → Exact c q d → Chosen c q → Outcome c q d
     next {q} {d} same e h =
-        outcome-of v f valid (b′ .labels) (b′ .counts) (b′ .sizes) (rw same (labels-kept (step v f m)))
-        (rw same (counts-kept (step v f m) (seen-of f m .counts))) (rw same (sizes-kept (step v f m) (seen-of f m .sizes)))
+        outcome-of v f valid (b′ .labels) (b′ .counts) (b′ .sizes) (rw same (labels-kept (step v f m) f))
+        (rw same (counts-kept (step v f m) f (seen-of f m .counts))) (rw same (sizes-kept (step v f m) f (seen-of f m .sizes)))
       where
         valid : Valid c q d
         valid = record {

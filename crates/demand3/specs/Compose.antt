@@ -5,6 +5,7 @@ use mathlib.Core.Bool.{Bool, true, false, cond}
 use mathlib.Core.List.{List}
 use lib.IntN.{ℤ}
 use Rattle.paper.specs.Panel.Input.{graph, Call, Choices, pattern, size}
+use Rattle.paper.specs.Panel.Takes.{labelsBy}
 use Rattle.paper.specs.Site.Bonds.{holds}
 use Rattle.paper.specs.Component.Sizes.{labelOf}
 use Rattle.paper.specs.Move.Moving.{chosen, reached}
@@ -15,12 +16,12 @@ use Rattle.demand3.specs.ChoicesAdd.{ComposedAll, CancelsAll}
 use Rattle.demand3.specs.Turns.{seenAt, turn, seen-back, permutes-at, reference-kept, turned, spins-kept, acts-kept, labels-kept}
 
 -- a step by choices that move no place
-module _ {c : Call} {p : Choices} {xs : List ℤ} {l : List ℕ} {ys : List ℤ} (s : Step c p xs l ys) where
+module _ {c : Call} {p : Choices} {xs : List ℤ} {l : List ℕ} {ys : List ℤ} (f : labelsBy (c .form) ≡ true) (s : Step c p xs l ys) where
   pub none-moved : ((r : ℕ) → r < c .lattice .n → (k : ℕ) → k < size c → chosen c p r k ≡ k) → ys ≡ xs
   none-moved h = spins-equal c ys xs (s .some-site) (s .long) same (s .others)
     where
       stays : (i k : ℕ) → i < c .lattice .n → k < size c → (t : Bool) → cond t (chosen c p (labelOf l i) k) k ≡ k
-      stays i k hi hk true = h (labelOf l i) (label-lt (graph c) (holds c xs) l (s .labels) i hi) k hk
+      stays i k hi hk true = h (labelOf l i) (label-lt (graph c) (holds c xs) l (s .told .labels f) i hi) k hk
       stays i k hi hk false = refl
 
       same : (i k : ℕ) → i < c .lattice .n → k < size c → pattern c ys i k ≡ pattern c xs i k
@@ -30,17 +31,17 @@ module _ {c : Call} {p : Choices} {xs : List ℤ} {l : List ℕ} {ys : List ℤ}
 
   -- what holds at every entry holds at those that are used
   pub composed-all : {q r : Choices} → ComposedAll c p q r → Composed c xs l p q r
-  composed-all h = record { is = λ i hi _. h (labelOf l i) (label-lt (graph c) (holds c xs) l (s .labels) i hi) }
+  composed-all h = record { is = λ i hi _. h (labelOf l i) (label-lt (graph c) (holds c xs) l (s .told .labels f) i hi) }
 
   pub cancels-all : {q : Choices} → CancelsAll c p q → Cancels c xs l p q
-  cancels-all h = record { is = λ i hi _. h (labelOf l i) (label-lt (graph c) (holds c xs) l (s .labels) i hi) }
+  cancels-all h = record { is = λ i hi _. h (labelOf l i) (label-lt (graph c) (holds c xs) l (s .told .labels f) i hi) }
 
 module _
     {c : Call} {p q : Choices} {xs : List ℤ} {l : List ℕ} {ys : List ℤ} {m : List ℕ} {zs : List ℤ}
-    (s : Step c p xs l ys) (t : Step c q ys m zs)
+    (f : labelsBy (c .form) ≡ true) (s : Step c p xs l ys) (t : Step c q ys m zs)
   where
     pub same-labels : m ≡ l
-    same-labels = labels-unique (graph c) (holds c ys) m l (t .labels) (labels-kept s)
+    same-labels = labels-unique (graph c) (holds c ys) m l (t .told .labels f) (labels-kept s f)
 
     same-reach : (i : ℕ) → i < c .lattice .n → reached c ys m i ≡ reached c xs l i
     unfolding reached
@@ -95,7 +96,7 @@ module _
 
     module _ {r : Choices} {o : List ℕ} {ws : List ℤ} (u : Step c r xs o ws) where
       same : o ≡ l
-      same = labels-unique (graph c) (holds c xs) o l (u .labels) (s .labels)
+      same = labels-unique (graph c) (holds c xs) o l (u .told .labels f) (s .told .labels f)
 
       -- one component's sites are as after the one move
       pub then-at :
@@ -119,4 +120,4 @@ module _
       two-then h =
           spins-equal c zs ws (s .some-site) (t .long ∙ (s .long ∙ sym (u .long)))
           (λ i k hi hk. then-at i k hi hk (h .is i hi))
-          (λ i x hi f. t .others i x hi f ∙ (s .others i x hi f ∙ sym (u .others i x hi f)))
+          (λ i x hi o. t .others i x hi o ∙ (s .others i x hi o ∙ sym (u .others i x hi o)))

@@ -12,4 +12,6 @@ pub mod ChoicesFit
 pub mod Such
 pub mod Chain
 pub mod Theorem
+pub mod Products
+pub mod TotalsSum
 pub mod Worked

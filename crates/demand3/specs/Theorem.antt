@@ -44,11 +44,11 @@ module _ (c : Call) (v : Reversible (c .mode) (size c)) (f : labelsBy (c .form) 
   keeps {p} {b} {b′} m = record {
     acting = acts-kept s;
     components = λ i j hi hj. (
-      joined (b′ .labels) (holds c (b′ .spins)) (holds c (b .spins)) (labels-kept s) (s .labels) i j hi hj,
-      joined (b′ .labels) (holds c (b .spins)) (holds c (b′ .spins)) (s .labels) (labels-kept s) i j hi hj,
+      joined (b′ .labels) (holds c (b′ .spins)) (holds c (b .spins)) (labels-kept s f) (s .told .labels f) i j hi hj,
+      joined (b′ .labels) (holds c (b .spins)) (holds c (b′ .spins)) (s .told .labels f) (labels-kept s f) i j hi hj,
     );
-    labels-before = s .labels;
-    labels-after = labels-kept s;
+    labels-before = s .told .labels f;
+    labels-after = labels-kept s f;
     sums = sum-kept s;
     others = s .others;
   }
@@ -71,13 +71,13 @@ module _ (c : Call) (v : Reversible (c .mode) (size c)) (f : labelsBy (c .form) 
     outputs = record {
       labels = labels;
       counts = counts-unique (d′ .labels) (d′ .counts) (b′ .counts) (rw (w .handed) at (seen-of f (move-of (w .second)) .counts))
-          (rw labels (counts-kept first (seen-of f (move-of (w .first)) .counts)));
+          (rw labels (counts-kept first f (seen-of f (move-of (w .first)) .counts)));
       sizes = sizes-unique (d′ .labels) (d′ .sizes) (b′ .sizes) (rw (w .handed) at (seen-of f (move-of (w .second)) .sizes))
-          (rw labels (sizes-kept first (seen-of f (move-of (w .first)) .sizes)));
+          (rw labels (sizes-kept first f (seen-of f (move-of (w .first)) .sizes)));
     }
       where
         labels : d′ .labels ≡ b′ .labels
-        labels = same-labels first second
+        labels = same-labels f first second
 
     chosen-first : Chosen c p
     chosen-first = valid-move (move-of (w .first)) .fit .chosen
@@ -94,25 +94,25 @@ module _ (c : Call) (v : Reversible (c .mode) (size c)) (f : labelsBy (c .form) 
     one moving moving-form sw =
         let m = move-of (w .first) in
         let o = instead v f m (exact-instead v f m (composite-sized c p q)) (composite-chosen c v chosen-first chosen-second moving) in
-        let is = composed-all first (composite-is c v chosen-first chosen-second moving-form sw) in
-        record { outcome = o; bytes = sym (two-then first second (step v f (own o)) is) }
+        let is = composed-all f first (composite-is c v chosen-first chosen-second moving-form sw) in
+        record { outcome = o; bytes = sym (two-then f first second (step v f (own o)) is) }
 
 pub demand3 : (c : Call) → Reversible (c .mode) (size c) → labelsBy (c .form) ≡ true → Demand3 c
 demand3 c v f = record {
   keeps = keeps c v f;
   next = λ m. next v f (move-of m);
   outputs = outputs c v f;
-  composes-at = λ w m same i k hi hk h. then-at (first c v f w) (second c v f w) (third c v f w m same) i k hi hk (λ _. h);
-  composes = λ w m same. two-then (first c v f w) (second c v f w) (third c v f w m same);
+  composes-at = λ w m same i k hi hk h. then-at f (first c v f w) (second c v f w) (third c v f w m same) i k hi hk (λ _. h);
+  composes = λ w m same. two-then f (first c v f w) (second c v f w) (third c v f w m same);
   one-sw = λ sw w. one c v f w (λ t. never (rw sw at (and-right (takesPerms c) (oneCluster (c .form)) t))) (rw sw refl) (λ _. sw);
   one-wolff = λ wolff perm w moving. one c v f w (λ _. moving) (rw wolff refl) (λ e. never (sym e ∙ perm));
-  restores-at = λ w i k hi hk h. back-at (first c v f w) (second c v f w) i k hi hk (λ _. h);
-  restores = λ w. two-back (first c v f w) (second c v f w);
-  restores-wolff = λ wolff flips w. two-back (first c v f w) (second c v f w) (cancels-all (first c v f w) (wolff-cancels c v flips _ _ wolff));
+  restores-at = λ w i k hi hk h. back-at f (first c v f w) (second c v f w) i k hi hk (λ _. h);
+  restores = λ w. two-back f (first c v f w) (second c v f w);
+  restores-wolff = λ wolff flips w. two-back f (first c v f w) (second c v f w) (cancels-all f (first c v f w) (wolff-cancels c v flips _ _ wolff));
   inverse-there = λ g m. undone g (move-of m);
-  inverse-restores = λ g w. two-back (first c v f w) (second c v f w) (cancels-all (first c v f w) (inverse-cancels c v (chosen-first c v f w) g));
+  inverse-restores = λ g w. two-back f (first c v f w) (second c v f w) (cancels-all f (first c v f w) (inverse-cancels c v (chosen-first c v f w) g));
   identity-there = λ sw m. rest sw (move-of m);
-  identity-still = λ sw m. none-moved (step v f (move-of m)) (identity-stays c v sw);
+  identity-still = λ sw m. none-moved f (step v f (move-of m)) (identity-stays c v sw);
 }
   where
     undone : {p : Choices} {b b′ : Buffers} → moves (c .form) ≡ true → Move c p b b′ → Leaves c (inverse c p) b′ (b .spins)
@@ -121,13 +121,13 @@ demand3 c v f = record {
         let o = next v f m refl (exact-next v f m (inverse-sized c p (record { choices = valid-move m .sound .exact .choices }))) (inverse-chosen c v h) in
         record {
           outcome = o;
-          bytes = two-back (step v f m) (step v f (own o)) (cancels-all (step v f m) (inverse-cancels c v h g));
+          bytes = two-back f (step v f m) (step v f (own o)) (cancels-all f (step v f m) (inverse-cancels c v h g));
         }
 
     rest : {p : Choices} {b b′ : Buffers} → c .form ≡ Sw → Move c p b b′ → Leaves c (identity c) b (b .spins)
     rest {p} {b} {b′} sw m =
         let o = instead v f m (exact-instead v f m (identity-sized c)) (identity-chosen c v (valid-move m .fit .chosen) sw) in
-        record { outcome = o; bytes = none-moved (step v f (own o)) (identity-stays c v sw) }
+        record { outcome = o; bytes = none-moved f (step v f (own o)) (identity-stays c v sw) }
 
 pub boundary : Boundary
 boundary = record {

@@ -9,14 +9,14 @@ use Rattle.lemmas.specs.Bools.{never, and-right}
 use Rattle.paper.specs.declared.Mode.{Mode}
 use Rattle.paper.specs.declared.Mode.the-variants.{Houd, Pair, Perm, Gperm, Jorg, Cmr}
 use Rattle.paper.specs.Panel.Input.{graph, Call, Choices, Pattern, pattern, size, ahead}
-use Rattle.paper.specs.Panel.Takes.{moves, isPerm, isGperm}
+use Rattle.paper.specs.Panel.Takes.{labelsBy, moves, isPerm, isGperm}
 use Rattle.paper.specs.Site.Acting.{actsBy, acts, gauge}
 use Rattle.paper.specs.Site.Bonds.{bothAct, holds}
 use Rattle.paper.specs.Component.Labels.{Labels}
 use Rattle.paper.specs.Component.Sizes.{labelOf, Counted, Largest}
 use Rattle.paper.specs.Move.Moving.{chosen, actBy, reached, after}
 use Rattle.paper.specs.Refusal.Rules.{Spin, Permutes}
-use Rattle.laws.specs.Unique.{label-lt, labels-ext, counts-ext, sizes-ext}
+use Rattle.laws.specs.Unique.{labels-ext, counts-ext, sizes-ext}
 use Rattle.laws.specs.Patterns.{Spinning}
 use Rattle.laws.specs.Entries.{form-moves}
 use Rattle.laws.specs.Acting.{acts-same, gauge-ext}
@@ -67,7 +67,7 @@ module _ {c : Call} {p : Choices} {xs : List ℤ} {l : List ℕ} {ys : List ℤ}
   unfolding reached
   permutes-at i h e =
       chosen-permutes (c .mode) c p (labelOf l i) (s .reversible)
-      (λ q. s .perms (taken q) (labelOf l i) (label-lt (graph c) (holds c xs) l (s .labels) i h))
+      (λ q. s .told .perms (taken q) i h)
     where
       taken : isPerm (c .mode) ≡ true → (moves (c .form) && isPerm (c .mode)) ≡ true
       taken q = rw (form-moves (c .form) c l i (and-right (acts c xs i) _ e), q)
@@ -128,15 +128,16 @@ module _ {c : Call} {p : Choices} {xs : List ℤ} {l : List ℕ} {ys : List ℤ}
       by-ends : (zs : List ℤ) → holds c zs i e ≡ bothAct c zs i e
       by-ends zs = holds-both (c .mode) (size c) (s .reversible) c zs i e
 
-  -- so the labels are those of the spins after the step too, and what is counted by them
-  pub labels-kept : Labels (graph c) (holds c ys) l
-  labels-kept = labels-ext (graph c) (holds c xs) (holds c ys) l (λ i e hi he. sym (holds-kept i e hi he)) (s .labels)
+  -- so labels are those of the spins after the step too, and what is counted by them
+  module _ (f : labelsBy (c .form) ≡ true) where
+    pub labels-kept : Labels (graph c) (holds c ys) l
+    labels-kept = labels-ext (graph c) (holds c xs) (holds c ys) l (λ i e hi he. sym (holds-kept i e hi he)) (s .told .labels f)
 
-  marks-kept : (i : ℕ) → i < length l → acts c xs i ≡ acts c ys i
-  marks-kept i h = sym (acts-kept i (rw (s .labels .long) at h))
+    marks-kept : (i : ℕ) → i < length l → acts c xs i ≡ acts c ys i
+    marks-kept i h = sym (acts-kept i (rw (s .told .labels f .long) at h))
 
-  pub counts-kept : {counts : List ℕ} → Counted (acts c xs) l counts → Counted (acts c ys) l counts
-  counts-kept = counts-ext l marks-kept
+    pub counts-kept : {counts : List ℕ} → Counted (acts c xs) l counts → Counted (acts c ys) l counts
+    counts-kept = counts-ext l marks-kept
 
-  pub sizes-kept : {sizes : List ℕ} → Largest (acts c xs) l sizes → Largest (acts c ys) l sizes
-  sizes-kept = sizes-ext l marks-kept
+    pub sizes-kept : {sizes : List ℕ} → Largest (acts c xs) l sizes → Largest (acts c ys) l sizes
+    sizes-kept = sizes-ext l marks-kept

@@ -13,6 +13,7 @@ use Rattle.paper.specs.declared.Answer.{Answer}
 use Rattle.paper.specs.declared.Answer.the-variants.{Refused, Idle, Moved}
 use Rattle.paper.specs.declared.Mode.the-variants.{Perm}
 use Rattle.paper.specs.declared.Form.the-variants.{Sw}
+use Rattle.paper.specs.declared.Keeps.the-variants.{Nothing}
 use Rattle.paper.specs.Panel.Input.{Call, Choices, Buffers}
 use Rattle.paper.specs.Site.Bonds.{whole}
 use Rattle.paper.specs.Refusal.Rule.{Kept}
@@ -77,7 +78,7 @@ run-fits text before w after m r e = rw (fitted .is) (simp length-append (omega 
 
 -- ---- one perm move, whose backward table is worked out
 abbrev pub permCall : ℕ → ℕ → ℕ → List ℕ → List ℕ → Group → Call
-permCall n d s fwd bwd g = callOf (taskOf Perm Sw n d s g (whole 1) 0 0) fwd bwd [] []
+permCall n d s fwd bwd g = callOf (taskOf Perm Sw Nothing n d s g (whole 1) 0 0) fwd bwd [] []
 
 pub record PermMoved (n d s : ℕ) (g : Group) (fwd perms : List ℕ) (b : Buffers) (r : Answer) (bwd : List ℕ) (spins : List ℤ)
     (labels counts sizes : List ℕ) : Type 0 where

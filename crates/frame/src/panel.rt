@@ -4,6 +4,7 @@ use frame_lines::Written;
 use paper::Answer;
 use paper::Form;
 use paper::Group;
+use paper::Keeps;
 use paper::Mode;
 use paper::Task;
 ghost use mathlib.Core.List.{List, []};
@@ -14,7 +15,7 @@ ghost use Rattle.frame_lines.specs.Reading.{Held, Readout};
 ghost use Rattle.frame_lines.specs.Writing.{WrittenAs};
 ghost use Rattle.frame.specs.Run.{PermMoved, Writable, answerText, MoveWritten, PanelGiven, RunAs};
 
-// The move takes no couplings, cuts, grey numbers or members: they are empty.
+// The move keeps no totals, and takes no couplings, cuts, grey numbers or members: they are empty.
 fn perm_move(
     n: usize,
     d: usize,
@@ -34,6 +35,7 @@ fn perm_move(
         r (now (bwd .exit)) (now (spins .exit)) (now (labels .exit)) (now (counts .exit)) (now (sizes .exit)) ⌝ }
 {
     lattice::backward(n, d, fwd, bwd);
+    let mut totals = [0i64; 1];
     let couplings = [0i32; 1];
     let cuts = [0f32; 1];
     let mut grey_labels = [0u32; 1];
@@ -41,6 +43,7 @@ fn perm_move(
     let t = Task {
         mode: Mode::Perm,
         form: Form::Sw,
+        keeps: Keeps::Nothing,
         n,
         d,
         s,
@@ -52,6 +55,7 @@ fn perm_move(
     steps::overlap_step(
         t,
         spins,
+        &mut totals[..0],
         fwd,
         bwd,
         &couplings[..0],

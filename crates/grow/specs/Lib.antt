@@ -1,4 +1,5 @@
--- The members of a cluster; the list of them while it grows; the growth, for any rule of bonds; what the functions ask and promise; how tight that is.
+-- The members of a cluster; the list of them while it grows; the growth, for any rule of bonds; what the functions ask and promise; the
+-- totals brought along; how tight that is.
 pub mod Members
 pub mod Listed
 pub mod Growth
@@ -7,4 +8,5 @@ pub mod Kept
 pub mod Contract
 pub mod Task
 pub mod Answered
+pub mod Totals
 pub mod Determined

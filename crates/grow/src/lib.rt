@@ -1,8 +1,10 @@
 // The cluster of a seed, grown from site to site: only what it reaches is looked at.
 ghost use lib.ListN.{length, getD};
 ghost use mathlib.Core.Path.{_≡_};
-ghost use Rattle.paper.specs.Panel.Made.{callOf, choicesOf};
+ghost use Rattle.paper.specs.Panel.Made.{latticeOf, callOf, choicesOf};
+ghost use Rattle.paper.specs.Panel.Takes.{keepsBy};
 ghost use Rattle.paper.specs.Answer.Move.{Answers};
+ghost use Rattle.paper.specs.Answer.Totals.{TotalsReady, TotalsAfter};
 ghost use Rattle.judge.specs.Judged.{Ready, BondOf, KnownToAct, columnFor};
 ghost use Rattle.judge.specs.Drawn.{judgedOn};
 ghost use Rattle.grow.specs.Kept.{Kept, Keeping};
@@ -10,6 +12,9 @@ ghost use Rattle.grow.specs.Growth.{Growing, Met, Visiting};
 ghost use Rattle.grow.specs.Spread.{Next, Spreads};
 ghost use Rattle.grow.specs.Contract.{graphFor, ruled, Grounds, Meeting, Waiting, Seedable, Grew};
 ghost use Rattle.grow.specs.Task.{Outputs, withOutputs, GrowAsks};
+ghost use Rattle.totals.specs.Contract.{latticeFor, Bringable, Spun};
+ghost use Rattle.totals.specs.Listed.{BringsListed};
+ghost use Rattle.grow.specs.Totals.{Readable, ReadAt, Changed};
 use judge::Rule;
 use judge::judge;
 use judge::prepare;
@@ -262,11 +267,65 @@ fn grow_cluster(
     }
 }
 
-// One task of the form that grows, once its input is tested: the members and the spins as the paper has them. Beside the seed, and in gperm the
-// reference, no site is read that the cluster does not reach.
+// Reads the columns of the first len sites of the list. The quicker reading is left to the growth alone:
+// called from one place it is inlined there.
+fn read_listed(spins: &[i8], n: usize, group: Group, list: &[u32], len: usize, news: &mut [u8])
+    requires { ⌜ Readable n group (now spins) (now list) len (length (now news)) ⌝ }
+    ensures { λ _. ⌜ ReadAt n group (now (spins .entry)) (now (list .entry)) len (now (news .entry)) (now (news .exit)) ⌝ }
+{
+    let mut a: usize = 0;
+    while a < len {
+        let i = wide(list[a]);
+        news[i] = columns::column_at(spins, n, group, i);
+        a += 1;
+    }
+}
+
+// Brings the totals along once the members, which are listed, are turned. The spins are those after it; of the columns before it `olds` has the members',
+// and is overwritten elsewhere.
+fn keep_totals(
+    t: Task,
+    spins: &[i8],
+    totals: &mut [i64],
+    fwd: &[u32],
+    bwd: &[u32],
+    couplings: &[i32],
+    members: &[u8],
+    list: &[u32],
+    len: usize,
+    olds: &mut [u8],
+)
+    requires { ⌜ Bringable (latticeFor t (now fwd) (now bwd) (now couplings)) (t .group) (now totals) ⌝ }
+    requires { ⌜ Spun (latticeFor t (now fwd) (now bwd) (now couplings)) (now spins) ⌝ }
+    requires { ⌜ Changed (t .n) (now members) (now list) len (length (now olds)) ⌝ }
+    ensures { λ _. ⌜ BringsListed
+        (latticeFor t (now (fwd .entry)) (now (bwd .entry)) (now (couplings .entry))) (t .group) (now (spins .entry)) (now (members .entry))
+        (now (olds .entry)) (now (totals .entry)) (now (totals .exit)) ⌝ }
+{
+    let mut news = [0u8; 4096];
+    let group = t.group;
+    read_listed(spins, t.n, group, list, len, &mut news);
+    totals::bring_listed(
+        t,
+        spins,
+        fwd,
+        bwd,
+        couplings,
+        members,
+        list,
+        len,
+        olds,
+        &mut news,
+        totals,
+    );
+}
+
+// One task of the form that grows, once its input is tested: the members and the spins as the paper has them, and the totals brought along where the task
+// keeps them. Beside the seed, and in gperm the reference, no site is read that the cluster does not reach; but for totals also those next to it.
 pub fn run_grow(
     t: Task,
     spins: &mut [i8],
+    totals: &mut [i64],
     fwd: &[u32],
     bwd: &[u32],
     couplings: &[i32],
@@ -277,12 +336,16 @@ pub fn run_grow(
 ) -> Answer
     requires { ⌜ GrowAsks
         (callOf t (now fwd) (now bwd) (now couplings) (now cuts)) (choicesOf (now choices) (now greys)) (now spins) (now members) ⌝ }
+    requires { ⌜ TotalsReady (keepsBy (t .keeps) (t .form)) (latticeOf (t .n) (t .d) (t .s) (now fwd) (now bwd) (now couplings)) (t .group) (now totals) ⌝ }
     ensures { λ r. ⌜ ((o : Outputs) → Answers
         (callOf t (now (fwd .entry)) (now (bwd .entry)) (now (couplings .entry)) (now (cuts .entry)))
         (choicesOf (now (choices .entry)) (now (greys .entry)))
         (withOutputs o (now (spins .entry)) (now (members .entry)))
         r
         (withOutputs o (now (spins .exit)) (now (members .exit)))) ⌝ }
+    ensures { λ _. ⌜ TotalsAfter
+        (keepsBy (t .keeps) (t .form)) (latticeOf (t .n) (t .d) (t .s) (now (fwd .entry)) (now (bwd .entry)) (now (couplings .entry)))
+        (now (spins .entry)) (now (totals .entry)) (now (spins .exit)) (now (totals .exit)) ⌝ }
 {
     let mode = t.mode;
     let group = t.group;
@@ -313,5 +376,21 @@ pub fn run_grow(
         grown.blue,
         grown.len,
     );
+    let keeps = t.keeps;
+    let form = t.form;
+    if keeps.totals(form) {
+        keep_totals(
+            t,
+            spins,
+            totals,
+            fwd,
+            bwd,
+            couplings,
+            members,
+            &list,
+            grown.len,
+            &mut cols,
+        );
+    }
     Answer::Moved
 }

@@ -10,6 +10,7 @@ use Rattle.lemmas.specs.Tells.{Tells, tells-determined}
 use Rattle.paper.specs.declared.Group.{Group}
 use Rattle.paper.specs.declared.Mode.{Mode}
 use Rattle.paper.specs.Refusal.Rules.{When, Sizes, Ranged, Inverse, Grouped, SmallCouplings, Warm, Cuts, Permutes, NotIdentity}
+use Rattle.paper.specs.Answer.Totals.{SmallTotals}
 use Rattle.lattice.specs.Spinning.{AllSpins}
 
 -- any two answers r and r′ that tell of P are equal
@@ -33,6 +34,9 @@ couplings-ok-determined js = tells-determined _
 
 pub couplings-fit-determined : (taken : Bool) (js : List ℤ) → OneAnswer (When taken (SmallCouplings js))
 couplings-fit-determined taken js = tells-determined _
+
+pub totals-fit-determined : (keeping : Bool) (totals : List ℤ) → OneAnswer (When keeping (SmallTotals totals))
+totals-fit-determined keeping totals = tells-determined _
 
 pub temperature-ok-determined : (t : Float) → OneAnswer (Warm t)
 temperature-ok-determined t = tells-determined _

@@ -7,8 +7,8 @@ ghost use lib.IntN.{natAbs};
 ghost use lib.Ieee.{nan};
 ghost use Rattle.lemmas.specs.Tells.{Tells, Each};
 ghost use Rattle.paper.specs.Panel.Input.{member};
-ghost use Rattle.paper.specs.Refusal.Rules.{When, Sizes, Ranged, Spin, SmallCouplings, Warm, isCut, Cuts, Back, Inverse, Grouped};
-ghost use Rattle.paper.specs.Refusal.Rules.{Permutes, NotIdentity};
+ghost use Rattle.paper.specs.Refusal.Rules.{When, Sizes, Ranged, Spin, SmallCouplings, Warm, isCut, Cuts, Back, Inverse, Grouped, Permutes, NotIdentity};
+ghost use Rattle.paper.specs.Answer.Totals.{SmallTotals};
 ghost use Rattle.lattice.specs.Backward.{Turnable, Turned, Led, Filling, FillingSite, FillingBond};
 ghost use Rattle.lattice.specs.Groups.{Fresh, Alone};
 ghost use Rattle.lattice.specs.Marking.{Marked, MarkedBelow, RowIn, Rows, RowsBelow, rowAt, OrderOf};
@@ -377,4 +377,23 @@ pub fn not_identity(row: &[u8]) -> bool
         k += 1;
     }
     moved
+}
+
+// ---- test 14
+
+// Totals that are not kept are not looked at.
+pub fn totals_fit(keeping: bool, totals: &[i64]) -> bool
+    ensures { λ r. ⌜ Tells r (When keeping (SmallTotals (now (totals .entry)))) ⌝ }
+{
+    if !keeping {
+        return true;
+    }
+    let mut ok = true;
+    let mut i = 0;
+    while i < totals.len() {
+        let x = totals[i];
+        ok = ok & ((x <= 16384000000) & (-16384000000 <= x));
+        i += 1;
+    }
+    ok
 }

@@ -1,4 +1,4 @@
--- Laws of the definitions: forms, patterns, choices and tests, then moves and their answers, then sweeps, then frames. Each file uses those above it.
+-- Laws of the definitions: forms, patterns, choices and tests, then moves and their answers, sweeps, totals and frames. Each file uses those above it.
 pub mod Forms
 pub mod Choices
 pub mod Patterns
@@ -28,5 +28,9 @@ pub mod SweepAscending
 pub mod SweepCounts
 pub mod SweepDetermined
 pub mod SweepUntaken
+pub mod KeepDetermined
+pub mod KeepsPlain
+pub mod Observed
+pub mod Day
 pub mod FrameKept
 pub mod FramesDetermined

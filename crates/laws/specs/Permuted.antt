@@ -1,4 +1,4 @@
--- Sums of integers over the numbers below m: a permutation of the places changes none.
+-- Sums of integers over the numbers below m: a permutation of the places changes none, and a list need name only those that add something.
 use mathlib.Core.Path.{_≡_, refl, sym, _∙_}
 use mathlib.Core.Logic.{_≢_, _⊎_, inl, inr}
 use mathlib.Core.Bool.{cond}
@@ -8,8 +8,8 @@ use native.Mathlib.Decide.{ℕ-discrete}
 use lib.Dec.{eqb}
 use lib.IntN.{ℤ, pos}
 use borrow.Author.Tests.{eq-eqb, ne-eqb}
-use Rattle.lemmas.specs.Sums.{sum-ext, sum-one, sum-swap, sum}
-use Rattle.lemmas.specs.Places.{Placed, place}
+use Rattle.lemmas.specs.Sums.{sum, sum-ext, sum-none, sum-one, sum-swap}
+use Rattle.lemmas.specs.Places.{Placed, Unplaced, place}
 use Rattle.paper.specs.Refusal.Rules.{Distinct, Permutes}
 
 -- ---- m + 1 numbers below m are not distinct
@@ -69,9 +69,13 @@ onto m p h v l = go (place m p v)
     go (inl r) = r
     go (inr r) = absurd (crowded m p⁺ (λ k b. below k b (ℕ-discrete k m)) (λ a b ha hb. apart r a b ha hb (ℕ-discrete a m) (ℕ-discrete b m)))
 
--- a sum over the places is the same in any order
-pub sum-permuted : (m : ℕ) (p : ℕ → ℕ) (f : ℕ → ℤ) → Permutes m p → sum m (λ k. f (p k)) ≡ sum m f
-sum-permuted m p f h = sym (sum-ext m (λ k. sum m (λ v. hit k v)) (λ k. f (p k)) row) ∙ (sum-swap m m hit ∙ sum-ext m (λ v. sum m (λ k. hit k v)) f column)
+-- a sum over numbers below n that stand once each in a list of m, where those that do not stand there add nothing
+pub sum-listed :
+    (m n : ℕ) (p : ℕ → ℕ) (f : ℕ → ℤ) → ((k : ℕ) → k < m → p k < n) → Distinct m p
+    → ((v : ℕ) → v < n → Unplaced m p v → f v ≡ pos 0) → sum m (λ k. f (p k)) ≡ sum n f
+sum-listed m n p f within distinct rest =
+    sym (sum-ext m (λ k. sum n (λ v. hit k v)) (λ k. f (p k)) row)
+    ∙ (sum-swap m n hit ∙ sum-ext n (λ v. sum m (λ k. hit k v)) f (λ v l. column v l (place m p v)))
   where
     hit : ℕ → ℕ → ℤ
     hit k v = cond (eqb v (p k)) (f v) (pos 0)
@@ -80,13 +84,18 @@ sum-permuted m p f h = sym (sum-ext m (λ k. sum m (λ v. hit k v)) (λ k. f (p 
     same k v (yes e) = rw e
     same k v (no e) = rw (ne-eqb v (p k) e)
 
-    row : (k : ℕ) → k < m → sum m (λ v. hit k v) ≡ f (p k)
+    row : (k : ℕ) → k < m → sum n (λ v. hit k v) ≡ f (p k)
     row k l =
-        sum-ext m (λ v. hit k v) (λ v. cond (eqb v (p k)) (f (p k)) (pos 0)) (λ v _. same k v (ℕ-discrete v (p k)))
-        ∙ sum-one m (λ v. eqb v (p k)) (f (p k)) (p k) (h .within k l) (eq-eqb (p k) (p k) refl) (λ v _ ne. ne-eqb v (p k) ne)
+        sum-ext n (λ v. hit k v) (λ v. cond (eqb v (p k)) (f (p k)) (pos 0)) (λ v _. same k v (ℕ-discrete v (p k)))
+        ∙ sum-one n (λ v. eqb v (p k)) (f (p k)) (p k) (within k l) (eq-eqb (p k) (p k) refl) (λ v _ ne. ne-eqb v (p k) ne)
 
-    column : (v : ℕ) → v < m → sum m (λ k. hit k v) ≡ f v
-    column v l =
-        let r = onto m p h v l in
+    column : (v : ℕ) → v < n → Placed m p v ⊎ Unplaced m p v → sum m (λ k. hit k v) ≡ f v
+    column v l (inl r) =
         sum-one m (λ k. eqb v (p k)) (f v) (r .0) (r .1) (eq-eqb v (p (r .0)) (r .2))
-        (λ k lk ne. ne-eqb v (p k) (λ e. ne (h .distinct k (r .0) lk (r .1) (sym e ∙ r .2))))
+        (λ k lk ne. ne-eqb v (p k) (λ e. ne (distinct k (r .0) lk (r .1) (sym e ∙ r .2))))
+    column v l (inr u) = sum-none m (λ k. eqb v (p k)) (f v) (λ k lk. ne-eqb v (p k) (u k lk)) ∙ sym (rest v l u)
+
+-- so a sum over the places is the same in any order
+pub sum-permuted : (m : ℕ) (p : ℕ → ℕ) (f : ℕ → ℤ) → Permutes m p → sum m (λ k. f (p k)) ≡ sum m f
+sum-permuted m p f h =
+    sum-listed m m p f (h .within) (h .distinct) (λ v l u. let r = onto m p h v l in absurd (u (r .0) (r .1) (r .2)))

@@ -1,7 +1,7 @@
--- A system's row, as a part of all spins: its energy is the system's.
-use Prim.Native.Nat.{ℕ, _+_, _-_, _*_, _≤_, _<_}
+-- A system's row, as a part of all spins: its energy is the system's. Then what the tests show of such rows.
+use Prim.Native.Nat.{ℕ, _+_, _-_, _*_, _<_}
 use mathlib.Core.Path.{_≡_, ap}
-use mathlib.Core.List.{List}
+use mathlib.Core.List.{List, []}
 use native.Mathlib.Nat.{mul-le-mul-right, suc-mul}
 use native.Mathlib.Omega.{arith}
 use lib.ListN.{length, getD, take, drop, length-take, length-drop}
@@ -9,15 +9,12 @@ use lib.Seq.{getD-drop, getD-take}
 use lib.IntN.{ℤ, pos, negℤ, _*ℤ_}
 use Rattle.lemmas.specs.Sums.{sum-ext}
 use Rattle.paper.specs.Panel.Input.{Lattice, spin, aheadOf}
+use Rattle.paper.specs.Panel.Made.{latticeOf}
 use Rattle.paper.specs.Refusal.Rule.{Kept}
 use Rattle.paper.specs.Refusal.Rules.{Sizes, AllSystems, Spins, Inverse, SmallCouplings}
 use Rattle.paper.specs.Site.Energy.{energy}
 use Rattle.paper.specs.Answer.Meter.{MeterExact, meterRules}
-use Rattle.meter.specs.Row.{Lengths, Row, bondTerm, rowSum}
-
--- the lattice that is lent
-abbrev pub latticeOf : ℕ → ℕ → ℕ → List ℕ → List ℕ → List ℤ → Lattice
-latticeOf n d s fwd bwd couplings = record { n = n; d = d; s = s; fwd = fwd; bwd = bwd; couplings = couplings }
+use Rattle.meter.specs.Row.{Lengths, Row, RowAt, bondTerm, rowSum}
 
 -- the lengths as numbers, and of the lists
 abbrev pub LengthsOf : Lattice → List ℤ → Type 0
@@ -29,50 +26,69 @@ exact-of t xs h = record { spins = h .spins-is; fwd = h .fwd-is; bwd = h .bwd-is
 pub exact-lengths : (t : Lattice) (xs : List ℤ) → MeterExact t xs → LengthsOf t xs
 exact-lengths t xs h = record { spins-is = h .spins; fwd-is = h .fwd; bwd-is = h .bwd; couplings-is = h .couplings }
 
--- an accepted input
-pub record Accepted (t : Lattice) (xs : List ℤ) (k : ℕ) : Type 0 where
-  pub sizes : Sizes (t .n) (t .d) (t .s)
-  pub exact : MeterExact t xs
-  pub spins : Spins (t .n) (AllSystems (t .s)) xs
-  pub inverse : Inverse (t .n) (t .d) (t .fwd) (t .bwd)
-  pub system : k < t .s
-  pub small : SmallCouplings (t .couplings)
+-- the lattice as the energy looks at it
+abbrev pub metered : ℕ → ℕ → List ℕ → List ℤ → Lattice
+metered n d fwd js = latticeOf n d 0 fwd [] js
 
-pub accepted-kept : (t : Lattice) (xs : List ℤ) (k : ℕ) → Accepted t xs k → Kept (meterRules t xs k)
-accepted-kept t xs k h = (h .sizes, (h .exact, (h .spins, (h .inverse, (h .system, (h .small, tt))))))
-
-module _ (t : Lattice) (xs : List ℤ) (k : ℕ) (h : Accepted t xs k) where
-  -- the row ends inside
-  pub row-end : k * t .n + t .n ≤ length xs
-  row-end = omega (arith, h .exact .spins, suc-mul k (t .n), mul-le-mul-right (t .n) (h .system))
-
+module _ (n d : ℕ) (fwd : List ℕ) (js xs : List ℤ) (k : ℕ) (h : RowAt n d fwd js xs k) where
   abbrev row : List ℤ
-  row = take (k * t .n + t .n - k * t .n) (drop (k * t .n) xs)
+  row = take (k * n + n - k * n) (drop (k * n) xs)
 
-  row-long : length row ≡ t .n
-  row-long = simp (length-take, length-drop) (omega (arith, row-end))
+  row-long : length row ≡ n
+  row-long = simp (length-take, length-drop) (omega (arith, h .ends))
 
-  row-at : (i : ℕ) → i < t .n → getD row i (pos 0) ≡ spin (t .n) xs k i
-  row-at i l = let m : i < k * t .n + t .n - k * t .n = omega arith in rw (getD-take, getD-drop)
+  row-at : (i : ℕ) → i < n → getD row i (pos 0) ≡ spin n xs k i
+  row-at i l = let m : i < k * n + n - k * n = omega arith in rw (getD-take, getD-drop)
 
-  pub row-of : Row (t .n) (t .d) (t .fwd) (t .couplings) row
+  pub row-of : Row n d fwd js row
   row-of = record {
-    n-high = h .sizes .n-high;
-    d-high = h .sizes .d-high;
+    n-high = h .n-high;
+    d-high = h .d-high;
     long = row-long;
-    fwd-long = h .exact .fwd;
-    js-long = h .exact .couplings;
-    inside = λ i e li le. h .inverse .there i e li le .inside;
+    fwd-long = h .fwd-long;
+    js-long = h .js-long;
+    inside = h .inside;
     small = h .small;
-    spins = λ i l. rw (row-at i l) (h .spins k i (h .system) l);
+    spins = λ i l. rw (row-at i l) (h .spins i l);
   }
 
   -- the bond (i, e) as the paper has it
   abbrev paperBond : ℕ → ℕ → ℤ
-  paperBond i e = getD (t .couplings) (i * t .d + e) (pos 0) *ℤ spin (t .n) xs k i *ℤ spin (t .n) xs k (aheadOf t i e)
+  paperBond i e = getD js (i * d + e) (pos 0) *ℤ spin n xs k i *ℤ spin n xs k (aheadOf (metered n d fwd js) i e)
 
-  pub energy-of : negℤ (rowSum (t .n) (t .d) (t .fwd) (t .couplings) row) ≡ energy t xs k
-  energy-of = ap negℤ (sum-ext (t .n) _ _ (λ i li. sum-ext (t .d) _ _ (λ e le. term i e li le)))
+  pub energy-of : negℤ (rowSum n d fwd js row) ≡ energy (metered n d fwd js) xs k
+  energy-of = ap negℤ (sum-ext n _ _ (λ i li. sum-ext d _ _ (λ e le. term i e li le)))
     where
-      term : (i e : ℕ) → i < t .n → e < t .d → bondTerm (t .d) (t .fwd) (t .couplings) row i e ≡ paperBond i e
-      term i e li le = rw (row-at i li, row-at (aheadOf t i e) (h .inverse .there i e li le .inside))
+      term : (i e : ℕ) → i < n → e < d → bondTerm d fwd js row i e ≡ paperBond i e
+      term i e li le = rw (row-at i li, row-at (aheadOf (metered n d fwd js) i e) (h .inside i e li le))
+
+-- ---- from the rules
+
+-- what the meter and the hand-over both ask
+pub record Sound (t : Lattice) (xs : List ℤ) : Type 0 where
+  pub sizes : Sizes (t .n) (t .d) (t .s)
+  pub exact : MeterExact t xs
+  pub spins : Spins (t .n) (AllSystems (t .s)) xs
+  pub inverse : Inverse (t .n) (t .d) (t .fwd) (t .bwd)
+  pub small : SmallCouplings (t .couplings)
+
+module _ (t : Lattice) (xs : List ℤ) (h : Sound t xs) where
+  pub sound-row : (k : ℕ) → k < t .s → RowAt (t .n) (t .d) (t .fwd) (t .couplings) xs k
+  sound-row k l = record {
+    n-high = h .sizes .n-high;
+    d-high = h .sizes .d-high;
+    ends = omega (arith, h .exact .spins, suc-mul k (t .n), mul-le-mul-right (t .n) l);
+    fwd-long = h .exact .fwd;
+    js-long = h .exact .couplings;
+    inside = λ i e li le. h .inverse .there i e li le .inside;
+    small = h .small;
+    spins = λ i li. h .spins k i l li;
+  }
+
+  pub meter-kept : (k : ℕ) → k < t .s → Kept (meterRules t xs k)
+  meter-kept k l = (h .sizes, (h .exact, (h .spins, (h .inverse, (l, (h .small, tt))))))
+
+-- the rows of all s systems, and a total for each
+pub record Handed (n d s : ℕ) (fwd : List ℕ) (js xs ts : List ℤ) : Type 0 where
+  pub totals-long : length ts ≡ s
+  pub rows : (k : ℕ) → k < s → RowAt n d fwd js xs k

@@ -5,6 +5,7 @@ use mathlib.Core.List.{List}
 use lib.ListN.{length, getD}
 use lib.IntN.{ℤ, pos, natAbs, _*ℤ_}
 use Rattle.lemmas.specs.Sums.{sum}
+use Rattle.paper.specs.Panel.Input.{spin}
 use Rattle.paper.specs.Refusal.Rules.{Spin, SmallCouplings}
 
 -- the lengths that are asked, as numbers
@@ -24,6 +25,17 @@ pub record Row (n d : ℕ) (fwd : List ℕ) (js row : List ℤ) : Type 0 where
   pub inside : (i e : ℕ) → i < n → e < d → getD fwd (i * d + e) 0 < n
   pub small : SmallCouplings js
   pub spins : (i : ℕ) → i < n → Spin (getD row i (pos 0))
+
+-- the system k's row among all spins
+pub record RowAt (n d : ℕ) (fwd : List ℕ) (js xs : List ℤ) (k : ℕ) : Type 0 where
+  pub n-high : n ≤ 4096
+  pub d-high : d ≤ 4
+  pub ends : k * n + n ≤ length xs
+  pub fwd-long : length fwd ≡ n * d
+  pub js-long : length js ≡ n * d
+  pub inside : (i e : ℕ) → i < n → e < d → getD fwd (i * d + e) 0 < n
+  pub small : SmallCouplings js
+  pub spins : (i : ℕ) → i < n → Spin (spin n xs k i)
 
 pub record RowSite (n d : ℕ) (fwd : List ℕ) (js row : List ℤ) (i : ℕ) : Type 0 where
   pub of : Row n d fwd js row

@@ -1,11 +1,16 @@
-// The energy meter.
+// The energy meter, and the hand-over of totals that are held against it.
 ghost use mathlib.Core.Path.{_≡_};
+ghost use mathlib.Core.List.{[]};
 ghost use lib.IntN.{_*ℤ_};
 ghost use Rattle.lemmas.specs.Tells.{Tells};
 ghost use Rattle.paper.specs.Refusal.Rules.{Sizes};
 ghost use Rattle.paper.specs.Answer.Meter.{MeterAnswers};
-ghost use Rattle.meter.specs.Part.{latticeOf};
-ghost use Rattle.meter.specs.Row.{Lengths, Row, RowSite, RowBond, RowSum, Bond, bondTerm, siteTerm};
+ghost use Rattle.paper.specs.Answer.Totals.{Current, handOverRules};
+ghost use Rattle.paper.specs.Panel.Made.{latticeOf};
+ghost use Rattle.paper.specs.Refusal.Verdict.{Verdict};
+ghost use Rattle.paper.specs.Site.Energy.{energy};
+ghost use Rattle.meter.specs.Part.{Handed, metered};
+ghost use Rattle.meter.specs.Row.{Lengths, Row, RowAt, RowSite, RowBond, RowSum, Bond, bondTerm, siteTerm};
 use lemmas::wide;
 use paper::MeterAnswer;
 
@@ -67,6 +72,15 @@ fn row_sum(n: usize, d: usize, fwd: &[u32], js: &[i32], row: &[i8]) -> i64
     total
 }
 
+fn system_energy(n: usize, d: usize, fwd: &[u32], js: &[i32], spins: &[i8], t: usize) -> i64
+    requires { ⌜ RowAt n d (now fwd) (now js) (now spins) t ⌝ }
+    ensures { λ r. ⌜ r ≡ energy (metered n d (now (fwd .entry)) (now (js .entry))) (now (spins .entry)) t ⌝ }
+{
+    let a = t * n;
+    let e = a + n;
+    0 - row_sum(n, d, fwd, js, &spins[a..e])
+}
+
 pub fn energy(
     n: usize,
     d: usize,
@@ -97,7 +111,61 @@ pub fn energy(
     if !lattice::couplings_ok(couplings) {
         return MeterAnswer::Unmetered(6);
     }
-    let a = system * n;
-    let e = a + n;
-    MeterAnswer::Energy(0 - row_sum(n, d, fwd, couplings, &spins[a..e]))
+    MeterAnswer::Energy(system_energy(n, d, fwd, couplings, spins, system))
+}
+
+fn all_current(
+    n: usize,
+    d: usize,
+    s: usize,
+    fwd: &[u32],
+    js: &[i32],
+    spins: &[i8],
+    totals: &[i64],
+) -> bool
+    requires { ⌜ Handed n d s (now fwd) (now js) (now spins) (now totals) ⌝ }
+    ensures { λ r. ⌜ Tells r (Current (latticeOf n d s (now (fwd .entry)) [] (now (js .entry))) (now (spins .entry)) (now (totals .entry))) ⌝ }
+{
+    let mut ok = true;
+    let mut t = 0;
+    while t < s {
+        ok = ok & (system_energy(n, d, fwd, js, spins, t) == totals[t]);
+        t += 1;
+    }
+    ok
+}
+
+// Whether each total is its system's energy: the number of the first test that fails, or 0.
+pub fn hand_over(
+    n: usize,
+    d: usize,
+    s: usize,
+    spins: &[i8],
+    totals: &[i64],
+    fwd: &[u32],
+    bwd: &[u32],
+    couplings: &[i32],
+) -> u8
+    ensures { λ r. ⌜ Verdict (handOverRules (latticeOf n d s (now (fwd .entry)) (now (bwd .entry)) (now (couplings .entry)))
+        (now (spins .entry)) (now (totals .entry))) r ⌝ }
+{
+    if !lattice::sizes_ok(n, d, s) {
+        return 1;
+    }
+    if !(exact(n, d, s, spins.len(), fwd.len(), bwd.len(), couplings.len()) & (totals.len() == s)) {
+        return 2;
+    }
+    if !lattice::spins_ok(spins) {
+        return 3;
+    }
+    if !lattice::tables_ok(n, d, fwd, bwd) {
+        return 4;
+    }
+    if !lattice::couplings_ok(couplings) {
+        return 6;
+    }
+    if !all_current(n, d, s, fwd, couplings, spins, totals) {
+        return 14;
+    }
+    0
 }

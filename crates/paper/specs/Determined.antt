@@ -6,9 +6,10 @@ use lib.Ieee.{Float}
 use Rattle.lemmas.specs.Determined.{one-value}
 use Rattle.paper.specs.declared.Mode.{Mode}
 use Rattle.paper.specs.declared.Form.{Form}
+use Rattle.paper.specs.declared.Keeps.{Keeps}
 use Rattle.paper.specs.declared.Sampler.{Sampler}
 use Rattle.paper.specs.Panel.Takes.{isPerm, isGperm, isCmr, isDrawn, isSw, oneCluster, growsBy, labelsBy, moves, flipsBy, permsBy, choicesBy, greysBy}
-use Rattle.paper.specs.Panel.Takes.{greyLabelsBy, entries, choiceWidth}
+use Rattle.paper.specs.Panel.Takes.{greyLabelsBy, keepsBy, entries, choiceWidth}
 use Rattle.paper.specs.Site.Bonds.{samplerOf}
 
 pub new-determined : (t : Float) (a b : Sampler) → a ≡ samplerOf t → b ≡ samplerOf t → a ≡ b
@@ -61,3 +62,6 @@ takes-grey-labels-determined m f a b = one-value
 
 pub entries-determined : (f : Form) (n a b : ℕ) → a ≡ entries f n → b ≡ entries f n → a ≡ b
 entries-determined f n a b = one-value
+
+pub totals-determined : (k : Keeps) (f : Form) (a b : Bool) → a ≡ keepsBy k f → b ≡ keepsBy k f → a ≡ b
+totals-determined k f a b = one-value

@@ -2,7 +2,7 @@
 ghost use mathlib.Core.Path.{_≡_};
 ghost use Rattle.paper.specs.Site.Bonds.{samplerOf};
 ghost use Rattle.paper.specs.Panel.Takes.{isPerm, isGperm, isCmr, isDrawn, isSw, oneCluster, growsBy, labelsBy, moves};
-ghost use Rattle.paper.specs.Panel.Takes.{flipsBy, permsBy, choicesBy, greysBy, greyLabelsBy, entries, choiceWidth};
+ghost use Rattle.paper.specs.Panel.Takes.{flipsBy, permsBy, choicesBy, greysBy, greyLabelsBy, keepsBy, entries, choiceWidth};
 
 // A group: its size and up to eight system numbers.
 pub struct Group {
@@ -191,10 +191,29 @@ impl Form {
     }
 }
 
+// What a move keeps beside the spins: nothing, or each system's energy.
+pub enum Keeps {
+    Nothing,
+    Totals,
+}
+
+impl Keeps {
+    // Keeps totals. To observe moves nothing, and keeps none.
+    pub fn totals(self, form: Form) -> bool
+        ensures { λ r. ⌜ r ≡ keepsBy self form ⌝ }
+    {
+        match self {
+            Keeps::Nothing => false,
+            Keeps::Totals => form.moves(),
+        }
+    }
+}
+
 // The numbers of one move: all that it is handed by value.
 pub struct Task {
     pub mode: Mode,
     pub form: Form,
+    pub keeps: Keeps,
     pub n: usize,
     pub d: usize,
     pub s: usize,
@@ -208,6 +227,7 @@ pub struct Task {
 pub struct Plan {
     pub mode: Mode,
     pub form: Form,
+    pub keeps: Keeps,
     pub n: usize,
     pub d: usize,
     pub s: usize,

@@ -1,4 +1,5 @@
-// One case's call, and the comparison of all that it wrote. The outputs hold 65,535 before the call, as in the list, which has no form that grows.
+// One case's call, and the comparison of all that it wrote. The outputs hold 65,535 before the call, as in the list, which has no form that grows
+// and keeps no totals.
 use crate::fields::Seen;
 use crate::fields::byte;
 use crate::fields::fill_fractions;
@@ -18,6 +19,7 @@ use crate::head::mode_of;
 use crate::head::sizes_of;
 use paper::Answer;
 use paper::Group;
+use paper::Keeps;
 use paper::Plan;
 use paper::SweepAnswer;
 use paper::Task;
@@ -123,6 +125,7 @@ fn task_of(list: &[u8], from: usize, at: usize, a: usize, b: usize, h: Head, z: 
     Task {
         mode: mode_of(h),
         form: form_of(h),
+        keeps: Keeps::Nothing,
         n: h.n,
         d: h.d,
         s: h.s,
@@ -137,6 +140,7 @@ fn plan_of(h: Head) -> Plan {
     Plan {
         mode: mode_of(h),
         form: form_of(h),
+        keeps: Keeps::Nothing,
         n: h.n,
         d: h.d,
         s: h.s,
@@ -164,6 +168,7 @@ pub(crate) fn step(
     let mut counts_area = [65535u32; 36];
     let mut sizes_area = [65535u32; 16];
     let mut members = [0u8; 1];
+    let mut totals = [0i64; 1];
     let bonds = z.cuts;
     let sites = z.labels;
     let grey_sites = z.grey_labels;
@@ -181,6 +186,7 @@ pub(crate) fn step(
     let answer = steps::overlap_step(
         task_of(list, from, at, a, b, h, z),
         spins,
+        &mut totals[..0],
         fwd,
         bwd,
         couplings,
@@ -220,6 +226,7 @@ fn update(
     let mut counts_area = [65535u32; 36];
     let mut sizes_area = [65535u32; 16];
     let mut members = [0u8; 1];
+    let mut totals = [0i64; 1];
     let sites = z.labels;
     let grey_sites = z.grey_labels;
     let more = z.counts;
@@ -232,6 +239,7 @@ fn update(
     let answer = sweep::overlap_update(
         plan_of(h),
         spins,
+        &mut totals[..0],
         fwd,
         bwd,
         couplings,

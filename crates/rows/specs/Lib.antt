@@ -8,3 +8,4 @@ pub mod Refused
 pub mod Slips
 pub mod SweepRefused
 pub mod Swept
+pub mod Totals

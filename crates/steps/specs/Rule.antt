@@ -3,6 +3,7 @@ use Prim.Native.Nat.{ℕ}
 use lib.Ieee.{Float}
 use Rattle.paper.specs.declared.Group.{Group}
 use Rattle.paper.specs.declared.Form.{Form}
+use Rattle.paper.specs.declared.Keeps.{Keeps}
 use Rattle.paper.specs.declared.Task.{Task}
 use Rattle.paper.specs.declared.Mode.{Mode}
 use Rattle.paper.specs.declared.Mode.the-variants.{Houd, Pair, Perm, Gperm}
@@ -15,10 +16,11 @@ modeOf Pairwise = Pair
 modeOf Permutation = Perm
 modeOf GaugedPermutation = Gperm
 
-abbrev pub taskOf : Mode → Form → ℕ → ℕ → ℕ → Group → Float → ℕ → ℕ → Task
-taskOf mode form n d s group temperature reference seed = record {
+abbrev pub taskOf : Mode → Form → Keeps → ℕ → ℕ → ℕ → Group → Float → ℕ → ℕ → Task
+taskOf mode form keeps n d s group temperature reference seed = record {
   mode = mode;
   form = form;
+  keeps = keeps;
   n = n;
   d = d;
   s = s;

@@ -1,68 +1,106 @@
 -- From the verdicts of the tests to a move's answer.
-use Prim.Native.Nat.{ℕ, zero, suc}
-use mathlib.Core.Path.{_≡_, refl}
-use mathlib.Core.List.{List, [], _∷_}
+use Prim.Native.Nat.{ℕ, zero, suc, _*_, _<_, _≤_}
+use mathlib.Core.Path.{_≡_, refl, sym, _∙_}
+use mathlib.Core.Bool.{Bool}
+use mathlib.Core.List.{List, [], _∷_, _++_}
 use native.Mathlib.Omega.{arith}
 use lib.ListN.{length}
+use lib.IntN.{ℤ, natAbs}
+use Rattle.paper.specs.declared.Answer.{Answer}
+use Rattle.paper.specs.declared.Answer.the-variants.{Refused, Idle, Moved}
+use Rattle.paper.specs.declared.Lengths.{Lengths}
 use Rattle.paper.specs.declared.Task.{Task}
-use Rattle.paper.specs.declared.Answer.the-variants.{Refused}
-use Rattle.paper.specs.Panel.Input.{Call, Choices, Buffers}
-use Rattle.paper.specs.Refusal.Rule.{Rule, Kept, Broken}
-use Rattle.paper.specs.Refusal.Rules.{lengthsOf, choiceRules}
-use Rattle.paper.specs.Refusal.Kept.{Sound, Valid, fit-of}
-use Rattle.paper.specs.Refusal.Verdict.{Verdict, broken-first, broken-later}
+use Rattle.paper.specs.Panel.Input.{Call, Choices, Buffers, member}
+use Rattle.paper.specs.Panel.Takes.{keepsBy}
+use Rattle.paper.specs.Refusal.Rule.{Rule, rule, Kept, Broken, broken-not-kept}
+use Rattle.paper.specs.Refusal.Rules.{When, rules, choiceRules}
+use Rattle.paper.specs.Refusal.Kept.{Valid, valid-kept}
+use Rattle.paper.specs.Refusal.Verdict.{Verdict, broken-first}
 use Rattle.paper.specs.Answer.Move.{Answers}
+use Rattle.paper.specs.Answer.Totals.{total, SmallTotals, keptRules, TotalsAsked, kept-valid, kept-asked, TotalsReady, TotalsAfter, KeepAnswers}
 use Rattle.tests.specs.Panel.{panelRules}
 use Rattle.tests.specs.Choices.{Tested, rows-inside, rows-spins}
-use Rattle.steps.specs.Rule.{taskOf}
+
+-- l has the lengths of what the tests look at
+pub record Measured (spins : List ℤ) (fwd bwd : List ℕ) (couplings : List ℤ) (choices greys : List ℕ) (l : Lengths) : Type 0 where
+  pub spins-is : l .spins ≡ length spins
+  pub fwd-is : l .fwd ≡ length fwd
+  pub bwd-is : l .bwd ≡ length bwd
+  pub couplings-is : l .couplings ≡ length couplings
+  pub choices-is : l .choices ≡ length choices
+  pub greys-is : l .greys ≡ length greys
+
+-- every test of the call c of the task t, of buffers that have the lengths l: 1 to 7, 8 to 10, 14
+abbrev pub soundRules : Task → Call → List ℤ → List ℤ → Lengths → List Rule
+soundRules t c xs ts l = panelRules t xs ts (c .lattice .fwd) (c .lattice .bwd) (c .lattice .couplings) l
+
+abbrev pub totalRules : Task → List ℤ → List Rule
+totalRules t ts = rule 14 (When (keepsBy (t .keeps) (t .form)) (SmallTotals ts)) ∷ []
+
+abbrev pub callRules : Task → Call → Choices → List ℤ → List ℤ → Lengths → List Rule
+callRules t c p xs ts l = soundRules t c xs ts l ++ (choiceRules c p xs ++ totalRules t ts)
+
+-- ---- verdicts
 
 pub verdict-broken : (rs : List Rule) (r : ℕ) → (r ≡ 0 → ⊥) → Verdict rs r → Broken rs r
 verdict-broken rs zero e v = absurd (e refl)
 verdict-broken rs (suc r) e v = v
 
--- the numbers of a call, and tests 1 to 7 of it
-abbrev pub taskIn : Call → Task
-taskIn c = taskOf (c .mode) (c .form) (c .lattice .n) (c .lattice .d) (c .lattice .s) (c .group) (c .temperature) (c .reference) (c .seed)
-
-abbrev pub soundRules : Call → Choices → Buffers → List Rule
-soundRules c p b = panelRules (taskIn c) (b .spins) (c .lattice .fwd) (c .lattice .bwd) (c .lattice .couplings) (lengthsOf c p b)
-
-pub sound-of : (c : Call) (p : Choices) (b : Buffers) → Kept (soundRules c p b) → Sound c p b
-sound-of c p b k = record {
-  ranged = k .0;
-  exact = k .1 .0;
-  spins = k .1 .1 .0;
-  inverse = k .1 .1 .1 .0;
-  grouped = k .1 .1 .1 .1 .0;
-  couplings = k .1 .1 .1 .1 .1 .0;
-  warm = k .1 .1 .1 .1 .1 .1 .0;
-}
+pub verdict-first : (rs qs : List Rule) (r : ℕ) → (r ≡ 0 → ⊥) → Verdict rs r → Verdict (rs ++ qs) r
+verdict-first rs qs zero e v = absurd (e refl)
+verdict-first rs qs (suc r) e v = broken-first rs qs (suc r) v
 
 -- what tests 8 to 10 lean on
-pub tested-of : (c : Call) (p : Choices) (b : Buffers) → Sound c p b → Tested (taskIn c) (b .spins) (p .choices) (p .greys)
-tested-of c p b s =
-    let n = c .lattice .n in
-    record {
-      n-low = s .ranged .lattice .n-low;
-      n-high = s .ranged .lattice .n-high;
-      size-low = s .ranged .size-low;
-      size-high = s .ranged .size-high;
-      inside = rows-inside n (c .lattice .s) (c .group) (b .spins) (s .exact .spins) (s .grouped .below);
-      spins = rows-spins n (c .lattice .s) (c .group) (b .spins) (s .exact .spins) (s .grouped .below) (s .spins);
-      choices-long = s .exact .choices;
-      greys-long = s .exact .greys;
-    }
+module _ (t : Task) (c : Call) (p : Choices) (xs ts : List ℤ) (l : Lengths) where
+  pub tested-of :
+      Measured xs (c .lattice .fwd) (c .lattice .bwd) (c .lattice .couplings) (p .choices) (p .greys) l
+      → Kept (soundRules t c xs ts l)
+      → Tested t xs (p .choices) (p .greys)
+  tested-of m k =
+      let ranged = k .0 in
+      let fits = k .1 .0 in
+      let spins = k .1 .1 .1 .0 in
+      let grouped = k .1 .1 .1 .1 .1 .0 in
+      let long : length xs ≡ t .s * t .n = sym (m .spins-is) ∙ fits .spins in
+      record {
+        n-low = ranged .lattice .n-low;
+        n-high = ranged .lattice .n-high;
+        size-low = ranged .size-low;
+        size-high = ranged .size-high;
+        inside = rows-inside (t .n) (t .s) (t .group) xs long (grouped .below);
+        spins = rows-spins (t .n) (t .s) (t .group) xs long (grouped .below) spins;
+        choices-long = λ e. sym (m .choices-is) ∙ fits .choices e;
+        greys-long = λ e. sym (m .greys-is) ∙ fits .greys e;
+      }
 
-pub valid-by : (c : Call) (p : Choices) (b : Buffers) → Kept (soundRules c p b) → Kept (choiceRules c p (b .spins)) → Valid c p b
-valid-by c p b k q = record { sound = sound-of c p b k; fit = fit-of c p (b .spins) q }
+-- ---- an answer
+module _ (keeping : Bool) (c : Call) (p : Choices) (b : Buffers) (ts : List ℤ) where
+  pub refused-by : (r : ℕ) → Broken (keptRules keeping c p b ts) r → KeepAnswers keeping c p b ts (Refused r) b ts
+  refused-by r w = record { why = w; kept = refl; totals-kept = refl }
 
--- a refusal by the one and by the other
-pub refused-panel : (c : Call) (p : Choices) (b : Buffers) (r : ℕ) → Broken (soundRules c p b) r → Answers c p b (Refused r) b
-refused-panel c p b r w = record { why = broken-first (soundRules c p b) (choiceRules c p (b .spins)) r w; kept = refl }
+  -- the group's totals are among all, which are small
+  pub ready-of : Kept (keptRules keeping c p b ts) → TotalsReady keeping (c .lattice) (c .group) ts
+  ready-of k = record { lengths = a .lengths; couplings = a .couplings; small = small }
+    where
+      a : TotalsAsked keeping (c .lattice) ts
+      a = kept-asked keeping c p b ts k
 
-pub refused-choices : (c : Call) (p : Choices) (b : Buffers) (r : ℕ) → Kept (soundRules c p b) → Broken (choiceRules c p (b .spins)) r
-    → Answers c p b (Refused r) b
-refused-choices c p b r k w = record { why = broken-later (soundRules c p b) (choiceRules c p (b .spins)) r k w; kept = refl }
+      v : Valid c p b
+      v = kept-valid keeping c p b ts k
+
+      small : When keeping ((j : ℕ) → j < c .group .len → natAbs (total ts (member (c .group) j)) ≤ 16384000000)
+      small e j h = a .small e (member (c .group) j) (rw (sym (a .lengths e .totals)) at (v .sound .grouped .below j h))
+
+  pub accepted-by :
+      (a : Answer) (b′ : Buffers) (ts′ : List ℤ)
+      → Kept (keptRules keeping c p b ts)
+      → Answers c p b a b′
+      → TotalsAfter keeping (c .lattice) (b .spins) ts (b′ .spins) ts′
+      → KeepAnswers keeping c p b ts a b′ ts′
+  accepted-by (Refused r) b′ ts′ k f u =
+      absurd (broken-not-kept (rules c p b) _ (f .why) (valid-kept c p b (kept-valid keeping c p b ts k)))
+  accepted-by Idle b′ ts′ k f u = record { valid = k; answers = f; totals = u }
+  accepted-by Moved b′ ts′ k f u = record { valid = k; answers = f; totals = u }
 
 pub empty : (xs : List ℕ) → length xs ≡ 0 → xs ≡ []
 empty [] e = refl

@@ -2,16 +2,22 @@
 use paper::Answer;
 use paper::Form;
 use paper::Group;
+use paper::Keeps;
 use paper::Lengths;
 use paper::Mode;
 use paper::Task;
 ghost use mathlib.Core.Path.{_≡_};
 ghost use mathlib.Core.List.{[]};
 ghost use Rattle.paper.specs.declared.Mode.the-variants.{Jorg, Cmr};
+ghost use Rattle.paper.specs.declared.Keeps.the-variants.{Nothing};
 ghost use Rattle.paper.specs.Site.Bonds.{whole};
+ghost use Rattle.paper.specs.Refusal.Verdict.{Verdict};
 ghost use Rattle.paper.specs.Answer.Move.{Answers};
+ghost use Rattle.paper.specs.Answer.Totals.{KeepAnswers};
 ghost use Rattle.paper.specs.Panel.Made.{callOf, choicesOf, buffersOf};
+ghost use Rattle.paper.specs.Panel.Takes.{keepsBy};
 ghost use Rattle.steps.specs.Rule.{modeOf, taskOf};
+ghost use Rattle.steps.specs.Step.{Measured, callRules};
 
 // The rules that need no drawn bond, under their published names.
 pub enum ActiveRule {
@@ -32,10 +38,49 @@ fn mode_of(rule: ActiveRule) -> Mode
     }
 }
 
-// One move or observation in any mode and form. An input that the mode and form do not take is ignored, whatever it holds.
+// The number of the first test that fails, or 0: the panel's, the task's own, and last those on the totals.
+fn test_call(
+    t: Task,
+    spins: &[i8],
+    totals: &[i64],
+    fwd: &[u32],
+    bwd: &[u32],
+    couplings: &[i32],
+    cuts: &[f32],
+    choices: &[u8],
+    greys: &[u8],
+    l: Lengths,
+) -> u8
+    requires { ⌜ Measured (now spins) (now fwd) (now bwd) (now couplings) (now choices) (now greys) l ⌝ }
+    ensures { λ r. ⌜ Verdict
+        (callRules t
+        (callOf t (now (fwd .entry)) (now (bwd .entry)) (now (couplings .entry)) (now (cuts .entry)))
+        (choicesOf (now (choices .entry)) (now (greys .entry)))
+        (now (spins .entry)) (now (totals .entry)) l)
+        r ⌝ }
+{
+    let panel = tests::panel::test_panel(t, spins, totals, fwd, bwd, couplings, l);
+    if panel != 0 {
+        return panel;
+    }
+    let own = tests::choices::test_choices(t, spins, cuts, choices, greys);
+    if own != 0 {
+        return own;
+    }
+    let keeps = t.keeps;
+    let form = t.form;
+    if !lattice::totals_fit(keeps.totals(form), totals) {
+        return 14;
+    }
+    0
+}
+
+// One move or observation in any mode and form. An input that the mode and form do not take is ignored, whatever it holds, and so are totals that are
+// not kept.
 pub fn overlap_step(
     t: Task,
     spins: &mut [i8],
+    totals: &mut [i64],
     fwd: &[u32],
     bwd: &[u32],
     couplings: &[i32],
@@ -48,14 +93,17 @@ pub fn overlap_step(
     sizes: &mut [u32],
     members: &mut [u8],
 ) -> Answer
-    ensures { λ r. ⌜ Answers
+    ensures { λ r. ⌜ KeepAnswers
+        (keepsBy (t .keeps) (t .form))
         (callOf t (now (fwd .entry)) (now (bwd .entry)) (now (couplings .entry)) (now (cuts .entry)))
         (choicesOf (now (choices .entry)) (now (greys .entry)))
         (buffersOf (now (spins .entry)) (now (labels .entry)) (now («grey_labels» .entry)) (now (counts .entry)) (now (sizes .entry))
         (now (members .entry)))
+        (now (totals .entry))
         r
         (buffersOf (now (spins .exit)) (now (labels .exit)) (now («grey_labels» .exit)) (now (counts .exit)) (now (sizes .exit))
-        (now (members .exit))) ⌝ }
+        (now (members .exit)))
+        (now (totals .exit)) ⌝ }
 {
     let l = Lengths {
         spins: spins.len(),
@@ -71,21 +119,25 @@ pub fn overlap_step(
         sizes: sizes.len(),
         members: members.len(),
     };
-    let fault = tests::panel::test_panel(t, spins, fwd, bwd, couplings, l);
+    let fault = test_call(
+        t,
+        spins,
+        totals,
+        fwd,
+        bwd,
+        couplings,
+        cuts,
+        choices,
+        greys,
+        l,
+    );
     if fault != 0 {
         return Answer::Refused(fault);
     }
-    let unfit = tests::choices::test_choices(t, spins, cuts, choices, greys);
-    if unfit != 0 {
-        return Answer::Refused(unfit);
-    }
-    let form = t.form;
-    if form.grows() {
-        return grow::run_grow(t, spins, fwd, bwd, couplings, cuts, choices, greys, members);
-    }
-    moves::run_task(
+    perform::run_form(
         t,
         spins,
+        totals,
         fwd,
         bwd,
         couplings,
@@ -96,6 +148,7 @@ pub fn overlap_step(
         grey_labels,
         counts,
         sizes,
+        members,
     )
 }
 
@@ -119,7 +172,7 @@ pub fn houdayer_step(
     members: &mut [u8],
 ) -> Answer
     ensures { λ r. ⌜ Answers
-        (callOf (taskOf (modeOf rule) form n d s group (whole 1) reference seed) (now (fwd .entry)) (now (bwd .entry)) [] [])
+        (callOf (taskOf (modeOf rule) form Nothing n d s group (whole 1) reference seed) (now (fwd .entry)) (now (bwd .entry)) [] [])
         (choicesOf (now (choices .entry)) [])
         (buffersOf (now (spins .entry)) (now (labels .entry)) [] (now (counts .entry)) (now (sizes .entry)) (now (members .entry)))
         r
@@ -127,11 +180,13 @@ pub fn houdayer_step(
 {
     let couplings = [0i32; 1];
     let cuts = [0.0f32; 1];
+    let mut totals = [0i64; 1];
     let mut grey_labels = [0u32; 1];
     let mode = mode_of(rule);
     let t = Task {
         mode,
         form,
+        keeps: Keeps::Nothing,
         n,
         d,
         s,
@@ -143,6 +198,7 @@ pub fn houdayer_step(
     overlap_step(
         t,
         spins,
+        &mut totals[..0],
         fwd,
         bwd,
         &couplings[..0],
@@ -178,16 +234,18 @@ pub fn jorg_step(
     members: &mut [u8],
 ) -> Answer
     ensures { λ r. ⌜ Answers
-        (callOf (taskOf Jorg form n d s group temperature 0 seed) (now (fwd .entry)) (now (bwd .entry)) (now (couplings .entry)) (now (cuts .entry)))
+        (callOf (taskOf Jorg form Nothing n d s group temperature 0 seed) (now (fwd .entry)) (now (bwd .entry)) (now (couplings .entry)) (now (cuts .entry)))
         (choicesOf (now (choices .entry)) [])
         (buffersOf (now (spins .entry)) (now (labels .entry)) [] (now (counts .entry)) (now (sizes .entry)) (now (members .entry)))
         r
         (buffersOf (now (spins .exit)) (now (labels .exit)) [] (now (counts .exit)) (now (sizes .exit)) (now (members .exit))) ⌝ }
 {
+    let mut totals = [0i64; 1];
     let mut grey_labels = [0u32; 1];
     let t = Task {
         mode: Mode::Jorg,
         form,
+        keeps: Keeps::Nothing,
         n,
         d,
         s,
@@ -199,6 +257,7 @@ pub fn jorg_step(
     overlap_step(
         t,
         spins,
+        &mut totals[..0],
         fwd,
         bwd,
         couplings,
@@ -236,7 +295,7 @@ pub fn cmr_step(
     members: &mut [u8],
 ) -> Answer
     ensures { λ r. ⌜ Answers
-        (callOf (taskOf Cmr form n d s group temperature 0 seed) (now (fwd .entry)) (now (bwd .entry)) (now (couplings .entry)) (now (cuts .entry)))
+        (callOf (taskOf Cmr form Nothing n d s group temperature 0 seed) (now (fwd .entry)) (now (bwd .entry)) (now (couplings .entry)) (now (cuts .entry)))
         (choicesOf (now (choices .entry)) (now (greys .entry)))
         (buffersOf (now (spins .entry)) (now (labels .entry)) (now («grey_labels» .entry)) (now (counts .entry)) (now (sizes .entry))
         (now (members .entry)))
@@ -244,9 +303,11 @@ pub fn cmr_step(
         (buffersOf (now (spins .exit)) (now (labels .exit)) (now («grey_labels» .exit)) (now (counts .exit)) (now (sizes .exit))
         (now (members .exit))) ⌝ }
 {
+    let mut totals = [0i64; 1];
     let t = Task {
         mode: Mode::Cmr,
         form,
+        keeps: Keeps::Nothing,
         n,
         d,
         s,
@@ -258,6 +319,7 @@ pub fn cmr_step(
     overlap_step(
         t,
         spins,
+        &mut totals[..0],
         fwd,
         bwd,
         couplings,

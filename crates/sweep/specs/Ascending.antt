@@ -25,7 +25,7 @@ use Rattle.laws.specs.AnswersLocal.{Rows, withSpins, valid-there, local}
 use Rattle.laws.specs.SweepTasks.{task-valid}
 use Rattle.laws.specs.SweepAscending.{tasks-apart, done}
 use Rattle.laws.specs.SweepCounts.{SaysIdle, counted-as}
-use Rattle.sweep.specs.Spinning.{spins-after}
+use Rattle.perform.specs.Spinning.{spins-after}
 
 -- ---- the two counts of the first K tasks
 abbrev pub isIdle : Sweep → List ℤ → ℕ → Bool
@@ -159,7 +159,7 @@ module _ (w : Sweep) (b : Buffers) (v : Kept (sweepRules w b)) where
         before k l q (no r) = h .each k (omega arith) q
 
     -- a task that has not run meets its rows as they were before the sweep
-    own-rows : (i : ℕ) → i < w .lattice .n → Agree (w .members) (pattern (taskCall w K) (b′ .spins) i) (pattern (taskCall w K) (b .spins) i)
+    pub own-rows : (i : ℕ) → i < w .lattice .n → Agree (w .members) (pattern (taskCall w K) (b′ .spins) i) (pattern (taskCall w K) (b .spins) i)
     own-rows i hi x hx =
         h .others i (system (taskCall w K) x) hi (λ k y l q hy e. let z = tasks-apart w b v K k x y below (omega arith) hx hy e in omega (arith, z))
 

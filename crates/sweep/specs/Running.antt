@@ -7,32 +7,34 @@ use mathlib.Core.List.{List}
 use lib.ListN.{length, take, drop}
 use lib.IntN.{ℤ}
 use lib.Ieee.{Float}
+use Rattle.paper.specs.declared.Keeps.{Keeps}
 use Rattle.paper.specs.declared.Task.{Task}
 use Rattle.paper.specs.declared.Answer.{Answer}
 use Rattle.paper.specs.declared.Answer.the-variants.{Refused, Idle, Moved}
-use Rattle.paper.specs.Panel.Input.{Call, Choices, Buffers}
-use Rattle.paper.specs.Panel.Takes.{growsBy, labelsBy, takesGreyLabels, entries, choiceBytes}
+use Rattle.paper.specs.Panel.Input.{Lattice, Call, Choices, Buffers}
+use Rattle.paper.specs.Panel.Takes.{keepsBy, growsBy, labelsBy, takesGreyLabels, entries, choiceBytes}
 use Rattle.paper.specs.Refusal.Kept.{Valid}
 use Rattle.paper.specs.Answer.Move.{Seen, Answers}
-use Rattle.paper.specs.Answer.Task.{Sweep, part, taskCall, taskChoices, areas}
+use Rattle.paper.specs.Answer.Task.{Sweep, part, groupOf, taskCall, taskChoices, areas}
 use Rattle.paper.specs.Answer.Sweep.{common, Unwritten}
-use Rattle.paper.specs.Panel.Made.{callOf, choicesOf, buffersOf}
+use Rattle.paper.specs.Panel.Made.{latticeOf, callOf, choicesOf, buffersOf}
+use Rattle.paper.specs.Answer.Totals.{TotalsReady, TotalsAfter}
 use Rattle.paper.specs.Answer.Made.{planOf}
 use Rattle.laws.specs.Forms.{by-form, labels-else, grows-else}
 use Rattle.laws.specs.Determined.{buffers-equal}
 use Rattle.tasks.specs.Plan.{Bounding, taskAt}
 use Rattle.tasks.specs.Parts.{back, lent-part, lent-length, back-length, back-own, back-other, back-same}
-use Rattle.sweep.specs.Spinning.{length-after}
+use Rattle.perform.specs.Spinning.{length-after}
 use Rattle.sweep.specs.Ascending.{Steps, unwritten-none}
 
 -- these inputs are the task's
-pub record Parts (w : Sweep) (k : ℕ) (t : Task) (cs : List Float) (ps gs : List ℕ) : Type 0 where
-  pub task : t ≡ taskAt (planOf w) (w .order) (w .temperatures) (w .references) (w .seeds) k
+pub record Parts (keeps : Keeps) (w : Sweep) (k : ℕ) (t : Task) (cs : List Float) (ps gs : List ℕ) : Type 0 where
+  pub task : t ≡ taskAt (planOf keeps w) (w .order) (w .temperatures) (w .references) (w .seeds) k
   pub cuts : cs ≡ part k (w .lattice .n * w .lattice .d) (w .cuts)
   pub choices : ps ≡ part k (choiceBytes (w .mode) (w .form) (w .lattice .n) (w .members)) (w .choices)
   pub greys : gs ≡ part k (entries (w .form) (w .lattice .n)) (w .greys)
 
-module _ {w : Sweep} {k : ℕ} {t : Task} {cs : List Float} {ps gs : List ℕ} (e : Parts w k t cs ps gs) where
+module _ {keeps : Keeps} {w : Sweep} {k : ℕ} {t : Task} {cs : List Float} {ps gs : List ℕ} (e : Parts keeps w k t cs ps gs) where
   abbrev callWith : Call
   callWith = callOf t (w .lattice .fwd) (w .lattice .bwd) (w .lattice .couplings) cs
 
@@ -41,6 +43,19 @@ module _ {w : Sweep} {k : ℕ} {t : Task} {cs : List Float} {ps gs : List ℕ} (
 
   pub answers-parts : (x y : Buffers) (r : Answer) → Answers callWith (choicesOf ps gs) x r y → Answers (taskCall w k) (taskChoices w k) x r y
   answers-parts x y r h = rw (e .task, e .cuts, e .choices, e .greys) at h
+
+  abbrev latticeWith : Lattice
+  latticeWith = latticeOf (t .n) (t .d) (t .s) (w .lattice .fwd) (w .lattice .bwd) (w .lattice .couplings)
+
+  pub ready-parts :
+      {ts : List ℤ} → TotalsReady (keepsBy keeps (w .form)) (w .lattice) (groupOf w k) ts
+      → TotalsReady (keepsBy (t .keeps) (t .form)) latticeWith (t .group) ts
+  ready-parts h = rw (e .task) h
+
+  pub totals-parts :
+      (xs ts ys us : List ℤ) → TotalsAfter (keepsBy (t .keeps) (t .form)) latticeWith xs ts ys us
+      → TotalsAfter (keepsBy keeps (w .form)) (w .lattice) xs ts ys us
+  totals-parts xs ts ys us h = rw (e .task) at h
 
 -- ---- what the form does not write
 seen-unwritten : (c : Call) (b b′ : Buffers) → Seen c b b′ → Unwritten c b b′

@@ -2,14 +2,19 @@
 use Prim.Native.Nat.{ℕ, _+_, _≤_, _<_}
 use mathlib.Core.Path.{_≡_}
 use mathlib.Core.Bool.{true, false}
+use mathlib.Core.List.{List}
 use native.Mathlib.Omega.{arith}
+use lib.IntN.{ℤ}
 use Rattle.lemmas.specs.Counts.{count-most}
 use Rattle.paper.specs.declared.Answer.{Answer}
+use Rattle.paper.specs.declared.Keeps.{Keeps}
 use Rattle.paper.specs.Panel.Input.{Buffers}
+use Rattle.paper.specs.Panel.Takes.{keepsBy}
 use Rattle.paper.specs.Refusal.Rule.{Kept}
 use Rattle.paper.specs.Refusal.Kept.{Valid}
-use Rattle.paper.specs.Answer.Task.{Sweep, tasks, masked, taskCall, taskChoices, areas}
+use Rattle.paper.specs.Answer.Task.{Sweep, tasks, masked, groupOf, taskCall, taskChoices, areas}
 use Rattle.paper.specs.Answer.Sweep.{sweepRules}
+use Rattle.paper.specs.Answer.Totals.{TotalsReady}
 use Rattle.paper.specs.Answer.Made.{planOf}
 use Rattle.tasks.specs.Plan.{Placing}
 use Rattle.sweep.specs.declared.run.Outcomes.{Outcomes}
@@ -24,10 +29,11 @@ pub record Added (t : Outcomes) (a : Answer) (t′ : Outcomes) : Type 0 where
   pub idle : t′ .idle ≡ t .idle + idleBy a
   pub moved : t′ .moved ≡ t .moved + movedBy a
 
-pub record Turn (w : Sweep) (k : ℕ) (t : Outcomes) (b : Buffers) : Type 0 where
-  pub placing : Placing (planOf w) k (w .order)
+pub record Turn (keeps : Keeps) (w : Sweep) (k : ℕ) (t : Outcomes) (b : Buffers) (ts : List ℤ) : Type 0 where
+  pub placing : Placing (planOf keeps w) k (w .order)
   pub room : Growable t
   pub valid : masked w k ≡ false → Valid (taskCall w k) (taskChoices w k) (areas w b (b .spins) k)
+  pub ready : masked w k ≡ false → TotalsReady (keepsBy keeps (w .form)) (w .lattice) (groupOf w k) ts
 
 -- a turn takes a sweep in which the first k tasks have run to one in which k + 1 have
 pub record Turned (w : Sweep) (k : ℕ) (t : Outcomes) (b : Buffers) (t′ : Outcomes) (b′ : Buffers) : Type 0 where

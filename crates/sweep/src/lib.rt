@@ -3,15 +3,17 @@ mod run;
 
 use paper::Plan;
 use paper::SweepAnswer;
+ghost use Rattle.paper.specs.Panel.Takes.{keepsBy};
 ghost use Rattle.paper.specs.Panel.Made.{buffersOf};
 ghost use Rattle.paper.specs.Answer.Made.{sweepOf};
-ghost use Rattle.paper.specs.Answer.Sweep.{SweepAnswers};
+ghost use Rattle.paper.specs.Answer.Totals.{SweepKeepAnswers};
 
-// A sweep over t temperatures of r replicas in groups of `members`: see crates/paper/specs/Answer/Sweep.antt. Everything is tested before
-// anything is written.
+// A sweep over t temperatures of r replicas in groups of `members`: see crates/paper/specs/Answer/Sweep.antt, and Totals.antt for what it keeps.
+// Everything is tested before anything is written.
 pub fn overlap_update(
     plan: Plan,
     spins: &mut [i8],
+    totals: &mut [i64],
     fwd: &[u32],
     bwd: &[u32],
     couplings: &[i32],
@@ -29,18 +31,19 @@ pub fn overlap_update(
     sizes: &mut [u32],
     members: &mut [u8],
 ) -> SweepAnswer
-    ensures { λ r. ⌜ SweepAnswers
+    ensures { λ r. ⌜ SweepKeepAnswers (keepsBy (plan .keeps) (plan .form))
         (sweepOf plan (now (fwd .entry)) (now (bwd .entry)) (now (couplings .entry)) (now (order .entry)) (now (masks .entry))
         (now (temperatures .entry)) (now (cuts .entry)) (now (references .entry)) (now (seeds .entry))
         (now (choices .entry)) (now (greys .entry)))
         (buffersOf (now (spins .entry)) (now (labels .entry)) (now («grey_labels» .entry)) (now (counts .entry)) (now (sizes .entry))
-        (now (members .entry))) r
+        (now (members .entry))) (now (totals .entry)) r
         (buffersOf (now (spins .exit)) (now (labels .exit)) (now («grey_labels» .exit)) (now (counts .exit)) (now (sizes .exit))
-        (now (members .exit))) ⌝ }
+        (now (members .exit))) (now (totals .exit)) ⌝ }
 {
     let fault = sweep_tests::test_sweep(
         plan,
         spins,
+        totals,
         fwd,
         bwd,
         couplings,
@@ -64,6 +67,7 @@ pub fn overlap_update(
     run::run_tasks(
         plan,
         spins,
+        totals,
         fwd,
         bwd,
         couplings,

@@ -1,16 +1,12 @@
 // The tasks of a sweep that has been tested, in ascending order.
 use paper::Answer;
-use paper::Form;
-use paper::Group;
-use paper::Mode;
 use paper::Plan;
 use paper::SweepAnswer;
-use paper::Task;
+ghost use Rattle.paper.specs.Panel.Takes.{keepsBy};
 ghost use Rattle.paper.specs.Refusal.Rule.{Kept};
-ghost use Rattle.paper.specs.Refusal.Kept.{Valid};
-ghost use Rattle.paper.specs.Answer.Move.{Answers};
 ghost use Rattle.paper.specs.Answer.Sweep.{sweepRules, SweepAnswers};
-ghost use Rattle.paper.specs.Panel.Made.{callOf, choicesOf, buffersOf};
+ghost use Rattle.paper.specs.Answer.Totals.{TotalsAsked, TotalsAfter};
+ghost use Rattle.paper.specs.Panel.Made.{latticeOf, buffersOf};
 ghost use Rattle.paper.specs.Answer.Made.{sweepOf};
 ghost use Rattle.sweep.specs.Turning.{Growable, Added, Turn, Turned};
 
@@ -37,61 +33,13 @@ fn add(outcomes: Outcomes, answer: Answer) -> Outcomes
     }
 }
 
-// One task, whose input is tested. A form that grows is lent the members, any other what it labels.
-fn run_form(
-    t: Task,
-    spins: &mut [i8],
-    fwd: &[u32],
-    bwd: &[u32],
-    couplings: &[i32],
-    cuts: &[f32],
-    choices: &[u8],
-    greys: &[u8],
-    labels: &mut [u32],
-    grey_labels: &mut [u32],
-    counts: &mut [u32],
-    sizes: &mut [u32],
-    members: &mut [u8],
-) -> Answer
-    requires { ⌜ Valid
-        (callOf t (now fwd) (now bwd) (now couplings) (now cuts))
-        (choicesOf (now choices) (now greys))
-        (buffersOf (now spins) (now labels) (now «grey_labels») (now counts) (now sizes) (now members)) ⌝ }
-    ensures { λ r. ⌜ Answers
-        (callOf t (now (fwd .entry)) (now (bwd .entry)) (now (couplings .entry)) (now (cuts .entry)))
-        (choicesOf (now (choices .entry)) (now (greys .entry)))
-        (buffersOf (now (spins .entry)) (now (labels .entry)) (now («grey_labels» .entry)) (now (counts .entry)) (now (sizes .entry))
-        (now (members .entry)))
-        r
-        (buffersOf (now (spins .exit)) (now (labels .exit)) (now («grey_labels» .exit)) (now (counts .exit)) (now (sizes .exit))
-        (now (members .exit))) ⌝ }
-{
-    let form = t.form;
-    if form.grows() {
-        return grow::run_grow(t, spins, fwd, bwd, couplings, cuts, choices, greys, members);
-    }
-    moves::run_task(
-        t,
-        spins,
-        fwd,
-        bwd,
-        couplings,
-        cuts,
-        choices,
-        greys,
-        labels,
-        grey_labels,
-        counts,
-        sizes,
-    )
-}
-
 // The task k, unless it is masked, with its parts of the inputs and its areas of the outputs.
 fn step(
     outcomes: Outcomes,
     plan: Plan,
     k: usize,
     spins: &mut [i8],
+    totals: &mut [i64],
     fwd: &[u32],
     bwd: &[u32],
     couplings: &[i32],
@@ -109,10 +57,10 @@ fn step(
     sizes: &mut [u32],
     members: &mut [u8],
 ) -> Outcomes
-    requires { ⌜ Turn
+    requires { ⌜ Turn (plan .keeps)
         (sweepOf plan (now fwd) (now bwd) (now couplings) (now order) (now masks) (now temperatures) (now cuts)
         (now references) (now seeds) (now choices) (now greys))
-        k outcomes (buffersOf (now spins) (now labels) (now «grey_labels») (now counts) (now sizes) (now members)) ⌝ }
+        k outcomes (buffersOf (now spins) (now labels) (now «grey_labels») (now counts) (now sizes) (now members)) (now totals) ⌝ }
     ensures { λ r. ⌜ Turned
         (sweepOf plan (now (fwd .entry)) (now (bwd .entry)) (now (couplings .entry)) (now (order .entry)) (now (masks .entry))
         (now (temperatures .entry)) (now (cuts .entry)) (now (references .entry)) (now (seeds .entry))
@@ -121,6 +69,9 @@ fn step(
         (now (members .entry))) r
         (buffersOf (now (spins .exit)) (now (labels .exit)) (now («grey_labels» .exit)) (now (counts .exit)) (now (sizes .exit))
         (now (members .exit))) ⌝ }
+    ensures { λ _. ⌜ TotalsAfter (keepsBy (plan .keeps) (plan .form))
+        (latticeOf (plan .n) (plan .d) (plan .s) (now (fwd .entry)) (now (bwd .entry)) (now (couplings .entry)))
+        (now (spins .entry)) (now (totals .entry)) (now (spins .exit)) (now (totals .exit)) ⌝ }
 {
     if tasks::masked(plan, masks, k) {
         return outcomes;
@@ -141,9 +92,10 @@ fn step(
     let member = tasks::bounds(members.len(), k, n);
     let i = member.start;
     let j = member.end;
-    let answer = run_form(
+    let answer = perform::run_form(
         tasks::task_of(plan, order, temperatures, references, seeds, k),
         spins,
+        totals,
         fwd,
         bwd,
         couplings,
@@ -163,6 +115,7 @@ fn step(
 pub fn run_tasks(
     plan: Plan,
     spins: &mut [i8],
+    totals: &mut [i64],
     fwd: &[u32],
     bwd: &[u32],
     couplings: &[i32],
@@ -184,6 +137,8 @@ pub fn run_tasks(
         (sweepOf plan (now fwd) (now bwd) (now couplings) (now order) (now masks) (now temperatures) (now cuts)
         (now references) (now seeds) (now choices) (now greys))
         (buffersOf (now spins) (now labels) (now «grey_labels») (now counts) (now sizes) (now members))) ⌝ }
+    requires { ⌜ TotalsAsked (keepsBy (plan .keeps) (plan .form))
+        (latticeOf (plan .n) (plan .d) (plan .s) (now fwd) (now bwd) (now couplings)) (now totals) ⌝ }
     ensures { λ r. ⌜ SweepAnswers
         (sweepOf plan (now (fwd .entry)) (now (bwd .entry)) (now (couplings .entry)) (now (order .entry)) (now (masks .entry))
         (now (temperatures .entry)) (now (cuts .entry)) (now (references .entry)) (now (seeds .entry))
@@ -192,6 +147,9 @@ pub fn run_tasks(
         (now (members .entry))) r
         (buffersOf (now (spins .exit)) (now (labels .exit)) (now («grey_labels» .exit)) (now (counts .exit)) (now (sizes .exit))
         (now (members .exit))) ⌝ }
+    ensures { λ _. ⌜ TotalsAfter (keepsBy (plan .keeps) (plan .form))
+        (latticeOf (plan .n) (plan .d) (plan .s) (now (fwd .entry)) (now (bwd .entry)) (now (couplings .entry)))
+        (now (spins .entry)) (now (totals .entry)) (now (spins .exit)) (now (totals .exit)) ⌝ }
 {
     let count = tasks::task_count(plan);
     let mut outcomes = Outcomes { idle: 0, moved: 0 };
@@ -202,6 +160,7 @@ pub fn run_tasks(
             plan,
             k,
             spins,
+            totals,
             fwd,
             bwd,
             couplings,

@@ -9,14 +9,17 @@ ghost use Rattle.paper.specs.Refusal.Rules.{When};
 ghost use Rattle.paper.specs.Refusal.Verdict.{Verdict};
 ghost use Rattle.paper.specs.Panel.Made.{buffersOf};
 ghost use Rattle.paper.specs.Answer.Made.{sweepOf};
-ghost use Rattle.paper.specs.Answer.Sweep.{sweepRules};
+ghost use Rattle.paper.specs.Panel.Takes.{keepsBy};
+ghost use Rattle.paper.specs.Answer.Totals.{sweptRules};
 ghost use Rattle.tasks.specs.Plan.{Planned, tasksOf};
 ghost use Rattle.sweep_tests.specs.Lengths.{Fitting};
-ghost use Rattle.sweep_tests.specs.First.{PanelLong, HeatLong, AllWarm, panelRules, heatRules};
+ghost use Rattle.sweep_tests.specs.First.{PanelLong, HeatLong, AllWarm, lengthRules, panelRules, heatRules};
 ghost use Rattle.sweep_tests.specs.Tasks.{SweepTested, TaskTested, TaskTold, TasksTold};
+ghost use Rattle.sweep_tests.specs.Whole.{Sized, ValuesTold};
 
 // How many elements the inputs have that a sweep takes beside its tasks'.
 pub struct SweepLengths {
+    pub totals: usize,
     pub order: usize,
     pub masks: usize,
     pub temperatures: usize,
@@ -62,6 +65,25 @@ fn lengths_ok(plan: Plan, l: Lengths, o: SweepLengths) -> bool
         & lattice::fits(form.one_cluster(), o.seeds, count)
 }
 
+// Tests 1 and 2.
+fn test_lengths(plan: Plan, l: Lengths, o: SweepLengths) -> u8
+    ensures { λ r. ⌜ Verdict (lengthRules plan l o) r ⌝ }
+{
+    if !plan_ok(plan) {
+        return 1;
+    }
+    if !lengths_ok(plan, l, o) {
+        return 2;
+    }
+    let form = plan.form;
+    let keeps = plan.keeps;
+    let keeping = keeps.totals(form);
+    if !tests::panel::totals_lengths_ok(keeping, plan.n, plan.d, plan.s, l.couplings, o.totals) {
+        return 2;
+    }
+    0
+}
+
 fn test_panel(plan: Plan, spins: &[i8], fwd: &[u32], bwd: &[u32], order: &[u32]) -> u8
     requires { ⌜ PanelLong plan (now spins) (now fwd) (now bwd) (now order) ⌝ }
     ensures { λ r. ⌜ Verdict
@@ -95,8 +117,10 @@ fn test_heat(plan: Plan, couplings: &[i32], temperatures: &[f32], masks: &[u8]) 
         (heatRules plan (now (couplings .entry)) (now (temperatures .entry)) (now (masks .entry))) r ⌝ }
 {
     let mode = plan.mode;
+    let form = plan.form;
+    let keeps = plan.keeps;
     let drawn = mode.is_drawn();
-    if !lattice::couplings_fit(drawn, couplings) {
+    if !lattice::couplings_fit(drawn | keeps.totals(form), couplings) {
         return 6;
     }
     if !temperatures_ok(drawn, temperatures) {
@@ -180,10 +204,65 @@ fn test_tasks(
     0
 }
 
+// Tests 3 to 10 and 14, of inputs that have their lengths.
+fn test_values(
+    plan: Plan,
+    spins: &[i8],
+    totals: &[i64],
+    fwd: &[u32],
+    bwd: &[u32],
+    couplings: &[i32],
+    order: &[u32],
+    masks: &[u8],
+    temperatures: &[f32],
+    cuts: &[f32],
+    references: &[u32],
+    seeds: &[u32],
+    choices: &[u8],
+    greys: &[u8],
+) -> u8
+    requires { ⌜ Sized plan (now spins) (now fwd) (now bwd) (now order) (now masks) (now temperatures) (now cuts) (now choices) (now greys) ⌝ }
+    ensures { λ r. ⌜ ValuesTold plan (now (spins .entry)) (now (totals .entry)) (now (fwd .entry)) (now (bwd .entry)) (now (couplings .entry))
+        (now (order .entry)) (now (masks .entry)) (now (temperatures .entry)) (now (cuts .entry)) (now (references .entry))
+        (now (seeds .entry)) (now (choices .entry)) (now (greys .entry)) r ⌝ }
+{
+    let panel = test_panel(plan, spins, fwd, bwd, order);
+    if panel != 0 {
+        return panel;
+    }
+    let heat = test_heat(plan, couplings, temperatures, masks);
+    if heat != 0 {
+        return heat;
+    }
+    let choice = test_tasks(
+        plan,
+        spins,
+        order,
+        masks,
+        temperatures,
+        cuts,
+        references,
+        seeds,
+        choices,
+        greys,
+    );
+    let form = plan.form;
+    let keeps = plan.keeps;
+    let small = lattice::totals_fit(keeps.totals(form), totals);
+    if choice != 0 {
+        return choice;
+    }
+    if !small {
+        return 14;
+    }
+    0
+}
+
 // Every test of a sweep: the number of the first that fails, or 0. Nothing is written.
 pub fn test_sweep(
     plan: Plan,
     spins: &[i8],
+    totals: &[i64],
     fwd: &[u32],
     bwd: &[u32],
     couplings: &[i32],
@@ -201,16 +280,13 @@ pub fn test_sweep(
     sizes: &[u32],
     members: &[u8],
 ) -> u8
-    ensures { λ r. ⌜ Verdict (sweepRules
+    ensures { λ r. ⌜ Verdict (sweptRules (keepsBy (plan .keeps) (plan .form))
         (sweepOf plan (now (fwd .entry)) (now (bwd .entry)) (now (couplings .entry)) (now (order .entry)) (now (masks .entry))
         (now (temperatures .entry)) (now (cuts .entry)) (now (references .entry)) (now (seeds .entry))
         (now (choices .entry)) (now (greys .entry)))
         (buffersOf (now (spins .entry)) (now (labels .entry)) (now («grey_labels» .entry)) (now (counts .entry)) (now (sizes .entry))
-        (now (members .entry)))) r ⌝ }
+        (now (members .entry))) (now (totals .entry))) r ⌝ }
 {
-    if !plan_ok(plan) {
-        return 1;
-    }
     let l = Lengths {
         spins: spins.len(),
         fwd: fwd.len(),
@@ -226,26 +302,24 @@ pub fn test_sweep(
         members: members.len(),
     };
     let o = SweepLengths {
+        totals: totals.len(),
         order: order.len(),
         masks: masks.len(),
         temperatures: temperatures.len(),
         references: references.len(),
         seeds: seeds.len(),
     };
-    if !lengths_ok(plan, l, o) {
-        return 2;
+    let lengths = test_lengths(plan, l, o);
+    if lengths != 0 {
+        return lengths;
     }
-    let panel = test_panel(plan, spins, fwd, bwd, order);
-    if panel != 0 {
-        return panel;
-    }
-    let heat = test_heat(plan, couplings, temperatures, masks);
-    if heat != 0 {
-        return heat;
-    }
-    test_tasks(
+    test_values(
         plan,
         spins,
+        totals,
+        fwd,
+        bwd,
+        couplings,
         order,
         masks,
         temperatures,

@@ -44,6 +44,7 @@ abbrev pub taskAt : Plan → List ℕ → List Float → List ℕ → List ℕ �
 taskAt q order temperatures references seeds k = record {
   mode = q .mode;
   form = q .form;
+  keeps = q .keeps;
   n = q .n;
   d = q .d;
   s = q .s;

@@ -2,6 +2,7 @@
 use lemmas::wide;
 use paper::Form;
 use paper::Group;
+use paper::Keeps;
 use paper::Mode;
 use paper::Plan;
 use paper::Task;
@@ -138,6 +139,7 @@ pub fn task_of(
 {
     let mode = plan.mode;
     let form = plan.form;
+    let keeps = plan.keeps;
     let group = task_group(plan, order, k);
     let temperature = task_temperature(plan, temperatures, k);
     let reference = word_at(references, k);
@@ -145,6 +147,7 @@ pub fn task_of(
     Task {
         mode,
         form,
+        keeps,
         n: plan.n,
         d: plan.d,
         s: plan.s,

@@ -41,6 +41,7 @@ abbrev pub elsewhere : Task → ℕ → ℕ → Float → Task
 elsewhere t d s temperature = record {
   mode = t .mode;
   form = t .form;
+  keeps = t .keeps;
   n = t .n;
   d = d;
   s = s;

@@ -14,16 +14,20 @@ use Rattle.paper.specs.Panel.Made.{callOf, choicesOf}
 use Rattle.paper.specs.Refusal.Rules.{choiceRules}
 use Rattle.paper.specs.Refusal.Verdict.{Verdict, verdict-unique}
 use Rattle.tests.specs.Lengths.{FitsEach}
-use Rattle.tests.specs.Panel.{panelRules}
+use Rattle.tests.specs.Panel.{TotalsFit, panelRules}
 use Rattle.tests.specs.Choices.{EveryCall}
 
 pub lengths-ok-determined : (mode : Mode) (form : Form) (n d s m count : ℕ) (l : Lengths) (a b : Bool)
     → Tells a (FitsEach mode form n d s m count l) → Tells b (FitsEach mode form n d s m count l) → a ≡ b
 lengths-ok-determined mode form n d s m count l = tells-determined (FitsEach mode form n d s m count l)
 
-pub test-panel-determined : (t : Task) (spins : List ℤ) (fwd bwd : List ℕ) (couplings : List ℤ) (l : Lengths) (a b : ℕ)
-    → Verdict (panelRules t spins fwd bwd couplings l) a → Verdict (panelRules t spins fwd bwd couplings l) b → a ≡ b
-test-panel-determined t spins fwd bwd couplings l = verdict-unique (panelRules t spins fwd bwd couplings l)
+pub totals-lengths-ok-determined : (keeping : Bool) (n d s couplings totals : ℕ) (a b : Bool)
+    → Tells a (TotalsFit keeping n d s couplings totals) → Tells b (TotalsFit keeping n d s couplings totals) → a ≡ b
+totals-lengths-ok-determined keeping n d s couplings totals = tells-determined (TotalsFit keeping n d s couplings totals)
+
+pub test-panel-determined : (t : Task) (spins totals : List ℤ) (fwd bwd : List ℕ) (couplings : List ℤ) (l : Lengths) (a b : ℕ)
+    → Verdict (panelRules t spins totals fwd bwd couplings l) a → Verdict (panelRules t spins totals fwd bwd couplings l) b → a ≡ b
+test-panel-determined t spins totals fwd bwd couplings l = verdict-unique (panelRules t spins totals fwd bwd couplings l)
 
 -- at any one choice of what the tests do not look at
 pub test-choices-determined : (t : Task) (spins : List ℤ) (cuts : List Float) (choices greys : List ℕ) (a b : ℕ)

@@ -5,9 +5,10 @@ use paper::Lengths;
 use paper::Mode;
 use paper::Task;
 ghost use Rattle.lemmas.specs.Tells.{Tells};
+ghost use Rattle.paper.specs.Refusal.Rules.{Sizes};
 ghost use Rattle.paper.specs.Refusal.Verdict.{Verdict};
 ghost use Rattle.tests.specs.Lengths.{Small, FitsEach};
-ghost use Rattle.tests.specs.Panel.{Measures, panelRules};
+ghost use Rattle.tests.specs.Panel.{Measures, TotalsFit, shapeRules, panelRules};
 
 // Test 2 of `count` tasks that share the panel: each has its own cuts, choices and outputs.
 pub fn lengths_ok(
@@ -45,20 +46,28 @@ pub fn lengths_ok(
         & lattice::fits(grows, l.members, sites)
 }
 
-// The number of the first test that fails, or 0.
-pub fn test_panel(
-    t: Task,
-    spins: &[i8],
-    fwd: &[u32],
-    bwd: &[u32],
-    couplings: &[i32],
-    l: Lengths,
-) -> u8
-    requires { ⌜ Measures (now spins) (now fwd) (now bwd) (now couplings) l ⌝ }
-    ensures { λ r. ⌜ Verdict (panelRules t (now (spins .entry)) (now (fwd .entry)) (now (bwd .entry)) (now (couplings .entry)) l) r ⌝ }
+// Test 2 of a call that keeps totals: couplings are taken in every mode, and a total for each system.
+pub fn totals_lengths_ok(
+    keeping: bool,
+    n: usize,
+    d: usize,
+    s: usize,
+    couplings: usize,
+    totals: usize,
+) -> bool
+    requires { ⌜ Sizes n d s ⌝ }
+    ensures { λ r. ⌜ Tells r (TotalsFit keeping n d s couplings totals) ⌝ }
+{
+    lattice::fits(keeping, couplings, n * d) & lattice::fits(keeping, totals, s)
+}
+
+// Tests 1 and 2.
+fn test_shape(t: Task, totals: usize, l: Lengths) -> u8
+    ensures { λ r. ⌜ Verdict (shapeRules t totals l) r ⌝ }
 {
     let mode = t.mode;
     let form = t.form;
+    let keeps = t.keeps;
     let group = t.group;
     let m = group.len;
     if !lattice::ranged(t.n, t.d, t.s, mode, m) {
@@ -67,17 +76,45 @@ pub fn test_panel(
     if !lengths_ok(mode, form, t.n, t.d, t.s, m, 1, l) {
         return 2;
     }
+    if !totals_lengths_ok(keeps.totals(form), t.n, t.d, t.s, l.couplings, totals) {
+        return 2;
+    }
+    0
+}
+
+// The number of the first test that fails, or 0.
+pub fn test_panel(
+    t: Task,
+    spins: &[i8],
+    totals: &[i64],
+    fwd: &[u32],
+    bwd: &[u32],
+    couplings: &[i32],
+    l: Lengths,
+) -> u8
+    requires { ⌜ Measures (now spins) (now fwd) (now bwd) (now couplings) l ⌝ }
+    ensures { λ r. ⌜ Verdict (panelRules t (now (spins .entry)) (now (totals .entry)) (now (fwd .entry)) (now (bwd .entry))
+        (now (couplings .entry)) l) r ⌝ }
+{
+    let shape = test_shape(t, totals.len(), l);
+    if shape != 0 {
+        return shape;
+    }
     if !lattice::spins_ok(spins) {
         return 3;
     }
     if !lattice::tables_ok(t.n, t.d, fwd, bwd) {
         return 4;
     }
+    let group = t.group;
     if !lattice::group_ok(t.s, group) {
         return 5;
     }
+    let mode = t.mode;
+    let form = t.form;
+    let keeps = t.keeps;
     let drawn = mode.is_drawn();
-    if !lattice::couplings_fit(drawn, couplings) {
+    if !lattice::couplings_fit(drawn | keeps.totals(form), couplings) {
         return 6;
     }
     if !(!drawn | lattice::temperature_ok(t.temperature)) {

@@ -2,6 +2,7 @@
 use Prim.Native.Nat.{ℕ}
 use mathlib.Core.Path.{_≡_, refl, sym, subst}
 use mathlib.Core.Logic.{inl, inr}
+use mathlib.Core.Bool.{Bool}
 use mathlib.Core.List.{List, [], _∷_}
 use native.Mathlib.Omega.{arith}
 use lib.ListN.{length, set}
@@ -9,16 +10,19 @@ use lib.IntN.{ℤ}
 use lib.Ieee.{Float}
 use Rattle.paper.specs.declared.Mode.{Mode}
 use Rattle.paper.specs.declared.Form.{Form}
+use Rattle.paper.specs.declared.Keeps.{Keeps}
 use Rattle.paper.specs.declared.SweepAnswer.{SweepAnswer}
 use Rattle.paper.specs.declared.SweepAnswer.the-variants.{Fault, Swept}
 use Rattle.paper.specs.Panel.Input.{Buffers}
 use Rattle.paper.specs.Refusal.Rule.{Broken}
 use Rattle.paper.specs.Answer.Number.{sweepNumber, sweepValues}
 use Rattle.paper.specs.Answer.Task.{Sweep}
-use Rattle.paper.specs.Answer.Sweep.{SweepRanged, sweepRules, SweepAnswers}
+use Rattle.paper.specs.Answer.Sweep.{SweepRanged}
+use Rattle.paper.specs.Answer.Totals.{sweptRules, SweepKeepAnswers}
+use Rattle.paper.specs.Panel.Takes.{keepsBy}
 use Rattle.paper.specs.Answer.Made.{sweepOf, planOf}
 use Rattle.tasks.specs.Plan.{Planned}
-use Rattle.tsorvenk.specs.Number.{Coded, takenOf, Returned, valuesTo}
+use Rattle.tsorvenk.specs.Number.{Coded, keepsOf, takenOf, Returned, valuesTo}
 use Rattle.tsorvenk.specs.Sweep.{planFor, WithOutcomes, withOutcomes, outcomeRules, OutcomeAnswers, SweepNumbers, Roomless, Told}
 
 -- ---- the counts, written one after the other
@@ -32,62 +36,74 @@ pub counts-told : (a : SweepAnswer) (ts : List ℕ) (i m : ℕ) → a ≡ Swept 
 counts-told a ts i m e l = subst (λ (x : SweepAnswer). Told x ts 0 (set (set ts 0 i) 1 m)) (sym e) (record { number = refl; counts = two-set ts i m l })
 
 -- ---- the answers
-planned-of : (w : Sweep) → SweepRanged w → Planned (planOf w)
-planned-of w r = record { ranged = r .ranged; all = r .all; enough = r .enough }
+planned-of : (k : Keeps) (w : Sweep) → SweepRanged w → Planned (planOf k w)
+planned-of k w r = record { ranged = r .ranged; all = r .all; enough = r .enough }
 
-ranged-of : (w : Sweep) → Planned (planOf w) → SweepRanged w
-ranged-of w p = record { ranged = p .ranged; all = p .all; enough = p .enough }
+ranged-of : (k : Keeps) (w : Sweep) → Planned (planOf k w) → SweepRanged w
+ranged-of k w p = record { ranged = p .ranged; all = p .all; enough = p .enough }
 
-module _ (w : Sweep) (b : Buffers) (ts : List ℕ) where
-  roomed : (r : ℕ) → length ts ≡ 2 → Broken (sweepRules w b) r → Broken (outcomeRules w (withOutcomes b ts)) r
+module _ (keeping : Bool) (w : Sweep) (b : Buffers) (ts : List ℤ) (os : List ℕ) where
+  roomed : (r : ℕ) → length os ≡ 2 → Broken (sweptRules keeping w b ts) r → Broken (outcomeRules keeping w (withOutcomes b ts os)) r
   roomed r l (inl v) = inl v
   roomed r l (inr v) = inr (v .0, inr (l, inr v))
 
-  told-at : (a : SweepAnswer) (b′ : Buffers) (ts′ : List ℕ) → length ts ≡ 2 → SweepAnswers w b a b′ → ts′ ≡ valuesTo (sweepValues a) ts
-      → OutcomeAnswers w (withOutcomes b ts) a (withOutcomes b′ ts′)
-  told-at (Fault r) b′ ts′ l h e = record { why = roomed r l (h .why); kept = h .kept; uncounted = e }
-  told-at (Swept idle moved) b′ ts′ l h e = record { room = l; counted = e; answers = h }
+  told-at :
+      (a : SweepAnswer) (b′ : Buffers) (ts′ : List ℤ) (os′ : List ℕ)
+      → length os ≡ 2
+      → SweepKeepAnswers keeping w b ts a b′ ts′
+      → os′ ≡ valuesTo (sweepValues a) os
+      → OutcomeAnswers keeping w (withOutcomes b ts os) a (withOutcomes b′ ts′ os′)
+  told-at (Fault r) b′ ts′ os′ l h e = record { why = roomed r l (h .why); kept = h .kept; totals-kept = h .totals-kept; uncounted = e }
+  told-at (Swept idle moved) b′ ts′ os′ l h e = record { room = l; counted = e; answers = h }
 
   -- without room for the counts
-  roomless-at : (r : ℕ) → (length ts ≡ 2 → ⊥) → Roomless (planOf w) r → Returned sweepNumber
-      (λ a. OutcomeAnswers w (withOutcomes b ts) a (withOutcomes b ts)) r
-  roomless-at r n (inl v) = record {
+  roomless-at : (k : Keeps) (r : ℕ) → (length os ≡ 2 → ⊥) → Roomless (planOf k w) r → Returned sweepNumber
+      (λ a. OutcomeAnswers keeping w (withOutcomes b ts os) a (withOutcomes b ts os)) r
+  roomless-at k r n (inl v) = record {
     answer = Fault 1;
-    allowed = record { why = inl ((λ k. v .0 (planned-of w k)), refl); kept = refl; uncounted = refl };
+    allowed = record { why = inl ((λ h. v .0 (planned-of k w h)), refl); kept = refl; totals-kept = refl; uncounted = refl };
     number = v .1;
   }
-  roomless-at r n (inr v) = record {
+  roomless-at k r n (inr v) = record {
     answer = Fault 2;
-    allowed = record { why = inr (ranged-of w (v .0), inl (n, refl)); kept = refl; uncounted = refl };
+    allowed = record { why = inr (ranged-of k w (v .0), inl (n, refl)); kept = refl; totals-kept = refl; uncounted = refl };
     number = v .1;
   }
 
--- the mode and the form that were made of the lent numbers
+-- the mode and the form that were made of the lent numbers; what is kept is no part of a sweep
 module _ {n d s t r members : ℕ} {fwd bwd : List ℕ} {couplings : List ℤ} {order masks : List ℕ} {temperatures cuts : List Float}
-    {references seeds greys : List ℕ} (flips perms : List ℕ) {m m′ : Mode} {f f′ : Form} where
+    {references seeds greys : List ℕ} (flips perms : List ℕ) (k k′ : Keeps) {m m′ : Mode} {f f′ : Form} where
   pub same-sweep : m ≡ m′ → f ≡ f′
-      → sweepOf (planFor m f n d s t r members) fwd bwd couplings order masks temperatures cuts references seeds (takenOf m flips perms) greys
-      ≡ sweepOf (planFor m′ f′ n d s t r members) fwd bwd couplings order masks temperatures cuts references seeds (takenOf m′ flips perms) greys
+      → sweepOf (planFor m f k n d s t r members) fwd bwd couplings order masks temperatures cuts references seeds (takenOf m flips perms) greys
+      ≡ sweepOf (planFor m′ f′ k′ n d s t r members) fwd bwd couplings order masks temperatures cuts references seeds (takenOf m′ flips perms) greys
   same-sweep em ef = λ i.
-      sweepOf (planFor (em i) (ef i) n d s t r members) fwd bwd couplings order masks temperatures cuts references seeds (takenOf (em i) flips perms) greys
+      sweepOf (planFor (em i) (ef i) k n d s t r members) fwd bwd couplings order masks temperatures cuts references seeds (takenOf (em i) flips perms) greys
 
-pub uncoded-sweep : {mode form : ℕ} {w : Sweep} {l : WithOutcomes} → (Coded mode form → ⊥) → SweepNumbers mode form w l 1 l
+pub uncoded-sweep : {mode form keeps : ℕ} {w : Sweep} {l : WithOutcomes} → (Coded mode form keeps → ⊥) → SweepNumbers mode form keeps w l 1 l
 uncoded-sweep none = record { known = λ k. absurd (none k); unknown = λ _. record { number = refl; kept = refl } }
 
-module _ {mode form : ℕ} (w w′ : Sweep) (b : Buffers) (ts : List ℕ) (r : ℕ) where
-  pub roomless-sweep : Coded mode form → w ≡ w′ → (length ts ≡ 2 → ⊥) → Roomless (planOf w) r
-      → SweepNumbers mode form w′ (withOutcomes b ts) r (withOutcomes b ts)
-  roomless-sweep d e n h = record {
-    known = λ _. roomless-at w′ b ts r n (subst (λ (x : Sweep). Roomless (planOf x) r) e h);
+module _ {mode form keeps : ℕ} (w w′ : Sweep) (b : Buffers) (ts : List ℤ) (os : List ℕ) (r : ℕ) where
+  pub roomless-sweep : (k : Keeps) → Coded mode form keeps → w ≡ w′ → (length os ≡ 2 → ⊥) → Roomless (planOf k w) r
+      → SweepNumbers mode form keeps w′ (withOutcomes b ts os) r (withOutcomes b ts os)
+  roomless-sweep k d e n h = record {
+    known = λ _. roomless-at (keepsBy (keepsOf keeps) (w′ .form)) w′ b ts os k r n (subst (λ (x : Sweep). Roomless (planOf k x) r) e h);
     unknown = λ none. absurd (none d);
   }
 
-  pub coded-sweep : (a : SweepAnswer) (b′ : Buffers) (ts′ : List ℕ) → Coded mode form → w ≡ w′ → length ts ≡ 2 → SweepAnswers w b a b′ → Told a ts r ts′
-      → SweepNumbers mode form w′ (withOutcomes b ts) r (withOutcomes b′ ts′)
-  coded-sweep a b′ ts′ d e l h k = record {
+  pub coded-sweep :
+      (q : Bool) (a : SweepAnswer) (b′ : Buffers) (ts′ : List ℤ) (os′ : List ℕ)
+      → Coded mode form keeps
+      → q ≡ keepsBy (keepsOf keeps) (w′ .form)
+      → w ≡ w′
+      → length os ≡ 2
+      → SweepKeepAnswers q w b ts a b′ ts′
+      → Told a os r os′
+      → SweepNumbers mode form keeps w′ (withOutcomes b ts os) r (withOutcomes b′ ts′ os′)
+  coded-sweep q a b′ ts′ os′ d eq e l h k = record {
     known = λ _. record {
       answer = a;
-      allowed = told-at w′ b ts a b′ ts′ l (subst (λ (x : Sweep). SweepAnswers x b a b′) e h) (k .counts);
+      allowed = told-at (keepsBy (keepsOf keeps) (w′ .form)) w′ b ts os a b′ ts′ os′ l
+          (subst (λ (x : Bool). SweepKeepAnswers x w′ b ts a b′ ts′) eq (subst (λ (x : Sweep). SweepKeepAnswers q x b ts a b′ ts′) e h)) (k .counts);
       number = k .number;
     };
     unknown = λ none. absurd (none d);

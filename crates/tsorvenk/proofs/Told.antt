@@ -2,6 +2,7 @@
 use Prim.Native.Nat.{ℕ}
 use mathlib.Core.Path.{_≡_, refl, _∙_, ap}
 use mathlib.Core.Logic.{inl, inr}
+use mathlib.Core.Bool.{Bool}
 use mathlib.Core.List.{List, [], _∷_}
 use native.Mathlib.Omega.{arith}
 use lib.Ieee.{Float}
@@ -9,17 +10,19 @@ use lib.IntN.{ℤ}
 use lib.ListN.{length, set}
 use Rattle.paper.specs.declared.Mode.{Mode}
 use Rattle.paper.specs.declared.Form.{Form}
+use Rattle.paper.specs.declared.Keeps.{Keeps}
 use Rattle.paper.specs.declared.Group.{Group}
 use Rattle.paper.specs.declared.Answer.{Answer}
 use Rattle.paper.specs.declared.MeterAnswer.the-variants.{Unmetered, Energy}
 use Rattle.paper.specs.Panel.Input.{Lattice, Call, Choices, Buffers}
 use Rattle.paper.specs.Panel.Made.{choicesOf}
+use Rattle.paper.specs.Panel.Takes.{keepsBy}
 use Rattle.paper.specs.Refusal.Rule.{Broken}
 use Rattle.paper.specs.Refusal.Rules.{Sizes}
-use Rattle.paper.specs.Answer.Move.{Answers}
+use Rattle.paper.specs.Answer.Totals.{KeepAnswers}
 use Rattle.paper.specs.Answer.Meter.{meterRules, MeterAnswers}
-use Rattle.tsorvenk.specs.Number.{Coded, takenOf, numberOf}
-use Rattle.tsorvenk.specs.Step.{StepAnswers}
+use Rattle.tsorvenk.specs.Number.{Coded, keepsOf, takenOf, numberOf}
+use Rattle.tsorvenk.specs.Step.{WithTotals, withTotals, StepAnswers}
 use Rattle.tsorvenk.specs.Energy.{energyRules, EnergyAnswers}
 
 -- ---- what is written to a buffer of one
@@ -29,7 +32,7 @@ one-set (y ∷ []) x l = refl
 one-set (y ∷ z ∷ xs) x l = absurd (omega arith)
 
 -- ---- a step
-pub unknown-code : {mode form : ℕ} {c : Call} {p : Choices} {b : Buffers} → (Coded mode form → ⊥) → StepAnswers mode form c p b 1 b
+pub unknown-code : {mode form keeps : ℕ} {c : Call} {p : Choices} {l : WithTotals} → (Coded mode form keeps → ⊥) → StepAnswers mode form keeps c p l 1 l
 unknown-code none = record { known = λ k. absurd (none k); unknown = λ _. record { number = refl; kept = refl } }
 
 abbrev callBy : Lattice → Float → List Float → ℕ → ℕ → Mode → Form → Group → Call
@@ -55,9 +58,24 @@ pub same-choices :
     → choicesOf choices greys ≡ choicesOf (takenOf m′ flips perms) greys
 same-choices {greys = greys} flips perms e em = λ i. choicesOf ((e ∙ ap (λ (z : Mode). takenOf z flips perms) em) i) greys
 
-module _ {mode form : ℕ} {c c′ : Call} {p p′ : Choices} {b b′ : Buffers} {k : ℕ} where
-  pub known-code : (a : Answer) → k ≡ numberOf a → c ≡ c′ → p ≡ p′ → Coded mode form → Answers c p b a b′ → StepAnswers mode form c′ p′ b k b′
-  known-code a ek ec ep d h = record { known = λ _. record { answer = a; allowed = rw (ec, ep) at h; number = ek }; unknown = λ none. absurd (none d) }
+-- and what is kept
+pub same-keeping : {k k′ : Keeps} {f f′ : Form} → k ≡ k′ → f ≡ f′ → keepsBy k f ≡ keepsBy k′ f′
+same-keeping ek ef = λ i. keepsBy (ek i) (ef i)
+
+module _ {mode form keeps : ℕ} {q : Bool} {c c′ : Call} {p p′ : Choices} {b b′ : Buffers} {ts ts′ : List ℤ} {k : ℕ} where
+  pub known-code :
+      (a : Answer)
+      → k ≡ numberOf a
+      → q ≡ keepsBy (keepsOf keeps) (c′ .form)
+      → c ≡ c′
+      → p ≡ p′
+      → Coded mode form keeps
+      → KeepAnswers q c p b ts a b′ ts′
+      → StepAnswers mode form keeps c′ p′ (withTotals b ts) k (withTotals b′ ts′)
+  known-code a ek eq ec ep d h = record {
+    known = λ _. record { answer = a; allowed = rw (eq, ec, ep) at h; number = ek };
+    unknown = λ none. absurd (none d);
+  }
 
 -- ---- the meter
 module _ (t : Lattice) (xs : List ℤ) (k : ℕ) (es : List ℤ) where

@@ -1,6 +1,7 @@
 -- How tight the promises are: what each allows for one input is one number and one content of every lent buffer.
 use Prim.Native.Nat.{ℕ}
 use mathlib.Core.Path.{_≡_, sym, _∙_, ap}
+use mathlib.Core.Bool.{Bool}
 use mathlib.Core.List.{List}
 use native.Mathlib.Decide.{ℕ-discrete}
 use lib.ListN.{length}
@@ -9,13 +10,15 @@ use Rattle.paper.specs.declared.MeterAnswer.{MeterAnswer}
 use Rattle.paper.specs.declared.MeterAnswer.the-variants.{Unmetered, Energy}
 use Rattle.paper.specs.declared.SweepAnswer.{SweepAnswer}
 use Rattle.paper.specs.declared.SweepAnswer.the-variants.{Fault, Swept}
-use Rattle.paper.specs.Panel.Input.{Lattice, Call, Choices, Buffers}
+use Rattle.paper.specs.Panel.Input.{Lattice, Call, Choices}
+use Rattle.paper.specs.Panel.Takes.{keepsBy}
 use Rattle.paper.specs.Refusal.Rule.{Kept, broken-unique, broken-not-kept}
+use Rattle.paper.specs.Refusal.Verdict.{Verdict, verdict-unique}
 use Rattle.paper.specs.Answer.Number.{sweepValues, meterValues}
 use Rattle.paper.specs.Answer.Meter.{meter-determined}
 use Rattle.paper.specs.Answer.Task.{Sweep}
-use Rattle.laws.specs.Determined.{determined}
-use Rattle.laws.specs.SweepDetermined.{SameSweep, sweep-determined}
+use Rattle.paper.specs.Answer.Totals.{handOverRules}
+use Rattle.laws.specs.KeepDetermined.{keep-determined, SameSweepKept, sweep-keep-determined}
 use Rattle.label.specs.Entry.{Request, Lent}
 use Rattle.label.specs.Determined.{components-determined}
 use Rattle.frame_lines.specs.declared.Written.{Written}
@@ -31,8 +34,8 @@ use Rattle.edges.specs.declared.Listing.{Listing}
 use Rattle.edges.specs.declared.Listing.the-variants.{Unlisted, Wrote}
 use Rattle.edges.specs.Answer.{Net, netOf, ReadAnswers, listingValues}
 use Rattle.edges.specs.Determined.{read-edges-determined, write-edges-determined}
-use Rattle.tsorvenk.specs.Number.{Coded, coded, Returned, valuesTo}
-use Rattle.tsorvenk.specs.Step.{StepAnswers}
+use Rattle.tsorvenk.specs.Number.{Coded, keepsOf, coded, Returned, valuesTo}
+use Rattle.tsorvenk.specs.Step.{WithTotals, withTotals, StepAnswers}
 use Rattle.tsorvenk.specs.Energy.{energyRules, Metered, EnergyAs, EnergyAnswers}
 use Rattle.tsorvenk.specs.Label.{LabelAnswers}
 use Rattle.tsorvenk.specs.Sweep.{WithOutcomes, withOutcomes, outcomeRules, Sweeping, OutcomeAnswers, SweepNumbers}
@@ -51,22 +54,27 @@ module _ {A B : Type 0} {numberBy : A → ℕ} {P Q : A → Type 0} {r r′ : �
   same-returned f g s = record { answer = f .number ∙ (ap numberBy (s .answer) ∙ sym (g .number)); buffers = s .buffers }
 
 pub tsorvenk-step-determined :
-    (mode form : ℕ) (c : Call) (p : Choices) (b y z : Buffers) (r r′ : ℕ)
-    → StepAnswers mode form c p b r y
-    → StepAnswers mode form c p b r′ z
+    (mode form keeps : ℕ) (c : Call) (p : Choices) (l y z : WithTotals) (r r′ : ℕ)
+    → StepAnswers mode form keeps c p l r y
+    → StepAnswers mode form keeps c p l r′ z
     → Same r r′ y z
-tsorvenk-step-determined mode form c p b y z r r′ f g = go (coded mode form)
+tsorvenk-step-determined mode form keeps c p l y z r r′ f g = go (coded mode form keeps)
   where
-    go : Dec (Coded mode form) → Same r r′ y z
+    go : Dec (Coded mode form keeps) → Same r r′ y z
     go (yes k) =
         let u = f .known k in
         let v = g .known k in
-        let s = determined c p b y z (u .answer) (v .answer) (u .allowed) (v .allowed) in
-        same-returned u v (record { answer = s .answer; buffers = s .buffers })
+        let s = keep-determined (keepsBy (keepsOf keeps) (c .form)) c p (l .buffers) (l .totals) (y .buffers) (z .buffers) (y .totals) (z .totals)
+        (u .answer) (v .answer) (u .allowed) (v .allowed) in
+        same-returned u v (record { answer = s .answer; buffers = λ i. withTotals (s .buffers i) (s .totals i) })
     go (no k) = record {
       answer = f .unknown k .number ∙ sym (g .unknown k .number);
       buffers = f .unknown k .kept ∙ sym (g .unknown k .kept);
     }
+
+pub tsorvenk-hand-over-determined :
+    (g : Lattice) (xs ts : List ℤ) (r r′ : ℕ) → Verdict (handOverRules g xs ts) r → Verdict (handOverRules g xs ts) r′ → r ≡ r′
+tsorvenk-hand-over-determined g xs ts = verdict-unique (handOverRules g xs ts)
 
 module _ (t : Lattice) (xs : List ℤ) (k : ℕ) (es y z : List ℤ) where
   -- what a written energy shows
@@ -97,37 +105,42 @@ tsorvenk-label-determined q b y z r r′ f g =
     same-returned f g (record { answer = s .answer; buffers = s .buffers })
 
 -- ---- a sweep
-module _ (w : Sweep) (l y z : WithOutcomes) where
-  swept-kept : (i m : ℕ) (x : WithOutcomes) → Sweeping w l i m x → Kept (outcomeRules w l)
+module _ (keeping : Bool) (w : Sweep) (l y z : WithOutcomes) where
+  swept-kept : (i m : ℕ) (x : WithOutcomes) → Sweeping keeping w l i m x → Kept (outcomeRules keeping w l)
   swept-kept i m x s = let v = s .answers .valid in (v .0, (s .room, v))
 
-  outcomes-same : (a a′ : SweepAnswer) → OutcomeAnswers w l a y → OutcomeAnswers w l a′ z → Same a a′ y z
+  outcomes-same : (a a′ : SweepAnswer) → OutcomeAnswers keeping w l a y → OutcomeAnswers keeping w l a′ z → Same a a′ y z
   outcomes-same (Fault r) (Fault s) f g = record {
-    answer = ap Fault (broken-unique (outcomeRules w l) r s (f .why) (g .why));
-    buffers = λ j. withOutcomes ((f .kept ∙ sym (g .kept)) j) ((f .uncounted ∙ sym (g .uncounted)) j);
+    answer = ap Fault (broken-unique (outcomeRules keeping w l) r s (f .why) (g .why));
+    buffers = λ j.
+        withOutcomes ((f .kept ∙ sym (g .kept)) j) ((f .totals-kept ∙ sym (g .totals-kept)) j) ((f .uncounted ∙ sym (g .uncounted)) j);
   }
-  outcomes-same (Fault r) (Swept i m) f g = absurd (broken-not-kept (outcomeRules w l) r (f .why) (swept-kept i m z g))
-  outcomes-same (Swept i m) (Fault s) f g = absurd (broken-not-kept (outcomeRules w l) s (g .why) (swept-kept i m y f))
-  outcomes-same (Swept i m) (Swept i′ m′) f g = record { answer = same .answer; buffers = λ j. withOutcomes (same .buffers j) (counts j) }
+  outcomes-same (Fault r) (Swept i m) f g = absurd (broken-not-kept (outcomeRules keeping w l) r (f .why) (swept-kept i m z g))
+  outcomes-same (Swept i m) (Fault s) f g = absurd (broken-not-kept (outcomeRules keeping w l) s (g .why) (swept-kept i m y f))
+  outcomes-same (Swept i m) (Swept i′ m′) f g = record {
+    answer = same .answer;
+    buffers = λ j. withOutcomes (same .buffers j) (same .totals j) (counts j);
+  }
     where
-      same : SameSweep (Swept i m) (y .buffers) (Swept i′ m′) (z .buffers)
-      same = sweep-determined w (l .buffers) (y .buffers) (z .buffers) _ _ (f .answers) (g .answers)
+      same : SameSweepKept (Swept i m) (y .buffers) (y .totals) (Swept i′ m′) (z .buffers) (z .totals)
+      same = sweep-keep-determined keeping w (l .buffers) (l .totals) (y .buffers) (z .buffers) (y .totals) (z .totals) (Swept i m) (Swept i′ m′)
+          (f .answers) (g .answers)
 
       counts : y .outcomes ≡ z .outcomes
       counts = f .counted ∙ (ap (λ (a : SweepAnswer). valuesTo (sweepValues a) (l .outcomes)) (same .answer) ∙ sym (g .counted))
 
 pub tsorvenk-sweep-determined :
-    (mode form : ℕ) (w : Sweep) (l y z : WithOutcomes) (r r′ : ℕ)
-    → SweepNumbers mode form w l r y
-    → SweepNumbers mode form w l r′ z
+    (mode form keeps : ℕ) (w : Sweep) (l y z : WithOutcomes) (r r′ : ℕ)
+    → SweepNumbers mode form keeps w l r y
+    → SweepNumbers mode form keeps w l r′ z
     → Same r r′ y z
-tsorvenk-sweep-determined mode form w l y z r r′ f g = go (coded mode form)
+tsorvenk-sweep-determined mode form keeps w l y z r r′ f g = go (coded mode form keeps)
   where
-    go : Dec (Coded mode form) → Same r r′ y z
+    go : Dec (Coded mode form keeps) → Same r r′ y z
     go (yes k) =
         let u = f .known k in
         let v = g .known k in
-        same-returned u v (outcomes-same w l y z (u .answer) (v .answer) (u .allowed) (v .allowed))
+        same-returned u v (outcomes-same (keepsBy (keepsOf keeps) (w .form)) w l y z (u .answer) (v .answer) (u .allowed) (v .allowed))
     go (no k) = record {
       answer = f .unknown k .number ∙ sym (g .unknown k .number);
       buffers = f .unknown k .kept ∙ sym (g .unknown k .kept);

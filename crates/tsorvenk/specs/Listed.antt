@@ -1,4 +1,4 @@
--- A refusal's number is one of the paper's list, 1 to 11. So the returned numbers 0, 64 and 65 are no refusal's, and each number tells its answer.
+-- A refusal's number is one of the paper's list, 1 to 14. So the returned numbers 0, 64 and 65 are no refusal's, and each number tells its answer.
 use Prim.Native.Nat.{ℕ, zero, suc, _≤_}
 use mathlib.Core.Path.{_≡_, refl}
 use mathlib.Core.Logic.{inl, inr}
@@ -12,10 +12,10 @@ use Rattle.paper.specs.declared.Answer.{Answer}
 use Rattle.paper.specs.declared.Answer.the-variants.{Refused, Idle, Moved}
 use Rattle.paper.specs.Panel.Input.{Lattice, Call, Choices, Buffers}
 use Rattle.paper.specs.Refusal.Rule.{Rule, Broken}
-use Rattle.paper.specs.Refusal.Rules.{rules, choiceRules}
-use Rattle.paper.specs.Answer.Move.{Answers}
+use Rattle.paper.specs.Refusal.Rules.{choiceRules}
 use Rattle.paper.specs.Answer.Task.{Sweep, masked, taskCall, taskChoices, tasks}
 use Rattle.paper.specs.Answer.Sweep.{taskRules}
+use Rattle.paper.specs.Answer.Totals.{totalsAsk, keptRules, KeepAnswers, handOverRules}
 use Rattle.label.specs.Entry as entry
 use Rattle.tsorvenk.specs.Number.{numberOf}
 use Rattle.tsorvenk.specs.Energy.{energyRules, EnergyRefuses}
@@ -23,7 +23,7 @@ use Rattle.tsorvenk.specs.Sweep.{WithOutcomes, outcomeRules, Unswept}
 
 pub record Listed (r : ℕ) : Type 0 where
   pub low : 1 ≤ r
-  pub high : r ≤ 11
+  pub high : r ≤ 14
 
 abbrev AllListed : List Rule → Type 0
 AllListed [] = Unit {0}
@@ -34,24 +34,28 @@ broken-listed [] r l w = absurd w
 broken-listed (q ∷ rs) r l (inl w) = rw (w .1) at (l .0)
 broken-listed (q ∷ rs) r l (inr w) = broken-listed rs r (l .1) (w .1)
 
-listed : {k : ℕ} → 1 ≤ k → k ≤ 11 → Listed k
+listed : {k : ℕ} → 1 ≤ k → k ≤ 14 → Listed k
 listed l h = record { low = l; high = h }
 
 -- ---- a step
-pub step-listed : (c : Call) (p : Choices) (b b′ : Buffers) (r : ℕ) → Answers c p b (Refused r) b′ → Listed r
-step-listed c p b b′ r h = broken-listed (rules c p b) r all (h .why)
-  where
-    all : AllListed (rules c p b)
-    all = search (listed, arith)
+module _ (keeping : Bool) (c : Call) (p : Choices) (b : Buffers) (ts : List ℤ) (b′ : Buffers) (ts′ : List ℤ) where
+  pub step-listed : (r : ℕ) → KeepAnswers keeping c p b ts (Refused r) b′ ts′ → Listed r
+  step-listed r h = broken-listed (keptRules keeping c p b ts) r all (h .why)
+    where
+      all : AllListed (keptRules keeping c p b ts)
+      all = search (listed, arith)
 
 -- 0 moved, 64 idle, any other a refusal
 abbrev pub answerOf : ℕ → Answer
 answerOf r = cond (eqb r 0) Moved (cond (eqb r 64) Idle (Refused r))
 
-pub step-told : (c : Call) (p : Choices) (b b′ : Buffers) (a : Answer) → Answers c p b a b′ → answerOf (numberOf a) ≡ a
-step-told c p b b′ (Refused r) h = let l = step-listed c p b b′ r h in rw (ne-eqb r 0 (λ e. omega arith), ne-eqb r 64 (λ e. omega arith))
-step-told c p b b′ Idle h = refl
-step-told c p b b′ Moved h = refl
+pub step-told :
+    (keeping : Bool) (c : Call) (p : Choices) (b : Buffers) (ts : List ℤ) (b′ : Buffers) (ts′ : List ℤ) (a : Answer)
+    → KeepAnswers keeping c p b ts a b′ ts′ → answerOf (numberOf a) ≡ a
+step-told keeping c p b ts b′ ts′ (Refused r) h =
+    let l = step-listed keeping c p b ts b′ ts′ r h in rw (ne-eqb r 0 (λ e. omega arith), ne-eqb r 64 (λ e. omega arith))
+step-told keeping c p b ts b′ ts′ Idle h = refl
+step-told keeping c p b ts b′ ts′ Moved h = refl
 
 -- ---- the meter
 pub energy-listed : (t : Lattice) (xs : List ℤ) (k : ℕ) (es es′ : List ℤ) (r : ℕ) → EnergyRefuses t xs k es r es′ → Listed r
@@ -85,8 +89,21 @@ tasks-listed w b (suc k) =
     append-listed (taskRules w b k) _ (tasks-listed w b k)
     (unless-listed (masked w k) _ (choices-listed (taskCall w k) (taskChoices w k) (b .spins)))
 
-pub sweep-listed : (w : Sweep) (l l′ : WithOutcomes) (r : ℕ) → Unswept w l r l′ → Listed r
-sweep-listed w l l′ r h = broken-listed (outcomeRules w l) r all (h .why)
+pub sweep-listed : (keeping : Bool) (w : Sweep) (l l′ : WithOutcomes) (r : ℕ) → Unswept keeping w l r l′ → Listed r
+sweep-listed keeping w l l′ r h = broken-listed (outcomeRules keeping w l) r all (h .why)
   where
-    all : AllListed (outcomeRules w l)
-    all = let ts = tasks-listed w (l .buffers) (tasks w) in search (listed, arith, ts)
+    last : AllListed (totalsAsk keeping (w .lattice) (l .totals) .last)
+    last = search (listed, arith)
+
+    rest : AllListed (taskRules w (l .buffers) (tasks w) ++ totalsAsk keeping (w .lattice) (l .totals) .last)
+    rest = append-listed (taskRules w (l .buffers) (tasks w)) _ (tasks-listed w (l .buffers) (tasks w)) last
+
+    all : AllListed (outcomeRules keeping w l)
+    all = search (listed, arith, rest)
+
+-- ---- the hand-over
+pub hand-over-listed : (g : Lattice) (xs ts : List ℤ) (r : ℕ) → Broken (handOverRules g xs ts) r → Listed r
+hand-over-listed g xs ts r h = broken-listed (handOverRules g xs ts) r all h
+  where
+    all : AllListed (handOverRules g xs ts)
+    all = search (listed, arith)

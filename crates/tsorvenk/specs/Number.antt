@@ -1,4 +1,4 @@
--- The numbers of the C interface: codes of modes and forms, and what is returned for an answer.
+-- The numbers of the C interface: codes of modes, of forms and of what is kept, and what is returned for an answer.
 use Prim.Native.Nat.{ℕ, zero, suc, _+_, _≤_}
 use mathlib.Core.Path.{_≡_}
 use mathlib.Core.Bool.{cond}
@@ -11,15 +11,18 @@ use Rattle.paper.specs.declared.Mode.{Mode}
 use Rattle.paper.specs.declared.Mode.the-variants.{Houd, Pair, Perm, Gperm, Jorg, Cmr}
 use Rattle.paper.specs.declared.Form.{Form}
 use Rattle.paper.specs.declared.Form.the-variants.{Sw, Wolff, Observe, Grow}
+use Rattle.paper.specs.declared.Keeps.{Keeps}
+use Rattle.paper.specs.declared.Keeps.the-variants.{Nothing, Totals}
 use Rattle.paper.specs.declared.Answer.{Answer}
 use Rattle.paper.specs.declared.Answer.the-variants.{Refused, Idle, Moved}
 use Rattle.paper.specs.Panel.Takes.{isPerm}
 use Rattle.paper.specs.Answer.Number.{number}
 
--- 0 houd, 1 pair, 2 perm, 3 gperm, 4 Jörg, 5 CMR; 0 SW, 1 Wolff, 2 observe, 3 grow
-pub record Coded (mode form : ℕ) : Type 0 where
+-- 0 houd, 1 pair, 2 perm, 3 gperm, 4 Jörg, 5 CMR; 0 SW, 1 Wolff, 2 observe, 3 grow; 0 nothing is kept, 1 totals
+pub record Coded (mode form keeps : ℕ) : Type 0 where
   pub mode-known : mode ≤ 5
   pub form-known : form ≤ 3
+  pub keeps-known : keeps ≤ 1
 
 abbrev pub modeOf : ℕ → Mode
 modeOf zero = Houd
@@ -34,6 +37,10 @@ formOf zero = Sw
 formOf (suc zero) = Wolff
 formOf (suc (suc zero)) = Observe
 formOf (suc (suc (suc k))) = Grow
+
+abbrev pub keepsOf : ℕ → Keeps
+keepsOf zero = Nothing
+keepsOf (suc k) = Totals
 
 -- as many systems as are lent. A group has room for eight; more are refused for their number
 abbrev pub groupOf : List ℕ → Group
@@ -62,10 +69,11 @@ valuesTo (v ∷ vs) xs = v ∷ vs
 
 -- ---- laws
 
-pub coded : (mode form : ℕ) → Dec (Coded mode form)
-coded mode form = go (decLe mode 5) (decLe form 3)
+pub coded : (mode form keeps : ℕ) → Dec (Coded mode form keeps)
+coded mode form keeps = go (decLe mode 5) (decLe form 3) (decLe keeps 1)
   where
-    go : Dec (mode ≤ 5) → Dec (form ≤ 3) → Dec (Coded mode form)
-    go (yes m) (yes f) = yes (record { mode-known = m; form-known = f })
-    go (yes m) (no f) = no (λ k. f (k .form-known))
-    go (no m) f = no (λ k. m (k .mode-known))
+    go : Dec (mode ≤ 5) → Dec (form ≤ 3) → Dec (keeps ≤ 1) → Dec (Coded mode form keeps)
+    go (yes m) (yes f) (yes k) = yes (record { mode-known = m; form-known = f; keeps-known = k })
+    go (yes m) (yes f) (no k) = no (λ c. k (c .keeps-known))
+    go (yes m) (no f) k = no (λ c. f (c .form-known))
+    go (no m) f k = no (λ c. m (c .mode-known))

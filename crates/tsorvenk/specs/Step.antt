@@ -1,17 +1,29 @@
 -- What `tsorvenk_step` answers.
 use Prim.Native.Nat.{ℕ}
 use mathlib.Core.Path.{_≡_}
+use mathlib.Core.List.{List}
+use lib.IntN.{ℤ}
 use Rattle.paper.specs.declared.Answer.the-variants.{Refused}
 use Rattle.paper.specs.Panel.Input.{Call, Choices, Buffers}
-use Rattle.paper.specs.Answer.Move.{Answers}
-use Rattle.tsorvenk.specs.Number.{Coded, numberOf, Returned}
+use Rattle.paper.specs.Panel.Takes.{keepsBy}
+use Rattle.paper.specs.Answer.Totals.{KeepAnswers}
+use Rattle.tsorvenk.specs.Number.{Coded, keepsOf, numberOf, Returned}
+
+-- what a move is lent to write to: the paper's buffers, and the totals
+pub record WithTotals : Type 0 where
+  pub buffers : Buffers
+  pub totals : List ℤ
+
+abbrev pub withTotals : Buffers → List ℤ → WithTotals
+withTotals b ts = record { buffers = b; totals = ts }
 
 -- a code that is none is refused with 1
-pub record Uncoded (r : ℕ) (b b′ : Buffers) : Type 0 where
+pub record Uncoded (r : ℕ) (l l′ : WithTotals) : Type 0 where
   pub number : r ≡ numberOf (Refused 1)
-  pub kept : b′ ≡ b
+  pub kept : l′ ≡ l
 
--- the number r is that of the paper's answer to the call c, which has the mode and form of these codes
-pub record StepAnswers (mode form : ℕ) (c : Call) (p : Choices) (b : Buffers) (r : ℕ) (b′ : Buffers) : Type 0 where
-  pub known : Coded mode form → Returned numberOf (λ a. Answers c p b a b′) r
-  pub unknown : (Coded mode form → ⊥) → Uncoded r b b′
+-- the number r is that of the paper's answer to the call c, which has the mode and form of these codes, and keeps what the third says
+pub record StepAnswers (mode form keeps : ℕ) (c : Call) (p : Choices) (l : WithTotals) (r : ℕ) (l′ : WithTotals) : Type 0 where
+  pub known : Coded mode form keeps → Returned numberOf
+      (λ a. KeepAnswers (keepsBy (keepsOf keeps) (c .form)) c p (l .buffers) (l .totals) a (l′ .buffers) (l′ .totals)) r
+  pub unknown : (Coded mode form keeps → ⊥) → Uncoded r l l′

@@ -9,6 +9,7 @@ use lemmas::wide;
 use paper::Answer;
 use paper::Form;
 use paper::Group;
+use paper::Keeps;
 use paper::MeterAnswer;
 use paper::Mode;
 use paper::Task;
@@ -17,11 +18,12 @@ ghost use Prim.Native.Nat.{_≤_};
 ghost use lib.ListN.{getD};
 ghost use Rattle.lemmas.specs.Tells.{Tells};
 ghost use Rattle.label.specs.Entry.{labellingNumber};
-ghost use Rattle.meter.specs.Part.{latticeOf};
-ghost use Rattle.paper.specs.Panel.Made.{callOf, choicesOf, buffersOf};
+ghost use Rattle.paper.specs.Panel.Made.{latticeOf, callOf, choicesOf, buffersOf};
+ghost use Rattle.paper.specs.Refusal.Verdict.{Verdict};
+ghost use Rattle.paper.specs.Answer.Totals.{handOverRules};
 ghost use Rattle.steps.specs.Rule.{taskOf};
-ghost use Rattle.tsorvenk.specs.Number.{Coded, modeOf, formOf, groupOf, takenOf, numberOf};
-ghost use Rattle.tsorvenk.specs.Step.{StepAnswers};
+ghost use Rattle.tsorvenk.specs.Number.{Coded, modeOf, formOf, keepsOf, groupOf, takenOf, numberOf};
+ghost use Rattle.tsorvenk.specs.Step.{withTotals, StepAnswers};
 ghost use Rattle.tsorvenk.specs.Energy.{EnergyAnswers};
 ghost use Rattle.tsorvenk.specs.Label.{LabelAnswers};
 
@@ -51,11 +53,21 @@ fn form_of(code: u8) -> Form
     }
 }
 
-// The codes are of a mode and a form.
-fn codes_ok(mode: u8, form: u8) -> bool
-    ensures { λ r. ⌜ Tells r (Coded mode form) ⌝ }
+fn keeps_of(code: u8) -> Keeps
+    requires { ⌜ code ≤ 1 ⌝ }
+    ensures { λ r. ⌜ r ≡ keepsOf code ⌝ }
 {
-    (mode <= 5) & (form <= 3)
+    match code {
+        0 => Keeps::Nothing,
+        _ => Keeps::Totals,
+    }
+}
+
+// The codes are of a mode, of a form and of what is kept.
+fn codes_ok(mode: u8, form: u8, keeps: u8) -> bool
+    ensures { λ r. ⌜ Tells r (Coded mode form keeps) ⌝ }
+{
+    (mode <= 5) & (form <= 3) & (keeps <= 1)
 }
 
 fn system_at(group: &[u32], k: usize) -> usize
@@ -100,15 +112,18 @@ fn number_of(answer: Answer) -> u8
     }
 }
 
-// One move or observation. The length of `group` is the number of its systems. Of `flips` and `perms` the mode takes one, and the other is ignored.
+// One move or observation. The length of `group` is the number of its systems. Of `flips` and `perms` the mode takes one, and the other is ignored;
+// and so are the totals where they are not kept.
 #[no_mangle]
 pub extern "C" fn tsorvenk_step<'a>(
     mode: u8,
     form: u8,
+    keeps: u8,
     n: usize,
     d: usize,
     s: usize,
     spins: &mut [i8],
+    totals: &mut [i64],
     fwd: &[u32],
     bwd: &[u32],
     couplings: &[i32],
@@ -126,23 +141,24 @@ pub extern "C" fn tsorvenk_step<'a>(
     sizes: &mut [u32],
     member_sites: &mut [u8],
 ) -> u8
-    ensures { λ r. ⌜ StepAnswers mode form
-        (callOf (taskOf (modeOf mode) (formOf form) n d s (groupOf (now (group .entry))) temperature reference seed)
+    ensures { λ r. ⌜ StepAnswers mode form keeps
+        (callOf (taskOf (modeOf mode) (formOf form) (keepsOf keeps) n d s (groupOf (now (group .entry))) temperature reference seed)
         (now (fwd .entry)) (now (bwd .entry)) (now (couplings .entry)) (now (cuts .entry)))
         (choicesOf (takenOf (modeOf mode) (now (flips .entry)) (now (perms .entry))) (now (greys .entry)))
-        (buffersOf (now (spins .entry)) (now (labels .entry)) (now («grey_labels» .entry)) (now (counts .entry)) (now (sizes .entry))
-        (now («member_sites» .entry)))
+        (withTotals (buffersOf (now (spins .entry)) (now (labels .entry)) (now («grey_labels» .entry)) (now (counts .entry)) (now (sizes .entry))
+        (now («member_sites» .entry))) (now (totals .entry)))
         r
-        (buffersOf (now (spins .exit)) (now (labels .exit)) (now («grey_labels» .exit)) (now (counts .exit)) (now (sizes .exit))
-        (now («member_sites» .exit))) ⌝ }
+        (withTotals (buffersOf (now (spins .exit)) (now (labels .exit)) (now («grey_labels» .exit)) (now (counts .exit)) (now (sizes .exit))
+        (now («member_sites» .exit))) (now (totals .exit))) ⌝ }
 {
-    if !codes_ok(mode, form) {
+    if !codes_ok(mode, form, keeps) {
         return 1;
     }
     let m = mode_of(mode);
     let t = Task {
         mode: m,
         form: form_of(form),
+        keeps: keeps_of(keeps),
         n,
         d,
         s,
@@ -154,6 +170,7 @@ pub extern "C" fn tsorvenk_step<'a>(
     let answer = steps::overlap_step(
         t,
         spins,
+        totals,
         fwd,
         bwd,
         couplings,
@@ -167,6 +184,25 @@ pub extern "C" fn tsorvenk_step<'a>(
         member_sites,
     );
     number_of(answer)
+}
+
+// The first hand-over of totals: 0, or the number of the first test that fails. Nothing is written.
+#[no_mangle]
+pub extern "C" fn tsorvenk_hand_over(
+    n: usize,
+    d: usize,
+    s: usize,
+    spins: &[i8],
+    totals: &[i64],
+    fwd: &[u32],
+    bwd: &[u32],
+    couplings: &[i32],
+) -> u8
+    ensures { λ r. ⌜ Verdict
+        (handOverRules (latticeOf n d s (now (fwd .entry)) (now (bwd .entry)) (now (couplings .entry))) (now (spins .entry)) (now (totals .entry)))
+        r ⌝ }
+{
+    meter::hand_over(n, d, s, spins, totals, fwd, bwd, couplings)
 }
 
 // The energy of one system, into a buffer of one number.

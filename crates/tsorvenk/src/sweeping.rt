@@ -1,9 +1,11 @@
 // A sweep, as C and Rust call it.
 use super::codes_ok;
 use super::form_of;
+use super::keeps_of;
 use super::mode_of;
 use super::taken;
 use paper::Form;
+use paper::Keeps;
 use paper::Mode;
 use paper::Plan;
 use paper::SweepAnswer;
@@ -11,7 +13,7 @@ ghost use mathlib.Core.Path.{_≡_};
 ghost use lib.ListN.{length};
 ghost use Rattle.paper.specs.Panel.Made.{buffersOf};
 ghost use Rattle.paper.specs.Answer.Made.{sweepOf};
-ghost use Rattle.tsorvenk.specs.Number.{modeOf, formOf, takenOf};
+ghost use Rattle.tsorvenk.specs.Number.{modeOf, formOf, keepsOf, takenOf};
 ghost use Rattle.tsorvenk.specs.Sweep.{planFor, Roomless, Told, withOutcomes, SweepNumbers};
 
 // What is refused for want of room for the two counts: test 1 comes first.
@@ -44,6 +46,7 @@ fn tell(answer: SweepAnswer, outcomes: &mut [u32]) -> u8
 pub extern "C" fn tsorvenk_sweep<'a>(
     mode: u8,
     form: u8,
+    keeps: u8,
     n: usize,
     d: usize,
     s: usize,
@@ -51,6 +54,7 @@ pub extern "C" fn tsorvenk_sweep<'a>(
     r: usize,
     members: usize,
     spins: &mut [i8],
+    totals: &mut [i64],
     fwd: &[u32],
     bwd: &[u32],
     couplings: &[i32],
@@ -70,23 +74,25 @@ pub extern "C" fn tsorvenk_sweep<'a>(
     member_sites: &mut [u8],
     outcomes: &mut [u32],
 ) -> u8
-    ensures { λ k. ⌜ SweepNumbers mode form
-        (sweepOf (planFor (modeOf mode) (formOf form) n d s t r members) (now (fwd .entry)) (now (bwd .entry)) (now (couplings .entry)) (now (order .entry))
-        (now (masks .entry)) (now (temperatures .entry)) (now (cuts .entry)) (now (references .entry)) (now (seeds .entry))
+    ensures { λ k. ⌜ SweepNumbers mode form keeps
+        (sweepOf (planFor (modeOf mode) (formOf form) (keepsOf keeps) n d s t r members) (now (fwd .entry)) (now (bwd .entry))
+        (now (couplings .entry)) (now (order .entry)) (now (masks .entry)) (now (temperatures .entry)) (now (cuts .entry))
+        (now (references .entry)) (now (seeds .entry))
         (takenOf (modeOf mode) (now (flips .entry)) (now (perms .entry))) (now (greys .entry)))
         (withOutcomes (buffersOf (now (spins .entry)) (now (labels .entry)) (now («grey_labels» .entry)) (now (counts .entry)) (now (sizes .entry))
-        (now («member_sites» .entry))) (now (outcomes .entry)))
+        (now («member_sites» .entry))) (now (totals .entry)) (now (outcomes .entry)))
         k
         (withOutcomes (buffersOf (now (spins .exit)) (now (labels .exit)) (now («grey_labels» .exit)) (now (counts .exit)) (now (sizes .exit))
-        (now («member_sites» .exit))) (now (outcomes .exit))) ⌝ }
+        (now («member_sites» .exit))) (now (totals .exit)) (now (outcomes .exit))) ⌝ }
 {
-    if !codes_ok(mode, form) {
+    if !codes_ok(mode, form, keeps) {
         return 1;
     }
     let m = mode_of(mode);
     let plan = Plan {
         mode: m,
         form: form_of(form),
+        keeps: keeps_of(keeps),
         n,
         d,
         s,
@@ -100,6 +106,7 @@ pub extern "C" fn tsorvenk_sweep<'a>(
     let answer = sweep::overlap_update(
         plan,
         spins,
+        totals,
         fwd,
         bwd,
         couplings,

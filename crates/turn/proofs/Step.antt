@@ -10,7 +10,8 @@ use lib.ListN.{getD}
 use lib.IntN.{ℤ}
 use Rattle.paper.specs.declared.Task.{Task}
 use Rattle.paper.specs.Panel.Input.{Pattern, member, patternOf}
-use Rattle.columns.specs.Column.{shown, columnOf}
+use Rattle.paper.specs.Refusal.Rules.{Spin}
+use Rattle.columns.specs.Column.{shown, shown-spin, columnOf}
 use Rattle.columns.specs.Gauge.{gaugeOf}
 use Rattle.columns.specs.Rows.{SiteWritten}
 use Rattle.columns.specs.Laws.{other-sites, other-systems}
@@ -31,6 +32,7 @@ module _ (t : Task) (choices greys list : List ℕ) (blue : ℕ) (xs : List ℤ)
   none-turned = record {
     long = refl;
     listed = λ x k h l. absurd (omega arith);
+    spins = λ x k h l. absurd (omega arith);
     others = λ i s h o. refl;
     systems = λ i s h o. refl;
     empty = λ e. refl;
@@ -58,11 +60,18 @@ module _ (t : Task) (choices greys list : List ℕ) (blue : ℕ) (xs : List ℤ)
         one-turned = record {
           long = w .long ∙ was .long;
           listed = λ y k l g. listed y k l g (ℕ-discrete y x);
+          spins = λ y k l g. spins y k l g (ℕ-discrete y x);
           others = λ i s l o. other-sites w (a .sites x h) i s l (o x (omega arith)) ∙ was .others i s l (λ y g. o y (omega arith));
           systems = λ i s l o. other-systems w (a .sites x h) i s l o ∙ was .systems i s l o;
           empty = λ z. absurd (omega (arith, a .sites x h));
         }
           where
+            spins : (y k : ℕ) → y < x + 1 → k < m → Dec (y ≡ x) → Spin (at zs (site y) k)
+            spins y k l g (yes q) = rw (q, w .group k g) (shown-spin new k)
+            spins y k l g (no q) =
+                let b : y < x = omega arith in
+                rw (other-sites w (a .sites x h) (site y) (member (t .group) k) (a .sites y (omega arith)) (λ z. before y b (sym z))) (was .spins y k b g)
+
             listed :
                 (y k : ℕ) → y < x + 1 → k < m → Dec (y ≡ x)
                 → at zs (site y) k ≡ turnedTo t choices greys (at xs (t .reference)) (ltb y blue) (at xs (site y)) k

@@ -13,7 +13,7 @@ use Rattle.paper.specs.Panel.Input.{Call, Pattern, member, spin, patternOf}
 use Rattle.paper.specs.Panel.Made.{callOf, choicesOf}
 use Rattle.paper.specs.Panel.Takes.{isPerm, isCmr, entry}
 use Rattle.paper.specs.Move.Moving.{flipBy, flipSome, actBy, greyAt, greyBit}
-use Rattle.paper.specs.Refusal.Rules.{When, Distinct, Permutes}
+use Rattle.paper.specs.Refusal.Rules.{When, Spin, Distinct, Permutes}
 use Rattle.columns.specs.Column.{columnOf}
 use Rattle.column_rules.specs.Acted.{choiceColumn}
 use Rattle.column_rules.specs.Sight.{Sighted}
@@ -85,6 +85,8 @@ pub record Turned (t : Task) (choices greys list : List ℕ) (blue len : ℕ) (x
   pub listed : (x k : ℕ) → x < len → k < t .group .len
       → patternOf (t .n) (t .group) ys (getD list x 0) k
       ≡ turnedTo t choices greys (patternOf (t .n) (t .group) xs (t .reference)) (ltb x blue) (patternOf (t .n) (t .group) xs (getD list x 0)) k
+  -- which are spins again
+  pub spins : (x k : ℕ) → x < len → k < t .group .len → Spin (patternOf (t .n) (t .group) ys (getD list x 0) k)
   pub others : (i s : ℕ) → i < t .n → ((x : ℕ) → x < len → i ≢ getD list x 0) → spin (t .n) ys s i ≡ spin (t .n) xs s i
   pub systems : (i s : ℕ) → i < t .n → ((k : ℕ) → k < t .group .len → s ≢ member (t .group) k) → spin (t .n) ys s i ≡ spin (t .n) xs s i
   -- with no sites there are no rows

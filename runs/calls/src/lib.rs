@@ -60,6 +60,22 @@ impl Form {
     }
 }
 
+/// What a call keeps beside the spins (6/14).
+#[derive(Clone, Copy, Debug, PartialEq, Eq)]
+pub enum Keeps {
+    Nothing = 0,
+    Totals = 1,
+}
+
+impl Keeps {
+    pub const ALL: [Keeps; 2] = [Keeps::Nothing, Keeps::Totals];
+
+    /// Whether a call of this form takes totals, and couplings with them: to observe moves nothing and keeps none.
+    pub fn totals(self, form: Form) -> bool {
+        self == Keeps::Totals && form != Form::Observe
+    }
+}
+
 #[derive(Clone, Copy, Debug, PartialEq, Eq)]
 pub enum Answer {
     Moved,
@@ -83,10 +99,12 @@ pub enum MeterAnswer {
 pub struct Step<'a> {
     pub mode: Mode,
     pub form: Form,
+    pub keeps: Keeps,
     pub n: usize,
     pub d: usize,
     pub s: usize,
     pub spins: &'a mut [i8],
+    pub totals: &'a mut [i64],
     pub fwd: &'a [u32],
     pub bwd: &'a [u32],
     pub couplings: &'a [i32],
@@ -105,10 +123,47 @@ pub struct Step<'a> {
     pub member_sites: &'a mut [u8],
 }
 
+impl<'a> Step<'a> {
+    /// The same move as a sweep of one group at one temperature; `sites` are its reference and its seed.
+    pub fn as_sweep(self, temperature: &'a [f32; 1], sites: &'a [u32; 2]) -> Sweep<'a> {
+        Sweep {
+            mode: self.mode,
+            form: self.form,
+            keeps: self.keeps,
+            n: self.n,
+            d: self.d,
+            s: self.s,
+            t: 1,
+            r: self.group.len(),
+            members: self.group.len(),
+            spins: self.spins,
+            totals: self.totals,
+            fwd: self.fwd,
+            bwd: self.bwd,
+            couplings: self.couplings,
+            order: self.group,
+            masks: &[0],
+            temperatures: temperature,
+            cuts: self.cuts,
+            references: &sites[..1],
+            seeds: &sites[1..],
+            flips: self.flips,
+            perms: self.perms,
+            greys: self.greys,
+            labels: self.labels,
+            grey_labels: self.grey_labels,
+            counts: self.counts,
+            sizes: self.sizes,
+            member_sites: self.member_sites,
+        }
+    }
+}
+
 /// One sweep. Task `j * (r / members) + g` has its areas at that number; a mask byte of 1 masks its temperature.
 pub struct Sweep<'a> {
     pub mode: Mode,
     pub form: Form,
+    pub keeps: Keeps,
     pub n: usize,
     pub d: usize,
     pub s: usize,
@@ -116,6 +171,7 @@ pub struct Sweep<'a> {
     pub r: usize,
     pub members: usize,
     pub spins: &'a mut [i8],
+    pub totals: &'a mut [i64],
     pub fwd: &'a [u32],
     pub bwd: &'a [u32],
     pub couplings: &'a [i32],
@@ -147,6 +203,18 @@ pub struct Meter<'a> {
     pub system: usize,
 }
 
+/// Totals, to be held to the energy of each system.
+pub struct HandOver<'a> {
+    pub n: usize,
+    pub d: usize,
+    pub s: usize,
+    pub spins: &'a [i8],
+    pub totals: &'a [i64],
+    pub fwd: &'a [u32],
+    pub bwd: &'a [u32],
+    pub couplings: &'a [i32],
+}
+
 /// Labels of a table of holding bonds (1 holds, 0 does not), and counts and the four sizes of those components whose smallest site has
 /// the byte 1 in `counted`.
 pub struct Label<'a> {
@@ -166,6 +234,8 @@ pub trait Port {
     fn step(&mut self, call: Step) -> Answer;
     fn sweep(&mut self, call: Sweep) -> SweepAnswer;
     fn energy(&mut self, call: Meter) -> MeterAnswer;
+    /// 0, or a refusal number.
+    fn hand_over(&mut self, call: HandOver) -> u8;
     /// 0, or a refusal number.
     fn label(&mut self, call: Label) -> u8;
 }

@@ -303,34 +303,8 @@ pub fn sweep(mut call: Sweep, branch: Branch, sequential: bool) -> Vec<bool> {
 
 /// A single move is a sweep of one group at one temperature.
 fn with_sweep<T>(call: Step, run: impl FnOnce(Sweep) -> T) -> T {
-    run(Sweep {
-        mode: call.mode,
-        form: call.form,
-        n: call.n,
-        d: call.d,
-        s: call.s,
-        t: 1,
-        r: call.group.len(),
-        members: call.group.len(),
-        spins: call.spins,
-        fwd: call.fwd,
-        bwd: call.bwd,
-        couplings: call.couplings,
-        order: call.group,
-        masks: &[0],
-        temperatures: &[call.temperature],
-        cuts: call.cuts,
-        references: &[call.reference as u32],
-        seeds: &[call.seed as u32],
-        flips: call.flips,
-        perms: call.perms,
-        greys: call.greys,
-        labels: call.labels,
-        grey_labels: call.grey_labels,
-        counts: call.counts,
-        sizes: call.sizes,
-        member_sites: call.member_sites,
-    })
+    let (temperature, sites) = ([call.temperature], [call.reference, call.seed]);
+    run(call.as_sweep(&temperature, &sites.map(|site| site as u32)))
 }
 
 /// Runs a move that document 01 accepts; see `sweep` for the answer.
@@ -347,6 +321,7 @@ pub fn active(call: &Step) -> Vec<bool> {
             let probe = Step {
                 form: Form::Wolff,
                 spins: &mut call.spins.to_vec(),
+                totals: &mut [],
                 perms: &rotation,
                 seed,
                 labels: &mut [],

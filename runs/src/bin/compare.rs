@@ -3,13 +3,14 @@
 //! `cases` is the number of random single moves, and of sweeps, for each mode and form (default 2000). Each is also
 //! damaged; damaged calls go to the model and the port alone, since the Rust checks nothing. Before them come all single
 //! moves of those small shapes that have at most 100 times as many, and no more than 200000. A call that grows is also held
-//! to Wolff's call with the same seed, cuts and choices, damaged or not.
+//! to Wolff's call with the same seed, cuts and choices, damaged or not. Half of the calls keep totals, and all of the small
+//! shapes. Last come days that keep totals, a thousand calls each on one panel, one day for every 50 cases.
 use calls::{Form, Mode, Port};
 use std::process::ExitCode;
 use tsorvenk_runs::compare::{self, keep, Found, Line};
 use tsorvenk_runs::make::{self, Size};
 use tsorvenk_runs::rand::Rand;
-use tsorvenk_runs::{damage, exhaustive, port};
+use tsorvenk_runs::{damage, days, exhaustive, port};
 
 struct Run {
     cases: u64,
@@ -63,6 +64,16 @@ impl Run {
         self.note(found);
     }
 
+    fn days(&mut self) -> days::Tally {
+        let mut tally = days::Tally::default();
+        for number in 0..self.cases.div_ceil(50) {
+            let mut rand = Rand::of(&[self.seed, 6, number]);
+            let found = days::run(&mut rand, self.port.as_mut(), &mut tally);
+            self.note(found);
+        }
+        tally
+    }
+
     fn mode_and_form(&mut self, mode: Mode, form: Form) -> Line {
         let mut line = Line::default();
         exhaustive::each(mode, form, self.small(), |case| {
@@ -79,7 +90,10 @@ impl Run {
 
 fn print(mode: Mode, form: Form, line: &Line) {
     println!(
-        "{:5} {:7} singles {:6} (all small: {:6}) sweeps {:6} | Rust: labelled {:6} depth first {:6} acting sites {:6} | beside Wolff {:6} | odd N {:5} idle {:6} | port {:6} | damaged {:6} refused {:?} | differences {}",
+        "{:5} {:7} singles {:6} (all small: {:6}) sweeps {:6} | \
+        Rust: labelled {:6} depth first {:6} acting sites {:6} | beside Wolff {:6} | odd N {:5} idle {:6} | \
+        port {:6} | damaged {:6} refused {:?} | \
+        totals kept {:6} handed over {:?} | differences {}",
         mode.name(),
         form.name(),
         line.singles,
@@ -94,7 +108,23 @@ fn print(mode: Mode, form: Form, line: &Line) {
         line.port,
         line.damaged,
         &line.refused[1..],
+        line.kept,
+        line.handed,
         line.differences,
+    );
+}
+
+fn print_days(tally: &days::Tally) {
+    println!(
+        "days of {} calls {:4} | moved {:6} idle {:5} observed {:5} swept {:6} refused {:?} | differences {}",
+        days::CALLS,
+        tally.days,
+        tally.moved,
+        tally.idle,
+        tally.observed,
+        tally.swept,
+        &tally.refused[1..],
+        tally.differences,
     );
 }
 
@@ -128,6 +158,9 @@ fn main() -> ExitCode {
             differences += line.differences;
         }
     }
+    let tally = run.days();
+    print_days(&tally);
+    differences += tally.differences;
     match run.smallest {
         None => {
             println!("no difference");

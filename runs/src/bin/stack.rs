@@ -6,6 +6,7 @@ use std::hint::black_box;
 use std::mem::MaybeUninit;
 use tsorvenk_runs::port;
 use tsorvenk_runs::rand::Rand;
+use tsorvenk_runs::timing::pieces::kept;
 use tsorvenk_runs::timing::{self, torus, N};
 
 const ROOM: usize = 1 << 20;
@@ -45,6 +46,9 @@ fn run(port: &mut dyn Port) {
         let mut lent = case.lent.clone();
         let name = format!("{} {}", mode.name(), form.name());
         line(&name, || port.step(case.step(&mut lent)));
+        let kept = kept(&case);
+        let mut lent = kept.lent.clone();
+        line("  its totals", || port.step(kept.step(&mut lent)));
         let case = timing::swept(&mut rand, mode, form, 4, members);
         let mut lent = case.lent.clone();
         line("  its sweep", || port.sweep(case.sweep(&mut lent)));

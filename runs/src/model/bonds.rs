@@ -73,12 +73,12 @@ pub fn holds(
     match task.mode {
         Mode::Houd | Mode::Pair | Mode::Perm | Mode::Gperm => both_act,
         Mode::Jorg => {
-            let coupling = i64::from(task.couplings[bond]);
+            let coupling = i64::from(panel.couplings[bond]);
             let strength = jorg_strength(panel, task, i, j, coupling);
             let scale = 4.0 / task.temperature;
             both_act && strength > 0 && drawn(scale, strength, task.cuts[bond])
         }
-        Mode::Cmr => match cmr_kind(panel, task, i, j, i64::from(task.couplings[bond])) {
+        Mode::Cmr => match cmr_kind(panel, task, i, j, i64::from(panel.couplings[bond])) {
             Kind::None => false,
             Kind::Blue(strength) => drawn(4.0 / task.temperature, strength, task.cuts[bond]),
             Kind::Red(strength) => grey && drawn(2.0 / task.temperature, strength, task.cuts[bond]),

@@ -33,11 +33,11 @@ pub fn tables_refused(panel: Panel) -> bool {
     })
 }
 
-pub fn systems_refused(systems: &[u32], s: usize) -> bool {
+pub fn systems_refused(systems: &[usize], s: usize) -> bool {
     systems
         .iter()
         .enumerate()
-        .any(|(k, &system)| system as usize >= s || systems[..k].contains(&system))
+        .any(|(k, &system)| system >= s || systems[..k].contains(&system))
 }
 
 pub fn coupling_refused(couplings: &[i32]) -> bool {
@@ -116,6 +116,28 @@ pub fn lengths(
 
 pub fn differs(wanted: Option<usize>, found: usize) -> bool {
     wanted.is_some_and(|wanted| wanted != found)
+}
+
+/// Tests 3 to 7, of what a call names or takes of it: none where it takes no such thing.
+pub fn panel_refusal(
+    panel: Panel,
+    systems: &[usize],
+    couplings_taken: bool,
+    temperatures: &[f32],
+) -> Option<u8> {
+    if spins_refused(panel.spins) {
+        Some(3)
+    } else if tables_refused(panel) {
+        Some(4)
+    } else if systems_refused(systems, panel.s) {
+        Some(5)
+    } else if couplings_taken && coupling_refused(panel.couplings) {
+        Some(6)
+    } else if temperatures.iter().any(|&t| temperature_refused(t)) {
+        Some(7)
+    } else {
+        None
+    }
 }
 
 pub fn choices_refused(panel: Panel, task: &Task) -> bool {

@@ -1,18 +1,8 @@
 //! A sweep: its tasks and its refusals.
 use super::refusals::*;
-use super::{Panel, Task};
+use super::totals::{totals_length_refused, totals_refusal};
+use super::{systems, Task};
 use calls::Sweep;
-
-pub fn sweep_panel<'a>(call: &'a Sweep) -> Panel<'a> {
-    Panel {
-        n: call.n,
-        d: call.d,
-        s: call.s,
-        spins: call.spins,
-        fwd: call.fwd,
-        bwd: call.bwd,
-    }
-}
 
 fn part<T>(buffer: &[T], task: usize, length: usize) -> &[T] {
     &buffer[task * length..(task + 1) * length]
@@ -35,11 +25,7 @@ pub fn sweep_task<'a>(call: &'a Sweep, number: usize) -> Task<'a> {
     Task {
         mode: call.mode,
         form: call.form,
-        group: call.order[from..from + call.members]
-            .iter()
-            .map(|&system| system as usize)
-            .collect(),
-        couplings: call.couplings,
+        group: systems(&call.order[from..from + call.members]),
         temperature: if call.mode.draws() {
             call.temperatures[j]
         } else {
@@ -57,7 +43,7 @@ pub fn sweep_task<'a>(call: &'a Sweep, number: usize) -> Task<'a> {
 fn sweep_length_refused(call: &Sweep) -> bool {
     let tasks = call.t * (call.r / call.members);
     let exact = lengths(call.mode, call.form, call.n, call.d, call.members, tasks);
-    panel_length_refused(sweep_panel(call))
+    panel_length_refused(panel_of!(call))
         || differs(exact.couplings, call.couplings.len())
         || call.order.len() != call.s
         || call.masks.len() != call.t
@@ -84,32 +70,26 @@ pub fn unmasked(call: &Sweep) -> Vec<usize> {
 }
 
 pub fn sweep_refusal(call: &Sweep) -> Option<u8> {
-    let draws = call.mode.draws();
-    let panel = sweep_panel(call);
-    let systems = call.t as u128 * call.r as u128;
+    let (draws, keeping) = (call.mode.draws(), call.keeps.totals(call.form));
+    let panel = panel_of!(call);
+    let all = call.t as u128 * call.r as u128;
     if sizes_refused(call.n, call.d, call.s)
         || members_refused(call.mode, call.members)
-        || systems != call.s as u128
+        || all != call.s as u128
         || call.members > call.r
     {
-        Some(1)
-    } else if sweep_length_refused(call) {
-        Some(2)
-    } else if spins_refused(call.spins) {
-        Some(3)
-    } else if tables_refused(panel) {
-        Some(4)
-    } else if systems_refused(call.order, call.s) {
-        Some(5)
-    } else if draws && coupling_refused(call.couplings) {
-        Some(6)
-    } else if draws && call.temperatures.iter().any(|&t| temperature_refused(t)) {
-        Some(7)
-    } else if call.masks.iter().any(|&mask| mask > 1) {
-        Some(9)
-    } else {
-        unmasked(call)
-            .iter()
-            .find_map(|&number| task_refusal(panel, &sweep_task(call, number)))
+        return Some(1);
     }
+    if sweep_length_refused(call) || totals_length_refused(keeping, panel, call.totals) {
+        return Some(2);
+    }
+    let drawn = if draws { call.temperatures } else { &[] };
+    panel_refusal(panel, &systems(call.order), draws || keeping, drawn)
+        .or_else(|| call.masks.iter().any(|&mask| mask > 1).then_some(9))
+        .or_else(|| {
+            unmasked(call)
+                .iter()
+                .find_map(|&number| task_refusal(panel, &sweep_task(call, number)))
+        })
+        .or_else(|| totals_refusal(keeping, call.totals))
 }

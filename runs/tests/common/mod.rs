@@ -1,6 +1,6 @@
 //! Calls written by hand, run by the model and by the Rust and the port where they are there.
 #![allow(dead_code)] // Each test file uses a part.
-use calls::{Answer, Form, Mode, SweepAnswer};
+use calls::{Answer, Form, Keeps, Mode, SweepAnswer};
 use published_patched::Branch;
 use tsorvenk_runs::case::{Bonds, Choices, Lent, Panel, Single, Swept};
 use tsorvenk_runs::idle;
@@ -23,16 +23,8 @@ pub fn identities(count: usize, members: usize) -> Vec<u8> {
 }
 
 /// Every output that the call takes, filled with nines.
-fn outputs(exact: Lengths) -> Lent {
-    let output = |length: Option<usize>| vec![9; length.unwrap_or(0)];
-    Lent {
-        spins: Vec::new(),
-        labels: output(exact.labels),
-        grey_labels: output(exact.grey_labels),
-        counts: output(exact.counts),
-        sizes: output(exact.sizes),
-        member_sites: vec![9; exact.member_sites.unwrap_or(0)],
-    }
+fn outputs(exact: Lengths, rows: &[&str]) -> Lent {
+    Lent::filled(exact, spins(rows), 9, 9)
 }
 
 /// One direction; the group is every system in order; no choice flips, permutes or cuts.
@@ -44,6 +36,7 @@ pub fn call(mode: Mode, form: Form, fwd: &[u32], rows: &[&str]) -> Single {
         panel: Panel {
             mode,
             form,
+            keeps: Keeps::Nothing,
             n,
             d: 1,
             s: members,
@@ -61,10 +54,7 @@ pub fn call(mode: Mode, form: Form, fwd: &[u32], rows: &[&str]) -> Single {
             perms: identities(exact.perms.unwrap_or(0), members),
             greys: vec![ones; exact.greys.unwrap_or(0)],
         },
-        lent: Lent {
-            spins: spins(rows),
-            ..outputs(exact)
-        },
+        lent: outputs(exact, rows),
     }
 }
 
@@ -116,6 +106,8 @@ pub fn run(case: &Single) -> (Answer, Lent) {
             published_patched::step(case.step(&mut lent), Branch::UnionFind);
             idle::take_out_of_single(case, &mut lent);
         }
+        // the Rust keeps no totals
+        lent.totals = answer.1.totals.clone();
         assert_eq!(answer.1, lent, "{case:?}");
     }
     answer
@@ -172,10 +164,7 @@ pub fn sweep(mode: Mode, form: Form, t: usize, rows: &[&str]) -> Swept {
             perms: identities(exact.perms.unwrap_or(0), members),
             greys: vec![0; exact.greys.unwrap_or(0)],
         },
-        lent: Lent {
-            spins: spins(rows),
-            ..outputs(exact)
-        },
+        lent: outputs(exact, rows),
     }
 }
 

@@ -9,6 +9,7 @@
 static struct tsorvenk_step_args step;
 static struct tsorvenk_sweep_args sweep;
 static struct tsorvenk_energy_args energy_of;
+static struct tsorvenk_hand_over_args handed;
 static struct tsorvenk_label_args label;
 static struct tsorvenk_draw_args draw;
 static struct tsorvenk_read_edges_args reading;
@@ -35,16 +36,17 @@ static void held(int so, const char *call, const char *field) {
     held(call.field ? field == call.field && field##_len == call.field##_len \
                     : field != NULL && (uintptr_t)field % sizeof *field == 0 && field##_len == 0, #call, #field)
 
-uint8_t tsorvenk_step(uint8_t mode, uint8_t form, size_t n, size_t d, size_t s,
-    int8_t *spins, size_t spins_len, const uint32_t *fwd, size_t fwd_len, const uint32_t *bwd, size_t bwd_len,
+uint8_t tsorvenk_step(uint8_t mode, uint8_t form, uint8_t keeps, size_t n, size_t d, size_t s,
+    int8_t *spins, size_t spins_len, int64_t *totals, size_t totals_len,
+    const uint32_t *fwd, size_t fwd_len, const uint32_t *bwd, size_t bwd_len,
     const int32_t *couplings, size_t couplings_len, const uint32_t *group, size_t group_len,
     float temperature, const float *cuts, size_t cuts_len, size_t reference, size_t seed,
     const uint8_t *flips, size_t flips_len, const uint8_t *perms, size_t perms_len, const uint8_t *greys, size_t greys_len,
     uint32_t *labels, size_t labels_len, uint32_t *grey_labels, size_t grey_labels_len,
     uint32_t *counts, size_t counts_len, uint32_t *sizes, size_t sizes_len,
     uint8_t *member_sites, size_t member_sites_len) {
-    NUMBER(step, mode), NUMBER(step, form), NUMBER(step, n), NUMBER(step, d), NUMBER(step, s);
-    NUMBER(step, temperature), NUMBER(step, reference), NUMBER(step, seed);
+    NUMBER(step, mode), NUMBER(step, form), NUMBER(step, keeps), NUMBER(step, n), NUMBER(step, d), NUMBER(step, s);
+    NUMBER(step, temperature), NUMBER(step, reference), NUMBER(step, seed), BUFFER(step, totals);
     BUFFER(step, spins), BUFFER(step, fwd), BUFFER(step, bwd), BUFFER(step, couplings), BUFFER(step, group);
     BUFFER(step, cuts), BUFFER(step, flips), BUFFER(step, perms), BUFFER(step, greys);
     BUFFER(step, labels), BUFFER(step, grey_labels), BUFFER(step, counts), BUFFER(step, sizes);
@@ -52,8 +54,9 @@ uint8_t tsorvenk_step(uint8_t mode, uint8_t form, size_t n, size_t d, size_t s,
     return 101;
 }
 
-uint8_t tsorvenk_sweep(uint8_t mode, uint8_t form, size_t n, size_t d, size_t s, size_t t, size_t r, size_t members,
-    int8_t *spins, size_t spins_len, const uint32_t *fwd, size_t fwd_len, const uint32_t *bwd, size_t bwd_len,
+uint8_t tsorvenk_sweep(uint8_t mode, uint8_t form, uint8_t keeps, size_t n, size_t d, size_t s,
+    size_t t, size_t r, size_t members, int8_t *spins, size_t spins_len, int64_t *totals, size_t totals_len,
+    const uint32_t *fwd, size_t fwd_len, const uint32_t *bwd, size_t bwd_len,
     const int32_t *couplings, size_t couplings_len, const uint32_t *order, size_t order_len,
     const uint8_t *masks, size_t masks_len, const float *temperatures, size_t temperatures_len,
     const float *cuts, size_t cuts_len, const uint32_t *references, size_t references_len,
@@ -62,8 +65,8 @@ uint8_t tsorvenk_sweep(uint8_t mode, uint8_t form, size_t n, size_t d, size_t s,
     uint32_t *labels, size_t labels_len, uint32_t *grey_labels, size_t grey_labels_len,
     uint32_t *counts, size_t counts_len, uint32_t *sizes, size_t sizes_len,
     uint8_t *member_sites, size_t member_sites_len, uint32_t *outcomes, size_t outcomes_len) {
-    NUMBER(sweep, mode), NUMBER(sweep, form), NUMBER(sweep, n), NUMBER(sweep, d), NUMBER(sweep, s);
-    NUMBER(sweep, t), NUMBER(sweep, r), NUMBER(sweep, members);
+    NUMBER(sweep, mode), NUMBER(sweep, form), NUMBER(sweep, keeps), NUMBER(sweep, n), NUMBER(sweep, d), NUMBER(sweep, s);
+    NUMBER(sweep, t), NUMBER(sweep, r), NUMBER(sweep, members), BUFFER(sweep, totals);
     BUFFER(sweep, spins), BUFFER(sweep, fwd), BUFFER(sweep, bwd), BUFFER(sweep, couplings), BUFFER(sweep, order);
     BUFFER(sweep, masks), BUFFER(sweep, temperatures), BUFFER(sweep, cuts), BUFFER(sweep, references);
     BUFFER(sweep, seeds), BUFFER(sweep, flips), BUFFER(sweep, perms), BUFFER(sweep, greys);
@@ -79,6 +82,15 @@ uint8_t tsorvenk_energy(size_t n, size_t d, size_t s,
     BUFFER(energy_of, spins), BUFFER(energy_of, fwd), BUFFER(energy_of, bwd), BUFFER(energy_of, couplings);
     BUFFER(energy_of, energy);
     return 103;
+}
+
+uint8_t tsorvenk_hand_over(size_t n, size_t d, size_t s,
+    const int8_t *spins, size_t spins_len, const int64_t *totals, size_t totals_len,
+    const uint32_t *fwd, size_t fwd_len, const uint32_t *bwd, size_t bwd_len,
+    const int32_t *couplings, size_t couplings_len) {
+    NUMBER(handed, n), NUMBER(handed, d), NUMBER(handed, s);
+    BUFFER(handed, spins), BUFFER(handed, totals), BUFFER(handed, fwd), BUFFER(handed, bwd), BUFFER(handed, couplings);
+    return 117;
 }
 
 uint8_t tsorvenk_label(size_t n, size_t d, const uint32_t *fwd, size_t fwd_len, const uint8_t *holds, size_t holds_len,
@@ -159,6 +171,7 @@ static void call_all(void) {
     held(tsorvenk_step_with(&step) == 101, "step", "the answer");
     held(tsorvenk_sweep_with(&sweep) == 102, "sweep", "the answer");
     held(tsorvenk_energy_with(&energy_of) == 103, "energy", "the answer");
+    held(tsorvenk_hand_over_with(&handed) == 117, "hand_over", "the answer");
     held(tsorvenk_label_with(&label) == 104, "label", "the answer");
     held(tsorvenk_word_with(&draw) == 105, "word", "the answer");
     held(tsorvenk_coin_with(&draw) == 106, "coin", "the answer");
@@ -177,7 +190,8 @@ static void call_all(void) {
 int main(void) {
     call_all(); /* everything is left out */
     step = (struct tsorvenk_step_args){
-        .mode = 1, .form = 2, .n = 3, .d = 4, .s = 5, .temperature = 6, .reference = 7, .seed = 8,
+        .mode = 1, .form = 2, .keeps = 9, .n = 3, .d = 4, .s = 5, .temperature = 6, .reference = 7, .seed = 8,
+        .totals = i64, .totals_len = 24,
         .spins = i8, .spins_len = 10, .fwd = u32, .fwd_len = 11, .bwd = u32 + 1, .bwd_len = 12,
         .couplings = i32, .couplings_len = 13, .group = u32 + 2, .group_len = 14, .cuts = f32, .cuts_len = 15,
         .flips = u8, .flips_len = 16, .perms = u8 + 1, .perms_len = 17, .greys = u8 + 2, .greys_len = 18,
@@ -186,7 +200,8 @@ int main(void) {
         .member_sites = u8 + 3, .member_sites_len = 23,
     };
     sweep = (struct tsorvenk_sweep_args){
-        .mode = 1, .form = 2, .n = 3, .d = 4, .s = 5, .t = 6, .r = 7, .members = 8,
+        .mode = 1, .form = 2, .keeps = 9, .n = 3, .d = 4, .s = 5, .t = 6, .r = 7, .members = 8,
+        .totals = i64, .totals_len = 29,
         .spins = i8, .spins_len = 10, .fwd = u32, .fwd_len = 11, .bwd = u32 + 1, .bwd_len = 12,
         .couplings = i32, .couplings_len = 13, .order = u32 + 2, .order_len = 14, .masks = u8, .masks_len = 15,
         .temperatures = f32, .temperatures_len = 16, .cuts = f32 + 1, .cuts_len = 17,
@@ -200,6 +215,10 @@ int main(void) {
         .n = 1, .d = 2, .s = 3, .system = 4,
         .spins = i8, .spins_len = 10, .fwd = u32, .fwd_len = 11, .bwd = u32 + 1, .bwd_len = 12,
         .couplings = i32, .couplings_len = 13, .energy = i64, .energy_len = 14,
+    };
+    handed = (struct tsorvenk_hand_over_args){
+        .n = 1, .d = 2, .s = 3, .spins = i8, .spins_len = 10, .totals = i64, .totals_len = 11,
+        .fwd = u32, .fwd_len = 12, .bwd = u32 + 1, .bwd_len = 13, .couplings = i32, .couplings_len = 14,
     };
     label = (struct tsorvenk_label_args){
         .n = 1, .d = 2, .fwd = u32, .fwd_len = 11, .holds = u8, .holds_len = 12, .counted = u8 + 1, .counted_len = 16,
@@ -221,6 +240,7 @@ int main(void) {
     };
     call_all(); /* everything is lent */
     step.flips = NULL, sweep.seeds = NULL, energy_of.energy = NULL, label.holds = NULL, draw.source = NULL;
+    step.totals = NULL, sweep.totals = NULL, handed.totals = NULL;
     step.member_sites = NULL, sweep.member_sites = NULL, reading.text = NULL, writing.written = NULL;
     call_all(); /* null, and a length beside it */
     printf("room %d and %d\n", TSORVENK_FRAMES_ROOM, TSORVENK_EDGES_ROOM);

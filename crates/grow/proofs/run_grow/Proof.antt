@@ -1,11 +1,13 @@
--- `run_grow` meets its contract: where the seed acts its cluster is grown and turned, and else no site acts.
+-- `run_grow` meets its contract: where the seed acts its cluster is grown and turned, and the totals brought along; and else no site acts.
 use borrow.Author.Needs.{needs}
 use borrow.Author.Tests.{not-true, not-false}
 use mathlib.Core.Path.{_≡_, refl, sym, _∙_}
+use mathlib.Core.Bool.{true}
 use denote.Ref.{now}
 use Rattle.paper.specs.Panel.Made.{callOf}
 use Rattle.paper.specs.Site.Acting.{acts}
 use Rattle.grow.specs.Answered.{seen-at, seedable, acts-seed, idle-answers, turnable, moved-answers}
+use Rattle.grow.specs.Totals.{bringable, changed, spun, totals-kept, totals-left, totals-still}
 use Rattle.grow.proofs.run_grow.Statement.{statement}
 use Rattle.grow.proofs.run_grow.Tie as tie
 
@@ -22,14 +24,18 @@ told c =
     let b = B c in
     let a = b .args in
     acts-seed (a .t) (now (a .fwd)) (now (a .bwd)) (now (a .couplings)) (now (a .cuts)) (now (a .choices)) (now (a .greys)) (now (a .spins)) (now (a .members))
-    (b .pre) (c .acts-at .ensures)
+    (b .pre .0) (c .acts-at .ensures)
+
+on : (k : tie.Else1) → let a = B (k .before) .args in
+    acts (callOf (a .t) (now (a .fwd)) (now (a .bwd)) (now (a .couplings)) (now (a .cuts))) (now (a .spins)) (a .t .seed) ≡ true
+on k = told (k .before) ∙ not-false (k .before .acts-at .result) (k .if1 .left)
 
 acts-at-requires : tie.Need-acts-at-requires
 acts-at-requires c κs =
     let b = A c in
     let a = b .args in
     seen-at (a .t) (now (a .fwd)) (now (a .bwd)) (now (a .couplings)) (now (a .cuts)) (now (a .choices)) (now (a .greys)) (now (a .spins)) (now (a .members))
-    (b .pre)
+    (b .pre .0)
 
 clear-requires : tie.Need-clear-requires
 clear-requires c κs = search needs
@@ -41,13 +47,17 @@ same-length-2 : tie.Need-same-length-2
 same-length-2 c = search needs
 
 returns : tie.Need-returns
-returns c = λ o.
+returns c =
     let d = c .before .before in
     let k = d .before .before in
     let b = B (k .before) in
-    let a = b .args in
-    idle-answers (a .t) (now (a .fwd)) (now (a .bwd)) (now (a .couplings)) (now (a .cuts)) (now (a .choices)) (now (a .greys)) (now (a .spins))
-    (now (a .members)) (b .pre) (told (k .before) ∙ not-true (k .before .acts-at .result) (k .if1 .taken)) (d .clear .ensures) o
+    let a = b .args in (
+      λ o.
+          idle-answers (a .t) (now (a .fwd)) (now (a .bwd)) (now (a .couplings)) (now (a .cuts)) (now (a .choices)) (now (a .greys))
+          (now (a .spins)) (now (a .members))
+          (b .pre .0) (told (k .before) ∙ not-true (k .before .acts-at .result) (k .if1 .taken)) (d .clear .ensures) o,
+      totals-still,
+    )
 
 slice-aggregate-grow-cluster : tie.Need-slice-aggregate-grow-cluster
 slice-aggregate-grow-cluster c = search needs
@@ -60,12 +70,16 @@ grow-cluster-requires c κs =
     let k = c .before .before .before .before in
     let b = B (k .before) in
     let a = b .args in
-    let on = sym (k .before .acts-at .ensures) ∙ not-false (k .before .acts-at .result) (k .if1 .left) in
+    let acting = sym (k .before .acts-at .ensures) ∙ not-false (k .before .acts-at .result) (k .if1 .left) in
     seedable (a .t) (now (a .fwd)) (now (a .bwd)) (now (a .couplings)) (now (a .cuts)) (now (a .choices)) (now (a .greys)) (now (a .spins)) (now (a .members))
-    (b .pre) 4096 4096 refl refl on
+    (b .pre .0) 4096 4096 refl refl acting
 
+-- the cluster is grown
 abbrev G : tie.After-cols3 → tie.After-grow-cluster
 G c = c .before .before .before .before .before .before .before
+
+abbrev E : tie.After-cols3 → tie.Else1
+E c = G c .before .before .before .before .before
 
 slice-aggregate-turn : tie.Need-slice-aggregate-turn
 slice-aggregate-turn c = search needs
@@ -73,31 +87,92 @@ slice-aggregate-turn c = search needs
 slice-aggregate-turn-2 : tie.Need-slice-aggregate-turn-2
 slice-aggregate-turn-2 c = sym (G c .grow-cluster .ensures .kept .long)
 
-abbrev E : tie.After-cols3 → tie.Else1
-E c = G c .before .before .before .before .before
-
 turn-requires : tie.Need-turn-requires
 turn-requires c κs =
     let b = B (E c .before) in
     let a = b .args in
     turnable (a .t) (now (a .fwd)) (now (a .bwd)) (now (a .couplings)) (now (a .cuts)) (now (a .choices)) (now (a .greys)) (now (a .spins)) (now (a .members))
-    (b .pre) (told (E c .before) ∙ not-false (E c .before .acts-at .result) (E c .if1 .left)) (G c .grow-cluster .ensures .grown)
-    (G c .grow-cluster .ensures .kept)
+    (b .pre .0) (on (E c)) (G c .grow-cluster .ensures .grown) (G c .grow-cluster .ensures .kept)
+
+-- and turned
+totals-requires : tie.Need-totals-requires
+totals-requires c κs = search needs
+
+abbrev W : tie.After-cols4 → tie.Then2
+W c = c .before .before .before .before .before
+
+abbrev T : tie.After-totals → tie.After-turn
+T c = c .before .before
+
+slice-aggregate-keep-totals : tie.Need-slice-aggregate-keep-totals
+slice-aggregate-keep-totals c = search needs
+
+slice-aggregate-keep-totals-2 : tie.Need-slice-aggregate-keep-totals-2
+slice-aggregate-keep-totals-2 c = sym (G (T (W c .before) .before) .grow-cluster .ensures .kept .long)
+
+keep-totals-requires : tie.Need-keep-totals-requires
+keep-totals-requires c κs =
+    let w = W c in
+    let u = T (w .before) in
+    let e = G (u .before) .grow-cluster .ensures in
+    let b = B (E (u .before) .before) in
+    let a = b .args in (
+      bringable (a .t) (now (a .fwd)) (now (a .bwd)) (now (a .couplings)) (now (a .cuts)) (now (a .choices)) (now (a .greys))
+          (now (a .spins)) (now (a .members))
+          (b .pre .0) (b .pre .1) (sym (w .before .totals .ensures) ∙ w .if2 .taken),
+      (
+        spun (a .t) (now (a .fwd)) (now (a .bwd)) (now (a .couplings)) (now (a .cuts)) (now (a .choices)) (now (a .greys)) (now (a .spins)) (now (a .members))
+            (b .pre .0) (b .pre .1) (e .grown) (e .kept) (u .turn .ensures),
+        changed (a .t) (now (a .fwd)) (now (a .bwd)) (now (a .couplings)) (now (a .cuts)) (now (a .choices)) (now (a .greys))
+            (now (a .spins)) (now (a .members))
+            (b .pre .0) (b .pre .1) (e .grown) (e .kept),
+      ),
+    )
 
 same-length-3 : tie.Need-same-length-3
-same-length-3 c = c .before .turn .ensures .long
+same-length-3 c = T (W (c .before .before .before) .before) .turn .ensures .long
 
 same-length-4 : tie.Need-same-length-4
-same-length-4 c = search needs
+same-length-4 c = c .before .before .keep-totals .ensures .long
+
+same-length-5 : tie.Need-same-length-5
+same-length-5 c = search needs
 
 returns-2 : tie.Need-returns-2
-returns-2 c = λ o.
+returns-2 c =
     let k = c .before .before in
-    let b = B (E k .before) in
-    let a = b .args in
-    moved-answers (a .t) (now (a .fwd)) (now (a .bwd)) (now (a .couplings)) (now (a .cuts)) (now (a .choices)) (now (a .greys)) (now (a .spins))
-    (now (a .members)) (b .pre) (told (E k .before) ∙ not-false (E k .before .acts-at .result) (E k .if1 .left)) (G k .grow-cluster .ensures .grown)
-    (c .before .turn .ensures) o
+    let w = W (k .before) in
+    let u = T (w .before) in
+    let e = G (u .before) .grow-cluster .ensures in
+    let b = B (E (u .before) .before) in
+    let a = b .args in (
+      λ o.
+          moved-answers (a .t) (now (a .fwd)) (now (a .bwd)) (now (a .couplings)) (now (a .cuts)) (now (a .choices)) (now (a .greys))
+          (now (a .spins)) (now (a .members))
+          (b .pre .0) (on (E (u .before))) (e .grown) (u .turn .ensures) o,
+      totals-kept (a .t) (now (a .fwd)) (now (a .bwd)) (now (a .couplings)) (now (a .cuts)) (now (a .choices)) (now (a .greys))
+          (now (a .spins)) (now (a .members))
+          (b .pre .0) (b .pre .1) (e .grown) (e .kept) (u .turn .ensures) (sym (w .before .totals .ensures) ∙ w .if2 .taken) (k .keep-totals .ensures),
+    )
+
+same-length-6 : tie.Need-same-length-6
+same-length-6 c = T (c .before) .turn .ensures .long
+
+same-length-7 : tie.Need-same-length-7
+same-length-7 c = search needs
+
+returns-3 : tie.Need-returns-3
+returns-3 c =
+    let u = T (c .before) in
+    let e = G (u .before) .grow-cluster .ensures in
+    let b = B (E (u .before) .before) in
+    let a = b .args in (
+      λ o.
+          moved-answers (a .t) (now (a .fwd)) (now (a .bwd)) (now (a .couplings)) (now (a .cuts)) (now (a .choices)) (now (a .greys))
+          (now (a .spins)) (now (a .members))
+          (b .pre .0) (on (E (u .before))) (e .grown) (u .turn .ensures) o,
+      totals-left (sym (c .before .totals .ensures) ∙ c .if2 .left),
+    )
 
 pub run-grow-spec : {M : Type 1} → statement M
 run-grow-spec =
@@ -114,6 +189,14 @@ run-grow-spec =
     slice-aggregate-turn
     slice-aggregate-turn-2
     turn-requires
+    totals-requires
+    slice-aggregate-keep-totals
+    slice-aggregate-keep-totals-2
+    keep-totals-requires
     same-length-3
     same-length-4
-    returns-2)
+    same-length-5
+    returns-2
+    same-length-6
+    same-length-7
+    returns-3)

@@ -2,7 +2,6 @@
 use Prim.Native.Nat.{_+_, _*_, _-_, _<_}
 use native.Mathlib.Nat.{le-antisymm}
 use native.Mathlib.Omega.{arith}
-use borrow.Author.Needs.{needs}
 use denote.Ref.{now}
 use lib.ListN.{getD}
 use mathlib.Core.Logic.{⊎-elim}

@@ -1,22 +1,20 @@
 -- `energy` meets its contract: each place past a test knows that test's rule, and each refusal that the next one is broken.
-use Prim.Native.Nat.{_+_, _*_, _≤_}
+use Prim.Native.Nat.{_<_}
 use mathlib.Core.Path.{refl, _∙_, ap}
 use mathlib.Core.Logic.{inl, inr}
 use native.Mathlib.Omega.{arith}
 use borrow.Author.Needs.{needs}
 use mathlib.Core.List.{[], _∷_}
-use lib.ListN.{length}
-use lib.IntN.{ℤ, pos, negℤ, _-ℤ_, +ℤ-idl}
+use lib.IntN.{ℤ}
 use mir.Syntax.{w64}
-use mir.Val.{toZ, ofZ}
 use Rattle.lemmas.specs.Tells.{Tells, passed, refused}
-use Rattle.lemmas.specs.Held.{Value, reads, stored, asks, bounded, small-fits}
-use Rattle.lemmas.specs.Ints.{abs-neg}
+use Rattle.lemmas.specs.Held.{reads, bounded}
 use Rattle.paper.specs.Panel.Input.{Lattice}
 use Rattle.paper.specs.Refusal.Rules.{Sizes, AllSystems, Spins, Inverse}
 use Rattle.paper.specs.Answer.Meter.{MeterExact}
 use Rattle.lattice.specs.Spinning.{all-rows}
-use Rattle.meter.specs.Part.{latticeOf, exact-of, exact-lengths, Accepted, accepted-kept, row-end, row-of, energy-of}
+use Rattle.paper.specs.Panel.Made.{latticeOf}
+use Rattle.meter.specs.Part.{exact-of, exact-lengths, Sound, sound-row, meter-kept}
 use Rattle.meter.proofs.energy.Statement.{statement}
 use Rattle.meter.proofs.energy.Tie as tie
 
@@ -58,7 +56,10 @@ spinning c = passed (c .before .spins-ok .result) (c .if3 .left) (rows-tell (c .
 inverse : (c : tie.Else4) → Inverse (s4 c .args .n) (s4 c .args .d) (s4 c .args .fwd .now) (s4 c .args .bwd .now)
 inverse c = passed (c .before .tables-ok .result) (c .if4 .left) (c .before .tables-ok .ensures)
 
-accepted : (c : tie.Else6) → Accepted (lent (s6 c)) (s6 c .args .spins .now) (s6 c .args .system)
+inside : (c : tie.Else6) → s6 c .args .system < s6 c .args .s
+inside c = c .before .before .if5 .left
+
+accepted : (c : tie.Else6) → Sound (lent (s6 c)) (s6 c .args .spins .now)
 accepted c =
     let e5 = c .before .before in
     let e4 = e5 .before in
@@ -67,7 +68,6 @@ accepted c =
       exact = exactly (e4 .before .before .before .before);
       spins = spinning (e4 .before .before);
       inverse = inverse e4;
-      system = e5 .if5 .left;
       small = passed (c .before .couplings-ok .result) (c .if6 .left) (c .before .couplings-ok .ensures);
     }
 
@@ -124,46 +124,16 @@ returns-6 c =
     let wrong = refused (c .before .couplings-ok .result) (c .if6 .taken) (c .before .couplings-ok .ensures) in
     inr (sized (e2 .before .before), inr (exactly e2, inr (spinning e3, inr (inverse e4, inr (e5 .if5 .left, inl (wrong, refl))))))
 
--- the row ends inside the spins
-ends : (c : tie.Else6) → s6 c .args .system * s6 c .args .n + s6 c .args .n ≤ length (s6 c .args .spins .now)
-ends c = row-end (lent (s6 c)) (s6 c .args .spins .now) (s6 c .args .system) (accepted c)
-
-mul-a : tie.Need-mul-a
-mul-a c = omega (arith, ends c, s6 c .good)
-
-add-e : tie.Need-add-e
-add-e c = omega (arith, ends c, s6 c .good)
-
-sub-row-sum : tie.Need-sub-row-sum
-sub-row-sum c = search needs
-
-part-row-sum-start : tie.Need-part-row-sum-start
-part-row-sum-start c = search needs
-
-part-row-sum-end : tie.Need-part-row-sum-end
-part-row-sum-end c = omega (arith, ends c)
-
-row-sum-requires : tie.Need-row-sum-requires
-row-sum-requires c κs = let s = s6 (c .before) in row-of (lent s) (s .args .spins .now) (s .args .system) (accepted (c .before))
-
--- minus the sum
-minus : (c : tie.After-row-sum) → Value w64 (pos 0 -ℤ toZ w64 (ofZ w64 (c .row-sum .result))) (negℤ (c .row-sum .result))
-minus c = record {
-  is = ap (λ (z : ℤ). pos 0 -ℤ z) (reads (bounded w64 (c .row-sum .result) (c .row-sum .ok))) ∙ +ℤ-idl (negℤ (c .row-sum .result));
-  fits = small-fits w64 (negℤ (c .row-sum .result)) 16384000000 (rw abs-neg (c .row-sum .ensures .small)) tt;
-}
-
-sub-t21 : tie.Need-sub-t21
-sub-t21 c = asks (minus c)
+system-energy-requires : tie.Need-system-energy-requires
+system-energy-requires c κs = let s = s6 c in sound-row (lent s) (s .args .spins .now) (accepted c) (s .args .system) (inside c)
 
 returns-7 : tie.Need-returns-7
 returns-7 c =
-    let s = s6 (c .before .before) in
-    let h = accepted (c .before .before) in
+    let e = c .before in
+    let s = s6 e in
     record {
-      valid = accepted-kept (lent s) (s .args .spins .now) (s .args .system) h;
-      is = ap (λ (z : ℤ). z ∷ [])
-          (reads (stored (minus c)) ∙ (ap negℤ (c .row-sum .ensures .is) ∙ energy-of (lent s) (s .args .spins .now) (s .args .system) h));
+      valid = meter-kept (lent s) (s .args .spins .now) (accepted e) (s .args .system) (inside e);
+      is = ap (λ (z : ℤ). z ∷ []) (reads (bounded w64 (c .system-energy .result) (c .system-energy .ok)) ∙ c .system-energy .ensures);
     }
 
 pub energy-spec : {M : Type 1} → statement M
@@ -181,11 +151,5 @@ energy-spec =
     returns-5
     couplings-ok-requires
     returns-6
-    mul-a
-    add-e
-    sub-row-sum
-    part-row-sum-start
-    part-row-sum-end
-    row-sum-requires
-    sub-t21
+    system-energy-requires
     returns-7)

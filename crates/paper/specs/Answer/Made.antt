@@ -3,6 +3,7 @@ use Prim.Native.Nat.{ℕ}
 use mathlib.Core.List.{List}
 use lib.IntN.{ℤ}
 use lib.Ieee.{Float}
+use Rattle.paper.specs.declared.Keeps.{Keeps}
 use Rattle.paper.specs.declared.Plan.{Plan}
 use Rattle.paper.specs.Answer.Task.{Sweep}
 
@@ -25,5 +26,15 @@ sweepOf q fwd bwd couplings order masks temperatures cuts references seeds choic
 }
 
 -- and its numbers
-abbrev pub planOf : Sweep → Plan
-planOf w = record { mode = w .mode; form = w .form; n = w .lattice .n; d = w .lattice .d; s = w .lattice .s; t = w .t; r = w .r; members = w .members }
+abbrev pub planOf : Keeps → Sweep → Plan
+planOf keeps w = record {
+  mode = w .mode;
+  form = w .form;
+  keeps = keeps;
+  n = w .lattice .n;
+  d = w .lattice .d;
+  s = w .lattice .s;
+  t = w .t;
+  r = w .r;
+  members = w .members;
+}

@@ -14,7 +14,7 @@ use Rattle.paper.specs.Panel.Input.{Call, Buffers, spin, pattern, system
 use Rattle.paper.specs.Panel.Takes.{growsBy, labelsBy, takesCuts, takesChoices, takesGreys, takesGreyLabels, takesReference, takesSeed}
 use Rattle.paper.specs.Panel.Takes.{entries, choiceBytes}
 use Rattle.paper.specs.Refusal.Rule.{Rule, rule, Broken}
-use Rattle.paper.specs.Refusal.Rules.{When, Ranged, AllSystems, Spins, Inverse, Permutes, SmallCouplings, Warm, choiceRules}
+use Rattle.paper.specs.Refusal.Rules.{When, Ranged, AllSystems, Spins, Inverse, Permutes, SmallCouplings, Warm, choiceRules, More, noMore}
 use Rattle.paper.specs.Refusal.Verdict.{Verdict}
 use Rattle.paper.specs.Answer.Number.{sweepNumber, sweepValues}
 use Rattle.paper.specs.Answer.Move.{Answers}
@@ -53,17 +53,26 @@ abbrev pub taskRules : Sweep → Buffers → ℕ → List Rule
 taskRules w b zero = []
 taskRules w b (suc k) = taskRules w b k ++ cond (masked w k) [] (choiceRules (taskCall w k) (taskChoices w k) (b .spins))
 
-abbrev pub sweepRules : Sweep → Buffers → List Rule
-sweepRules w b =
+-- what is asked before any task's own
+abbrev pub sharedRules : More → Sweep → Buffers → List Rule
+sharedRules m w b =
     rule 1 (SweepRanged w)
     ∷ rule 2 (SweepExact w b)
-    ∷ rule 3 (Spins (w .lattice .n) (AllSystems (w .lattice .s)) (b .spins))
+    ∷ (m .lengths ++ (
+    rule 3 (Spins (w .lattice .n) (AllSystems (w .lattice .s)) (b .spins))
     ∷ rule 4 (Inverse (w .lattice .n) (w .lattice .d) (w .lattice .fwd) (w .lattice .bwd))
     ∷ rule 5 (Permutes (w .lattice .s) (λ k. getD (w .order) k 0))
     ∷ rule 6 (When (takesCuts (common w)) (SmallCouplings (w .lattice .couplings)))
-    ∷ rule 7 (When (takesCuts (common w)) ((j : ℕ) → j < w .t → Warm (getD (w .temperatures) j nan)))
+    ∷ (m .couplings ++ (
+    rule 7 (When (takesCuts (common w)) ((j : ℕ) → j < w .t → Warm (getD (w .temperatures) j nan)))
     ∷ rule 9 ((j : ℕ) → j < w .t → getD (w .masks) j 0 ≤ 1)
-    ∷ taskRules w b (tasks w)
+    ∷ []))))
+
+abbrev pub sweepRules : Sweep → Buffers → List Rule
+sweepRules w b = sharedRules noMore w b ++ taskRules w b (tasks w)
+
+abbrev pub sweepRulesWith : More → Sweep → Buffers → List Rule
+sweepRulesWith m w b = sharedRules m w b ++ (taskRules w b (tasks w) ++ m .last)
 
 -- the task k, alone on the spins before the sweep, would leave the spins xs: its group's rows are those, and its areas are its outputs
 pub record Done (w : Sweep) (b b′ : Buffers) (k : ℕ) : Type 0 where

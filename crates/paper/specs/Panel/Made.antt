@@ -4,13 +4,16 @@ use mathlib.Core.List.{List}
 use lib.IntN.{ℤ}
 use lib.Ieee.{Float}
 use Rattle.paper.specs.declared.Task.{Task}
-use Rattle.paper.specs.Panel.Input.{Call, Choices, Buffers}
+use Rattle.paper.specs.Panel.Input.{Lattice, Call, Choices, Buffers}
+
+abbrev pub latticeOf : ℕ → ℕ → ℕ → List ℕ → List ℕ → List ℤ → Lattice
+latticeOf n d s fwd bwd couplings = record { n = n; d = d; s = s; fwd = fwd; bwd = bwd; couplings = couplings }
 
 abbrev pub callOf : Task → List ℕ → List ℕ → List ℤ → List Float → Call
 callOf t fwd bwd couplings cuts = record {
   mode = t .mode;
   form = t .form;
-  lattice = record { n = t .n; d = t .d; s = t .s; fwd = fwd; bwd = bwd; couplings = couplings };
+  lattice = latticeOf (t .n) (t .d) (t .s) fwd bwd couplings;
   group = t .group;
   temperature = t .temperature;
   cuts = cuts;

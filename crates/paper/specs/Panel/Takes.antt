@@ -5,6 +5,8 @@ use Rattle.paper.specs.declared.Mode.{Mode}
 use Rattle.paper.specs.declared.Mode.the-variants.{Houd, Pair, Perm, Gperm, Jorg, Cmr}
 use Rattle.paper.specs.declared.Form.{Form}
 use Rattle.paper.specs.declared.Form.the-variants.{Sw, Wolff, Observe, Grow}
+use Rattle.paper.specs.declared.Keeps.{Keeps}
+use Rattle.paper.specs.declared.Keeps.the-variants.{Nothing, Totals}
 use Rattle.paper.specs.Panel.Input.{Call}
 
 abbrev pub isPerm : Mode → Bool
@@ -89,6 +91,11 @@ greysBy mode form = moves form && isCmr mode
 
 abbrev pub greyLabelsBy : Mode → Form → Bool
 greyLabelsBy mode form = labelsBy form && greysBy mode form
+
+-- totals: to observe moves nothing, and keeps none
+abbrev pub keepsBy : Keeps → Form → Bool
+keepsBy Nothing form = false
+keepsBy Totals form = moves form
 
 abbrev pub takesCuts : Call → Bool
 takesCuts c = drawsBonds (c .mode)

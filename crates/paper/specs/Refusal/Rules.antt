@@ -3,7 +3,7 @@ use Prim.Native.Nat.{ℕ, _+_, _*_, _≤_, _<_}
 use mathlib.Core.Path.{_≡_}
 use mathlib.Core.Logic.{_⊎_}
 use mathlib.Core.Bool.{Bool, true, false, not, _&&_, _||_}
-use mathlib.Core.List.{List, [], _∷_}
+use mathlib.Core.List.{List, [], _∷_, _++_}
 use lib.Dec.{eqb}
 use lib.ListN.{length, getD}
 use lib.IntN.{ℤ, pos, negsuc, natAbs}
@@ -151,14 +151,28 @@ pub record Seeded (c : Call) (xs : List ℤ) : Type 0 where
 abbrev pub choiceRules : Call → Choices → List ℤ → List Rule
 choiceRules c p xs = rule 8 (When (takesCuts c) (Cuts (c .cuts))) ∷ rule 9 (Chosen c p) ∷ rule 10 (Seeded c xs) ∷ []
 
+-- what a call may ask beyond that: beside the lengths, beside the couplings, and last
+pub record More : Type 1 where
+  pub lengths : List Rule
+  pub couplings : List Rule
+  pub last : List Rule
+
+abbrev pub noMore : More
+noMore = record { lengths = []; couplings = []; last = [] }
+
 -- the refusals in their order
-abbrev pub rules : Call → Choices → Buffers → List Rule
-rules c p b =
+abbrev pub rulesWith : More → Call → Choices → Buffers → List Rule
+rulesWith m c p b =
     rule 1 (Ranged (c .lattice .n) (c .lattice .d) (c .lattice .s) (c .mode) (size c))
     ∷ rule 2 (Exact c p b)
-    ∷ rule 3 (Spins (c .lattice .n) (AllSystems (c .lattice .s)) (b .spins))
+    ∷ (m .lengths ++ (
+    rule 3 (Spins (c .lattice .n) (AllSystems (c .lattice .s)) (b .spins))
     ∷ rule 4 (Inverse (c .lattice .n) (c .lattice .d) (c .lattice .fwd) (c .lattice .bwd))
     ∷ rule 5 (Grouped (c .lattice .s) (c .group))
     ∷ rule 6 (When (takesCuts c) (SmallCouplings (c .lattice .couplings)))
-    ∷ rule 7 (When (takesCuts c) (Warm (c .temperature)))
-    ∷ choiceRules c p (b .spins)
+    ∷ (m .couplings ++ (
+    rule 7 (When (takesCuts c) (Warm (c .temperature)))
+    ∷ (choiceRules c p (b .spins) ++ m .last)))))
+
+abbrev pub rules : Call → Choices → Buffers → List Rule
+rules = rulesWith noMore

@@ -1,8 +1,9 @@
--- `houdayer_step` meets its contract: it is `overlap_step` on empty couplings, cuts, grey numbers and grey labels.
+-- `houdayer_step` meets its contract: it is `overlap_step` on empty totals, couplings, cuts, grey numbers and grey labels, and keeps nothing.
 use borrow.Author.Needs.{needs}
 use mathlib.Core.Path.{_≡_, refl}
 use lib.Ieee.{binary32, ofBits, ofInt}
 use Rattle.paper.specs.Site.Bonds.{whole}
+use Rattle.laws.specs.KeepsPlain.{keeps-none}
 use Rattle.steps.specs.Step.{empty}
 use Rattle.steps.proofs.houdayer_step.Statement.{statement}
 use Rattle.steps.proofs.houdayer_step.Tie as tie
@@ -10,26 +11,32 @@ use Rattle.steps.proofs.houdayer_step.Tie as tie
 mode-of-requires : tie.Need-mode-of-requires
 mode-of-requires c κs = search needs
 
-array-share-prefix-couplings : tie.Need-array-share-prefix-couplings
-array-share-prefix-couplings c = search needs
+array-borrow-prefix-totals : tie.Need-array-borrow-prefix-totals
+array-borrow-prefix-totals c = search needs
 
 slice-aggregate-overlap-step : tie.Need-slice-aggregate-overlap-step
 slice-aggregate-overlap-step c = search needs
 
-array-share-prefix-cuts : tie.Need-array-share-prefix-cuts
-array-share-prefix-cuts c = search needs
+array-share-prefix-couplings : tie.Need-array-share-prefix-couplings
+array-share-prefix-couplings c = search needs
 
 slice-aggregate-overlap-step-2 : tie.Need-slice-aggregate-overlap-step-2
 slice-aggregate-overlap-step-2 c = search needs
 
+array-share-prefix-cuts : tie.Need-array-share-prefix-cuts
+array-share-prefix-cuts c = search needs
+
 slice-aggregate-overlap-step-3 : tie.Need-slice-aggregate-overlap-step-3
 slice-aggregate-overlap-step-3 c = search needs
+
+slice-aggregate-overlap-step-4 : tie.Need-slice-aggregate-overlap-step-4
+slice-aggregate-overlap-step-4 c = search needs
 
 array-borrow-prefix-grey-labels : tie.Need-array-borrow-prefix-grey-labels
 array-borrow-prefix-grey-labels c = search needs
 
-slice-aggregate-overlap-step-4 : tie.Need-slice-aggregate-overlap-step-4
-slice-aggregate-overlap-step-4 c = search needs
+slice-aggregate-overlap-step-5 : tie.Need-slice-aggregate-overlap-step-5
+slice-aggregate-overlap-step-5 c = search needs
 
 overlap-step-requires : tie.Need-overlap-step-requires
 overlap-step-requires c κs = search needs
@@ -50,7 +57,7 @@ same-length-5 : tie.Need-same-length-5
 same-length-5 c = search needs
 
 abbrev M : tie.After-overlap-step → tie.After-mode-of
-M k = k .before .before .before .before .before .before .before .before .before .before
+M k = k .before .before .before .before .before .before .before .before .before .before .before
 
 -- the literal 1.0, by its bits
 one : ofBits binary32 1065353216 ≡ whole 1
@@ -59,23 +66,26 @@ one = refl
 
 returns : tie.Need-returns
 returns c =
-    let k = c .before .before .before .before .before .before .before .before .before .before in
+    let k = c .before .before .before .before .before .before .before .before .before .before .before in
     let o = k .overlap-step in
-    let e = rw (empty (o .last .1 .1 .1 .1 .1 .1 .1 .1 .1 .0) (o .kept .1 .1 .1 .1 .1 .1 .1 .1 .1 .0)) at (o .ensures) in
-    rw one at (rw (M k .mode-of .ensures) at e)
+    let e = keeps-none _ _ _ _ (o .result) _ _ (o .ensures) .answers in
+    let f = rw (empty (o .last .1 .1 .1 .1 .1 .1 .1 .1 .1 .1 .0) (o .kept .1 .1 .1 .1 .1 .1 .1 .1 .1 .1 .0)) at e in
+    rw one at (rw (M k .mode-of .ensures) at f)
 
 pub houdayer-step-spec : {M : Type 1} → statement M
 houdayer-step-spec =
     tie.close
     (tie.spec
     mode-of-requires
-    array-share-prefix-couplings
+    array-borrow-prefix-totals
     slice-aggregate-overlap-step
-    array-share-prefix-cuts
+    array-share-prefix-couplings
     slice-aggregate-overlap-step-2
+    array-share-prefix-cuts
     slice-aggregate-overlap-step-3
-    array-borrow-prefix-grey-labels
     slice-aggregate-overlap-step-4
+    array-borrow-prefix-grey-labels
+    slice-aggregate-overlap-step-5
     overlap-step-requires
     same-length
     same-length-2

@@ -7,7 +7,7 @@ use denote.Ref.{now}
 use Rattle.lemmas.specs.Tells.{told, denied}
 use Rattle.paper.specs.Panel.Input.{Lattice}
 use Rattle.paper.specs.Answer.Meter.{MeterAnswers}
-use Rattle.meter.specs.Part.{latticeOf}
+use Rattle.paper.specs.Panel.Made.{latticeOf}
 use Rattle.tsorvenk.proofs.Told.{no-sizes, no-room, unmetered, metered}
 use Rattle.tsorvenk.proofs.tsorvenk_energy.Statement.{statement}
 use Rattle.tsorvenk.proofs.tsorvenk_energy.Tie as tie

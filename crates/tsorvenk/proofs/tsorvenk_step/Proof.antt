@@ -3,7 +3,7 @@ use borrow.Author.Needs.{needs}
 use denote.Ref.{now}
 use Rattle.lemmas.specs.Tells.{passed, refused}
 use Rattle.tsorvenk.specs.Number.{Coded}
-use Rattle.tsorvenk.proofs.Told.{unknown-code, known-code, same-call, same-choices}
+use Rattle.tsorvenk.proofs.Told.{unknown-code, known-code, same-keeping, same-call, same-choices}
 use Rattle.tsorvenk.proofs.tsorvenk_step.Statement.{statement}
 use Rattle.tsorvenk.proofs.tsorvenk_step.Tie as tie
 
@@ -11,7 +11,7 @@ abbrev S : tie.After-codes-ok → tie.Start
 S k = k .before .before .before .before .before .before .before .before .before .before .before .before .before
 
 -- the codes are known from here on
-known : (e : tie.Else1) → let a = S (e .before) .args in Coded (a .mode) (a .form)
+known : (e : tie.Else1) → let a = S (e .before) .args in Coded (a .mode) (a .form) (a .keeps)
 known e = passed (e .before .codes-ok .result) (e .if1 .left) (e .before .codes-ok .ensures)
 
 codes-ok-requires : tie.Need-codes-ok-requires
@@ -25,6 +25,9 @@ mode-of-requires c κs = known c .mode-known
 
 form-of-requires : tie.Need-form-of-requires
 form-of-requires c κs = known (c .before) .form-known
+
+keeps-of-requires : tie.Need-keeps-of-requires
+keeps-of-requires c κs = known (c .before .before) .keeps-known
 
 group-of-requires : tie.Need-group-of-requires
 group-of-requires c κs = search needs
@@ -56,18 +59,23 @@ same-length-5 c = search needs
 same-length-6 : tie.Need-same-length-6
 same-length-6 c = search needs
 
+same-length-7 : tie.Need-same-length-7
+same-length-7 c = search needs
+
 abbrev step-of : tie.After-number-of → tie.After-overlap-step
-step-of c = c .before .before .before .before .before .before .before .before .before .before .before .before
+step-of c = c .before .before .before .before .before .before .before .before .before .before .before .before .before
 
 returns-2 : tie.Need-returns-2
 returns-2 c =
     let o = step-of c in
     let t = o .before .before .before .before .before .before in
-    let g = t .before .before in
-    let f = g .before in
+    let g = t .before .before .before in
+    let k = g .before in
+    let f = k .before in
     let m = f .before in
     let a = S (m .before .before) .args in
-    known-code (o .overlap-step .result) (c .number-of .ensures) (same-call (m .mode-of .ensures) (f .form-of .ensures) (g .group-of .ensures))
+    known-code (o .overlap-step .result) (c .number-of .ensures) (same-keeping (k .keeps-of .ensures) (f .form-of .ensures))
+    (same-call (m .mode-of .ensures) (f .form-of .ensures) (g .group-of .ensures))
     (same-choices (now (a .flips)) (now (a .perms)) (t .taken .ensures) (m .mode-of .ensures)) (known (m .before)) (o .overlap-step .ensures)
 
 pub tsorvenk-step-spec : {M : Type 1} → statement M
@@ -78,6 +86,7 @@ tsorvenk-step-spec =
     returns
     mode-of-requires
     form-of-requires
+    keeps-of-requires
     group-of-requires
     taken-requires
     overlap-step-requires
@@ -88,4 +97,5 @@ tsorvenk-step-spec =
     same-length-4
     same-length-5
     same-length-6
+    same-length-7
     returns-2)

@@ -1,10 +1,11 @@
-//! bench [repetitions]: the port against the published Rust, in one run, as the tables of docs/BENCHMARKS.md.
+//! bench [repetitions] [totals]: the port against the published Rust, in one run, as the tables of docs/BENCHMARKS.md.
 //!
 //! Times are medians in microseconds. "Rust" is the published code with a generator, "lent" the same code with its
 //! draws read from the lent choices, "depth" the one-cluster form without outputs, a search from the seed; beside a
 //! form that grows "Rust" and "lent" are that search. The port's tests are the time of the same call made to fail its
 //! last test; "move" is the rest. The standard output has the tables, and the standard error each case with all that
-//! was measured. Where the port is not linked the model stands in for it, so that the run itself can be tried.
+//! was measured. Where the port is not linked the model stands in for it, so that the run itself can be tried. With the word
+//! `totals` behind the repetitions only the tables of totals are made.
 mod clusters;
 mod draws;
 mod edges;
@@ -12,6 +13,7 @@ mod labelling;
 mod moves;
 mod parts;
 mod tables;
+mod totals;
 
 use calls::{Form, Mode, Port};
 use tsorvenk_runs::model::Model;
@@ -133,8 +135,9 @@ fn small_panels(bench: &mut Bench) {
 }
 
 fn main() {
-    let word = std::env::args().nth(1);
-    let repetitions = word.and_then(|word| word.parse().ok()).unwrap_or(101);
+    let words: Vec<String> = std::env::args().skip(1).collect();
+    let repetitions = words.first().and_then(|word| word.parse().ok());
+    let repetitions = repetitions.unwrap_or(101);
     let port = port::linked().unwrap_or_else(|| Box::new(Model));
     println!("port: {}, on {}", port.name(), std::env::consts::ARCH);
     if !published_as_is::PRESENT {
@@ -147,26 +150,30 @@ fn main() {
         rand: Rand::new(1),
         ratios: Ratios::default(),
     };
+    if words.get(1).is_some_and(|word| word == "totals") {
+        return bench.totals();
+    }
+    all(&mut bench);
+}
+
+fn all(bench: &mut Bench) {
     let move_title =
         |s: &str| format!("Single moves, {s}: move / Rust; behind it whole call / Rust");
+    by_size(bench, &move_title("S = N"), |bench, mode, form, d, m| {
+        bench.single_cell(mode, form, d, m, m)
+    });
+    by_size(bench, &move_title("S = 64"), |bench, mode, form, d, m| {
+        bench.single_cell(mode, form, d, m, 64)
+    });
     by_size(
-        &mut bench,
-        &move_title("S = N"),
-        |bench, mode, form, d, m| bench.single_cell(mode, form, d, m, m),
-    );
-    by_size(
-        &mut bench,
-        &move_title("S = 64"),
-        |bench, mode, form, d, m| bench.single_cell(mode, form, d, m, 64),
-    );
-    by_size(
-        &mut bench,
+        bench,
         "Sweeps, t = 8, r = 8: whole call / Rust",
         |bench, mode, form, d, m| bench.sweep_cell(mode, form, d, m),
     );
-    grown_sweeps(&mut bench);
+    grown_sweeps(bench);
     bench.one_cluster();
-    small_panels(&mut bench);
+    small_panels(bench);
+    bench.totals();
     bench.tables();
     bench.labelling();
     println!("\nparts");

@@ -76,11 +76,17 @@ fn rust(repetitions: usize, batch: usize, case: &Sweep, spins: &[i8]) -> Rust {
     Rust { own, lent, depth }
 }
 
+/// What a call moves is what it was before.
+fn as_before(lent: &mut Lent, before: &Lent) {
+    lent.spins.copy_from_slice(&before.spins);
+    lent.totals.copy_from_slice(&before.totals);
+}
+
 impl Bench {
     pub fn step(&mut self, case: &Single, batch: usize) -> (f64, Answer) {
         let mut lent = case.lent.clone();
         let mut answer = Answer::Refused(0);
-        let ready = |lent: &mut Lent| lent.spins.copy_from_slice(&case.lent.spins);
+        let ready = |lent: &mut Lent| as_before(lent, &case.lent);
         let time = batched(self.repetitions, batch, &mut lent, ready, |lent| {
             answer = self.port.step(case.step(lent));
         });
@@ -90,7 +96,7 @@ impl Bench {
     fn sweep(&mut self, case: &Swept, repetitions: usize) -> (f64, SweepAnswer) {
         let mut lent = case.lent.clone();
         let mut answer = SweepAnswer::Refused(0);
-        let ready = |lent: &mut Lent| lent.spins.copy_from_slice(&case.lent.spins);
+        let ready = |lent: &mut Lent| as_before(lent, &case.lent);
         let time = median(repetitions, &mut lent, ready, |lent| {
             answer = self.port.sweep(case.sweep(lent));
         });
@@ -106,8 +112,9 @@ impl Bench {
         assert!(matches!(refusal, Answer::Refused(_)));
         let rust = published_as_is::PRESENT.then(|| {
             let mut lent = case.lent.clone();
-            let sites = [case.reference as u32, case.seed as u32];
-            let call = one_group(case, &sites, &mut lent);
+            let temperature = [case.temperature];
+            let sites = [case.reference, case.seed].map(|site| site as u32);
+            let call = case.step(&mut lent).as_sweep(&temperature, &sites);
             rust(self.repetitions, batch, &call, &case.lent.spins)
         });
         Times { all, tests, rust }
@@ -168,38 +175,5 @@ impl Bench {
         self.cell(moving, times.rust.map(|r| r.own), |_| {
             format!("; lent {:.2}; {tests:.0}", moving / lent)
         })
-    }
-}
-
-/// A single move as the Rust runs it: one temperature with one group.
-fn one_group<'a>(case: &'a Single, sites: &'a [u32; 2], lent: &'a mut Lent) -> Sweep<'a> {
-    let step = case.step(lent);
-    Sweep {
-        mode: step.mode,
-        form: step.form,
-        n: step.n,
-        d: step.d,
-        s: step.s,
-        t: 1,
-        r: step.group.len(),
-        members: step.group.len(),
-        spins: step.spins,
-        fwd: step.fwd,
-        bwd: step.bwd,
-        couplings: step.couplings,
-        order: step.group,
-        masks: &[0],
-        temperatures: std::slice::from_ref(&case.temperature),
-        cuts: step.cuts,
-        references: &sites[..1],
-        seeds: &sites[1..],
-        flips: step.flips,
-        perms: step.perms,
-        greys: step.greys,
-        labels: step.labels,
-        grey_labels: step.grey_labels,
-        counts: step.counts,
-        sizes: step.sizes,
-        member_sites: step.member_sites,
     }
 }

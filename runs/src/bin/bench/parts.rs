@@ -4,10 +4,10 @@ use calls::{Form, MeterAnswer, Mode, Port};
 use std::hint::black_box;
 use tsorvenk_runs::case::Single;
 use tsorvenk_runs::model::Model;
-use tsorvenk_runs::timing::{self, median};
+use tsorvenk_runs::timing::{self, median, plain_energy};
 
 impl Bench {
-    fn energy(&mut self, case: &Single) -> (f64, MeterAnswer) {
+    pub fn energy(&mut self, case: &Single) -> (f64, MeterAnswer) {
         let port = &mut self.port;
         let run = |answer: &mut MeterAnswer| *answer = port.energy(black_box(case).meter(0));
         let mut answer = MeterAnswer::Refused(0);
@@ -45,7 +45,8 @@ impl Bench {
         let (tests, refusal) = self.energy(&faulty);
         assert_eq!(refusal, MeterAnswer::Refused(6));
         let mut energy = 0;
-        let run = |energy: &mut i64| *energy = plain_energy(black_box(&case));
+        let run =
+            |energy: &mut i64| *energy = plain_energy(&black_box(&case).panel, &case.lent.spins);
         let plain = median(self.repetitions, &mut energy, |_| {}, run);
         assert_eq!(answer, MeterAnswer::Energy(energy));
         let run = |answer: &mut MeterAnswer| *answer = Model.energy(black_box(&case).meter(0));
@@ -60,17 +61,4 @@ impl Bench {
             all / same_tests,
         );
     }
-}
-
-fn plain_energy(case: &Single) -> i64 {
-    let panel = &case.panel;
-    let mut sum = 0;
-    for i in 0..panel.n {
-        for d in 0..panel.d {
-            let bond = i * panel.d + d;
-            let ends = case.lent.spins[i] * case.lent.spins[panel.fwd[bond] as usize];
-            sum -= i64::from(panel.couplings[bond]) * i64::from(ends);
-        }
-    }
-    sum
 }

@@ -2,6 +2,7 @@
 use mathlib.Core.Path.{_∙_}
 use lib.Ieee.{ofInt, ofBits}
 use borrow.Author.Needs.{needs}
+use Rattle.laws.specs.KeepsPlain.{keeps-none}
 use Rattle.frame.specs.Back.{reversed-of}
 use Rattle.frame.proofs.panel.perm_move.Statement.{statement}
 use Rattle.frame.proofs.panel.perm_move.Tie as tie
@@ -9,32 +10,38 @@ use Rattle.frame.proofs.panel.perm_move.Tie as tie
 backward-requires : tie.Need-backward-requires
 backward-requires c κs = search needs
 
-array-share-prefix-couplings : tie.Need-array-share-prefix-couplings
-array-share-prefix-couplings c = search needs
+array-borrow-prefix-totals : tie.Need-array-borrow-prefix-totals
+array-borrow-prefix-totals c = search needs
 
 slice-aggregate-overlap-step : tie.Need-slice-aggregate-overlap-step
 slice-aggregate-overlap-step c = search needs
 
-array-share-prefix-cuts : tie.Need-array-share-prefix-cuts
-array-share-prefix-cuts c = search needs
+array-share-prefix-couplings : tie.Need-array-share-prefix-couplings
+array-share-prefix-couplings c = search needs
 
 slice-aggregate-overlap-step-2 : tie.Need-slice-aggregate-overlap-step-2
 slice-aggregate-overlap-step-2 c = search needs
 
+array-share-prefix-cuts : tie.Need-array-share-prefix-cuts
+array-share-prefix-cuts c = search needs
+
 slice-aggregate-overlap-step-3 : tie.Need-slice-aggregate-overlap-step-3
 slice-aggregate-overlap-step-3 c = search needs
-
-array-borrow-prefix-grey-labels : tie.Need-array-borrow-prefix-grey-labels
-array-borrow-prefix-grey-labels c = search needs
 
 slice-aggregate-overlap-step-4 : tie.Need-slice-aggregate-overlap-step-4
 slice-aggregate-overlap-step-4 c = search needs
 
-array-borrow-prefix-members : tie.Need-array-borrow-prefix-members
-array-borrow-prefix-members c = search needs
+array-borrow-prefix-grey-labels : tie.Need-array-borrow-prefix-grey-labels
+array-borrow-prefix-grey-labels c = search needs
 
 slice-aggregate-overlap-step-5 : tie.Need-slice-aggregate-overlap-step-5
 slice-aggregate-overlap-step-5 c = search needs
+
+array-borrow-prefix-members : tie.Need-array-borrow-prefix-members
+array-borrow-prefix-members c = search needs
+
+slice-aggregate-overlap-step-6 : tie.Need-slice-aggregate-overlap-step-6
+slice-aggregate-overlap-step-6 c = search needs
 
 overlap-step-requires : tie.Need-overlap-step-requires
 overlap-step-requires c κs = search needs
@@ -57,15 +64,15 @@ same-length-5 c = search needs
 returns : tie.Need-returns
 unfolding ofInt ofBits
 returns c =
-    let o = c .before .before .before .before .before .before .before .before .before in
-    let k = o .before .before .before .before .before .before .before .before .before .before .before .before .before in
+    let o = c .before .before .before .before .before .before .before .before .before .before in
+    let k = o .before .before .before .before .before .before .before .before .before .before .before .before .before .before in
     let s = k .before .before .before .before .before .before .before .before in
     record {
       long = k .backward .kept .1 .1 .1 .0 ∙ s .pre .bwd-long;
       reversed = reversed-of _ _ _ (k .backward .result) _ (k .backward .ensures);
       grey = _;
       members = _;
-      answers = o .overlap-step .ensures;
+      answers = keeps-none _ _ _ _ (o .overlap-step .result) _ _ (o .overlap-step .ensures) .answers;
     }
 
 pub perm-move-spec : {M : Type 1} → statement M
@@ -73,15 +80,17 @@ perm-move-spec =
     tie.close
     (tie.spec
     backward-requires
-    array-share-prefix-couplings
+    array-borrow-prefix-totals
     slice-aggregate-overlap-step
-    array-share-prefix-cuts
+    array-share-prefix-couplings
     slice-aggregate-overlap-step-2
+    array-share-prefix-cuts
     slice-aggregate-overlap-step-3
-    array-borrow-prefix-grey-labels
     slice-aggregate-overlap-step-4
-    array-borrow-prefix-members
+    array-borrow-prefix-grey-labels
     slice-aggregate-overlap-step-5
+    array-borrow-prefix-members
+    slice-aggregate-overlap-step-6
     overlap-step-requires
     same-length
     same-length-2

@@ -56,6 +56,12 @@ past-requires c κs = search needs
 task-of-requires : tie.Need-task-of-requires
 task-of-requires c κs = search needs
 
+array-borrow-prefix-totals : tie.Need-array-borrow-prefix-totals
+array-borrow-prefix-totals c = search needs
+
+slice-aggregate-overlap-step : tie.Need-slice-aggregate-overlap-step
+slice-aggregate-overlap-step c = search needs
+
 part-requires : tie.Need-part-requires
 part-requires c κs = search needs
 
@@ -65,8 +71,8 @@ part-requires-2 c κs = search needs
 array-borrow-prefix-members : tie.Need-array-borrow-prefix-members
 array-borrow-prefix-members c = search needs
 
-slice-aggregate-overlap-step : tie.Need-slice-aggregate-overlap-step
-slice-aggregate-overlap-step c = search needs
+slice-aggregate-overlap-step-2 : tie.Need-slice-aggregate-overlap-step-2
+slice-aggregate-overlap-step-2 c = search needs
 
 overlap-step-requires : tie.Need-overlap-step-requires
 overlap-step-requires c κs = search needs
@@ -107,10 +113,12 @@ step-spec =
     past-twos-requires-2
     past-requires
     task-of-requires
+    array-borrow-prefix-totals
+    slice-aggregate-overlap-step
     part-requires
     part-requires-2
     array-borrow-prefix-members
-    slice-aggregate-overlap-step
+    slice-aggregate-overlap-step-2
     overlap-step-requires
     past-requires-2
     of-step-requires

@@ -38,6 +38,12 @@ past-requires c κs = search needs
 plan-of-requires : tie.Need-plan-of-requires
 plan-of-requires c κs = search needs
 
+array-borrow-prefix-totals : tie.Need-array-borrow-prefix-totals
+array-borrow-prefix-totals c = search needs
+
+slice-aggregate-overlap-update : tie.Need-slice-aggregate-overlap-update
+slice-aggregate-overlap-update c = search needs
+
 part-requires : tie.Need-part-requires
 part-requires c κs = search needs
 
@@ -50,8 +56,8 @@ part-requires-3 c κs = search needs
 array-borrow-prefix-members : tie.Need-array-borrow-prefix-members
 array-borrow-prefix-members c = search needs
 
-slice-aggregate-overlap-update : tie.Need-slice-aggregate-overlap-update
-slice-aggregate-overlap-update c = search needs
+slice-aggregate-overlap-update-2 : tie.Need-slice-aggregate-overlap-update-2
+slice-aggregate-overlap-update-2 c = search needs
 
 overlap-update-requires : tie.Need-overlap-update-requires
 overlap-update-requires c κs = search needs
@@ -86,11 +92,13 @@ update-spec =
     slice-aggregate-sizes
     past-requires
     plan-of-requires
+    array-borrow-prefix-totals
+    slice-aggregate-overlap-update
     part-requires
     part-requires-2
     part-requires-3
     array-borrow-prefix-members
-    slice-aggregate-overlap-update
+    slice-aggregate-overlap-update-2
     overlap-update-requires
     past-requires-2
     of-sweep-requires

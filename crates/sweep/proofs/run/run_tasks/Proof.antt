@@ -1,30 +1,34 @@
--- `run_tasks` meets its contract. The invariant: the first k tasks have run.
+-- `run_tasks` meets its contract. The invariant: the first k tasks have run, and the totals have followed them.
 use borrow.Author.Needs.{needs}
 use Prim.Native.Nat.{_-_, _<_}
 use mathlib.Core.Path.{_≡_}
+use mathlib.Core.Bool.{Bool}
 use native.Mathlib.Nat.{le-antisymm}
 use native.Mathlib.Omega.{arith}
 use denote.Ref.{now}
 use Rattle.paper.specs.Panel.Input.{Buffers}
 use Rattle.paper.specs.Answer.Task.{Sweep}
+use Rattle.paper.specs.Panel.Takes.{keepsBy}
 use Rattle.paper.specs.Panel.Made.{buffersOf}
 use Rattle.paper.specs.Answer.Made.{sweepOf}
 use Rattle.tasks.specs.Plan.{Planned, tasksOf, few-tasks}
-use Rattle.sweep.specs.Ascending.{Ran, ran-none, ran-valid, ran-all}
+use Rattle.sweep.specs.Ascending.{ran-none, ran-valid, ran-all}
+use Rattle.sweep.specs.Totalling.{RanKeeping, totals-none, totals-then, totals-long, task-ready}
 use Rattle.sweep.specs.Turning.{room-of}
 use Rattle.sweep.proofs.run.run_tasks.Statement.{statement}
 use Rattle.sweep.proofs.run.run_tasks.Tie as tie
 
 abbrev Inv-loop : tie.InvT-loop
-Inv-loop plan spins₀ fwd bwd couplings order masks temperatures cuts references seeds choices greys labels₀ greyLabels₀ counts₀ sizes₀ members₀
-    count outcomes₀ k₀ spins labels greyLabels counts sizes members outcomes k =
-    Ran (sweepOf plan fwd bwd couplings order masks temperatures cuts references seeds choices greys)
-    (buffersOf spins₀ labels₀ greyLabels₀ counts₀ sizes₀ members₀) k (outcomes .idle) (outcomes .moved)
-    (buffersOf spins labels greyLabels counts sizes members)
+Inv-loop plan spins₀ totals₀ fwd bwd couplings order masks temperatures cuts references seeds choices greys labels₀ greyLabels₀ counts₀ sizes₀ members₀
+    count outcomes₀ k₀ spins totals labels greyLabels counts sizes members outcomes k =
+    RanKeeping (keepsBy (plan .keeps) (plan .form))
+    (sweepOf plan fwd bwd couplings order masks temperatures cuts references seeds choices greys)
+    (buffersOf spins₀ labels₀ greyLabels₀ counts₀ sizes₀ members₀) totals₀ k (outcomes .idle) (outcomes .moved)
+    (buffersOf spins labels greyLabels counts sizes members) totals
 
 abbrev μ-loop : tie.MeasureT-loop
-μ-loop plan spins₀ fwd bwd couplings order masks temperatures cuts references seeds choices greys labels₀ greyLabels₀ counts₀ sizes₀ members₀
-    count outcomes₀ k₀ spins labels greyLabels counts sizes members outcomes k =
+μ-loop plan spins₀ totals₀ fwd bwd couplings order masks temperatures cuts references seeds choices greys labels₀ greyLabels₀ counts₀ sizes₀ members₀
+    count outcomes₀ k₀ spins totals labels greyLabels counts sizes members outcomes k =
     count - k
 
 abbrev S : tie.After-task-count Inv-loop μ-loop → tie.Start Inv-loop μ-loop
@@ -39,8 +43,11 @@ W s =
 abbrev B : tie.Start Inv-loop μ-loop → Buffers
 B s = let a = s .args in buffersOf (now (a .spins)) (now (a .labels)) (now (a .grey-labels)) (now (a .counts)) (now (a .sizes)) (now (a .members))
 
+abbrev keeping : tie.Start Inv-loop μ-loop → Bool
+keeping s = keepsBy (s .args .plan .keeps) (s .args .plan .form)
+
 planned : (s : tie.Start Inv-loop μ-loop) → Planned (s .args .plan)
-planned s = let r = s .pre .0 in record { ranged = r .ranged; all = r .all; enough = r .enough }
+planned s = let r = s .pre .0 .0 in record { ranged = r .ranged; all = r .all; enough = r .enough }
 
 -- the state of a turn
 abbrev C : tie.In-loop Inv-loop μ-loop → tie.After-task-count Inv-loop μ-loop
@@ -56,44 +63,61 @@ task-count-requires : tie.Need-task-count-requires Inv-loop μ-loop
 task-count-requires c κs = planned (c .before .before .before .before .before .before .before .before .before .before .before .before .before .before .before)
 
 loop-holds : tie.Need-loop-holds Inv-loop μ-loop
-loop-holds c = let s = S c in ran-none (W s) (B s) (s .pre)
+loop-holds c =
+    let s = S c in
+    record {
+      ran = ran-none (W s) (B s) (s .pre .0);
+      totals = totals-none (keeping s) (W s .lattice) (now (s .args .spins)) (now (s .args .totals));
+    }
 
 step-requires : tie.Need-step-requires Inv-loop μ-loop
 step-requires c κs =
-    let l = c .before .before .before .before .before .before in
+    let l = c .before .before .before .before .before .before .before in
     let z = l .before .loop in
     let s = S (C l) in
+    let h = z .inv .ran in
     record {
-      placing = record { task = record { planned = planned s; below = below l }; long = s .pre .1 .0 .order };
-      room = room-of (W s) (B s) (z .k) (z .outcomes) (now-at l) (few-tasks (s .args .plan) (planned s)) (z .inv);
-      valid = ran-valid (W s) (B s) (s .pre) (z .k) (z .outcomes .idle) (z .outcomes .moved) (now-at l) (below l) (z .inv);
+      placing = record { task = record { planned = planned s; below = below l }; long = s .pre .0 .1 .0 .order };
+      room = room-of (W s) (B s) (z .k) (z .outcomes) (now-at l) (few-tasks (s .args .plan) (planned s)) h;
+      valid = ran-valid (W s) (B s) (s .pre .0) (z .k) (z .outcomes .idle) (z .outcomes .moved) (now-at l) (below l) h;
+      ready =
+          λ _. task-ready (keeping s) (W s) (B s) (now (s .args .totals)) (s .pre .0) (s .pre .1) (z .k) (z .outcomes .idle) (z .outcomes .moved) (now-at l)
+          (z .totals) (below l) (z .inv);
     }
 
+-- the turn's task has run, and before it
+abbrev E : tie.After-slice-known10 Inv-loop μ-loop → tie.After-step Inv-loop μ-loop
+E c = c .before .before .before .before .before .before .before .before .before .before .before .before
+
+abbrev L : tie.After-step Inv-loop μ-loop → tie.In-loop Inv-loop μ-loop
+L t = t .before .before .before .before .before .before .before .before
+
 add-k : tie.Need-add-k Inv-loop μ-loop
-add-k c =
-    let a = c .before .before .before .before .before .before .before .before .before in
-    let l = a .before .before .before .before .before .before .before .before .before in
-    let s = S (C l) in
-    omega (arith, below l, few-tasks (s .args .plan) (planned s))
+add-k c = let l = L (E c) in let s = S (C l) in omega (arith, below l, few-tasks (s .args .plan) (planned s))
 
 loop-less : tie.Need-loop-less Inv-loop μ-loop
-loop-less c =
-    let a = c .before .before .before .before .before .before .before .before .before in
-    let l = a .before .before .before .before .before .before .before .before .before in
-    omega (arith, l .loop-test .taken)
+loop-less c = omega (arith, L (E c) .loop-test .taken)
 
 loop-again : tie.Need-loop-again Inv-loop μ-loop
 loop-again c =
-    let t = c .before .before .before .before .before .before .before .before .before .before .before in
-    let l = t .before .before .before .before .before .before .before in
+    let t = E c in
+    let l = L t in
     let s = S (C l) in
-    t .step .ensures .further (B s) (s .pre) (below l) (l .before .loop .inv)
+    let z = l .before .loop in
+    record {
+      ran = t .step .ensures .0 .further (B s) (s .pre .0) (below l) (z .inv .ran);
+      totals = totals-then (W s .lattice) (now (s .args .spins)) (now (s .args .totals)) (z .spins) (z .totals) (t .step .last .1 .1 .1 .0)
+          (t .step .last .1 .1 .1 .1 .0) (keeping s) (z .inv .totals) (t .step .ensures .1);
+    }
 
 same-length : tie.Need-same-length Inv-loop μ-loop
 same-length c = search needs
 
 same-length-2 : tie.Need-same-length-2 Inv-loop μ-loop
-same-length-2 c = search needs
+same-length-2 c =
+    let z = c .before .loop in
+    let s = S (c .before .before) in
+    totals-long (keeping s) (W s .lattice) (now (s .args .spins)) (now (s .args .totals)) (z .spins) (z .totals) (z .inv .totals)
 
 same-length-3 : tie.Need-same-length-3 Inv-loop μ-loop
 same-length-3 c = search needs
@@ -107,14 +131,20 @@ same-length-5 c = search needs
 same-length-6 : tie.Need-same-length-6 Inv-loop μ-loop
 same-length-6 c = search needs
 
+same-length-7 : tie.Need-same-length-7 Inv-loop μ-loop
+same-length-7 c = search needs
+
 returns : tie.Need-returns Inv-loop μ-loop
 returns c =
     let t = c .before .before in
     let s = S t in
     let z = c .before .loop in
-    let e : z .k ≡ tasksOf (s .args .plan) = le-antisymm (z .inv .reached) (rw (t .task-count .ensures) at (c .loop-test .left)) in
-    ran-all (W s) (B s) (s .pre) (z .outcomes .idle) (z .outcomes .moved)
-    (buffersOf (z .spins) (z .labels) (z .grey-labels) (z .counts) (z .sizes) (z .members)) (rw e at (z .inv))
+    let h = z .inv .ran in
+    let e : z .k ≡ tasksOf (s .args .plan) = le-antisymm (h .reached) (rw (t .task-count .ensures) at (c .loop-test .left)) in (
+      ran-all (W s) (B s) (s .pre .0) (z .outcomes .idle) (z .outcomes .moved)
+          (buffersOf (z .spins) (z .labels) (z .grey-labels) (z .counts) (z .sizes) (z .members)) (rw e at h),
+      z .inv .totals,
+    )
 
 pub run-tasks-spec : {M : Type 1} → statement M
 run-tasks-spec =
@@ -134,4 +164,5 @@ run-tasks-spec =
     same-length-4
     same-length-5
     same-length-6
+    same-length-7
     returns)

@@ -1,5 +1,4 @@
 -- `step` meets its contract: a masked task is passed over; any other has its parts and its areas lent, and they are put back.
-use borrow.Author.Needs.{needs}
 use Prim.Native.Nat.{ℕ, _+_, _≤_}
 use mathlib.Core.Path.{_≡_, sym, _∙_}
 use mathlib.Core.Bool.{false}
@@ -7,11 +6,13 @@ use native.Mathlib.Omega.{arith}
 use denote.Ref.{now}
 use Rattle.paper.specs.Panel.Input.{Buffers}
 use Rattle.paper.specs.Answer.Task.{Sweep}
+use Rattle.paper.specs.Panel.Takes.{keepsBy}
 use Rattle.paper.specs.Panel.Made.{buffersOf}
 use Rattle.paper.specs.Answer.Made.{sweepOf}
 use Rattle.tasks.specs.Plan.{Few, few, maskedAt}
 use Rattle.tasks.specs.Parts.{Lendable, lendable, lent-length, back-length}
-use Rattle.sweep.specs.Running.{Parts, valid-parts, answers-parts, areas-lent, steps-put}
+use Rattle.sweep.specs.Totalling.{totals-none}
+use Rattle.sweep.specs.Running.{Parts, valid-parts, ready-parts, answers-parts, totals-parts, areas-lent, steps-put}
 use Rattle.sweep.specs.Turning.{turned-masked, turned-one}
 use Rattle.sweep.proofs.run.step.Statement.{statement}
 use Rattle.sweep.proofs.run.step.Tie as tie
@@ -24,7 +25,7 @@ abbrev T : tie.After-bounds5 → tie.Start
 T t = S (t .before .before .before .before .before .before)
 
 abbrev G : tie.After-task-greys → tie.After-task-of
-G g = g .before .before .before .before
+G g = g .before .before .before .before .before
 
 abbrev B5 : tie.After-task-greys → tie.After-bounds5
 B5 g = G g .before
@@ -72,7 +73,7 @@ members-lent : (t : tie.After-bounds5) → let r = t .bounds5 .result in Lendabl
 members-lent t = lendable (now (T t .args .members)) (T t .args .k) (T t .args .plan .n) _ _ (t .bounds5 .ensures) (sites (T t))
 
 parts : (g : tie.After-task-greys) → let s = T (B5 g) in
-    Parts (W s) (s .args .k) (G g .task-of .result) (now (g .before .before .task-cuts .result)) (now (g .before .task-choices .result))
+    Parts (s .args .plan .keeps) (W s) (s .args .k) (G g .task-of .result) (now (g .before .before .task-cuts .result)) (now (g .before .task-choices .result))
     (now (g .task-greys .result))
 parts g = record {
   task = G g .task-of .ensures;
@@ -89,7 +90,10 @@ masked-requires c κs =
 returns : tie.Need-returns
 returns c =
     let s = S (c .before) in
-    turned-masked (W s) (s .args .k) (s .args .outcomes) (B s) (sym (c .before .masked .ensures) ∙ c .if1 .taken)
+    let a = s .args in (
+      turned-masked (W s) (a .k) (a .outcomes) (B s) (sym (c .before .masked .ensures) ∙ c .if1 .taken),
+      totals-none (keepsBy (a .plan .keeps) (a .plan .form)) (W s .lattice) (now (a .spins)) (now (a .totals)),
+    )
 
 bounds-requires : tie.Need-bounds-requires
 bounds-requires c κs = sites (S (c .before))
@@ -113,13 +117,13 @@ task-of-requires : tie.Need-task-of-requires
 task-of-requires c κs = T c .pre .placing
 
 task-cuts-requires : tie.Need-task-cuts-requires
-task-cuts-requires c κs = T (c .before .before) .pre .placing .task
+task-cuts-requires c κs = T (c .before .before .before) .pre .placing .task
 
 task-choices-requires : tie.Need-task-choices-requires
-task-choices-requires c κs = T (c .before .before .before) .pre .placing .task
+task-choices-requires c κs = T (c .before .before .before .before) .pre .placing .task
 
 task-greys-requires : tie.Need-task-greys-requires
-task-greys-requires c κs = T (c .before .before .before .before) .pre .placing .task
+task-greys-requires c κs = T (c .before .before .before .before .before) .pre .placing .task
 
 mul-run-form : tie.Need-mul-run-form
 mul-run-form c = omega (arith, labels-lent (B5 c) .few)
@@ -183,54 +187,96 @@ run-form-requires c κs =
     let g = c .before .before .before .before .before in
     let t = B5 g in
     let s = T t in
+    let e = unmasked (t .before .before .before .before .before) in
     let lent = areas-lent (W s) (s .args .k) (B s) (t .before .before .before .before .bounds .ensures) (t .before .before .before .bounds2 .ensures)
     (t .before .before .bounds3 .ensures) (t .before .bounds4 .ensures) (t .bounds5 .ensures) in
-    valid-parts (parts g) (rw lent at (s .pre .valid (unmasked (t .before .before .before .before .before))))
+    (valid-parts (parts g) (rw lent at (s .pre .valid e)), ready-parts (parts g) (s .pre .ready e))
+
+-- after the task, and when its areas are put back
+abbrev R : tie.After-slice-known10 → tie.After-run-form
+R c = c .before .before .before .before .before .before .before .before .before .before .before .before
+
+abbrev P : tie.After-run-form → tie.After-task-greys
+P r = r .before .before .before .before .before .before
 
 add-requires : tie.Need-add-requires
-add-requires c κs =
-    let r = c .before .before .before .before .before .before .before .before .before .before .before in
-    T (B5 (r .before .before .before .before .before .before)) .pre .room
+add-requires c κs = T (B5 (P (R c))) .pre .room
 
 same-length : tie.Need-same-length
-same-length c = search needs
+same-length c = R (c .before) .run-form .kept .1 .0
 
 same-length-2 : tie.Need-same-length-2
-same-length-2 c =
-    let r = c .before .before .before .before .before .before .before .before .before .before .before .before in
-    let t = B5 (r .before .before .before .before .before .before) in
-    let s = T t in
-    let h = t .before .before .before .before .bounds .ensures in
-    back-length (now (s .args .labels)) (s .args .k) (s .args .plan .n) _ _ h (r .run-form .last .1 .1 .1 .1 .1 .1 .1 .1 .0)
-    (r .run-form .kept .1 .1 .1 .1 .1 .1 .1 .1 .0 ∙ lent-length (now (s .args .labels)) (s .args .k) (s .args .plan .n) _ _ h)
+same-length-2 c = R (c .before) .run-form .kept .1 .1 .0
 
 same-length-3 : tie.Need-same-length-3
-same-length-3 c = search needs
+same-length-3 c =
+    let r = R (c .before) in
+    let t = B5 (P r) in
+    let s = T t in
+    let h = t .before .before .before .before .bounds .ensures in
+    back-length (now (s .args .labels)) (s .args .k) (s .args .plan .n) _ _ h (r .run-form .last .1 .1 .1 .1 .1 .1 .1 .1 .1 .0)
+    (r .run-form .kept .1 .1 .1 .1 .1 .1 .1 .1 .1 .0 ∙ lent-length (now (s .args .labels)) (s .args .k) (s .args .plan .n) _ _ h)
 
 same-length-4 : tie.Need-same-length-4
-same-length-4 c = search needs
+same-length-4 c =
+    let r = R (c .before) in
+    let t = B5 (P r) in
+    let s = T t in
+    let h = t .before .before .before .bounds2 .ensures in
+    back-length (now (s .args .grey-labels)) (s .args .k) (s .args .plan .n) _ _ h (r .run-form .last .1 .1 .1 .1 .1 .1 .1 .1 .1 .1 .0)
+    (r .run-form .kept .1 .1 .1 .1 .1 .1 .1 .1 .1 .1 .0 ∙ lent-length (now (s .args .grey-labels)) (s .args .k) (s .args .plan .n) _ _ h)
 
 same-length-5 : tie.Need-same-length-5
-same-length-5 c = search needs
+same-length-5 c =
+    let r = R (c .before) in
+    let t = B5 (P r) in
+    let s = T t in
+    let h = t .before .before .bounds3 .ensures in
+    back-length (now (s .args .counts)) (s .args .k) (s .args .plan .n + 1) _ _ h (r .run-form .last .1 .1 .1 .1 .1 .1 .1 .1 .1 .1 .1 .0)
+    (r .run-form .kept .1 .1 .1 .1 .1 .1 .1 .1 .1 .1 .1 .0 ∙ lent-length (now (s .args .counts)) (s .args .k) (s .args .plan .n + 1) _ _ h)
 
 same-length-6 : tie.Need-same-length-6
-same-length-6 c = search needs
+same-length-6 c =
+    let r = R (c .before) in
+    let t = B5 (P r) in
+    let s = T t in
+    let h = t .before .bounds4 .ensures in
+    back-length (now (s .args .sizes)) (s .args .k) 4 _ _ h (r .run-form .last .1 .1 .1 .1 .1 .1 .1 .1 .1 .1 .1 .1 .0)
+    (r .run-form .kept .1 .1 .1 .1 .1 .1 .1 .1 .1 .1 .1 .1 .0 ∙ lent-length (now (s .args .sizes)) (s .args .k) 4 _ _ h)
+
+same-length-7 : tie.Need-same-length-7
+same-length-7 c =
+    let r = R (c .before) in
+    let t = B5 (P r) in
+    let s = T t in
+    let h = t .bounds5 .ensures in
+    back-length (now (s .args .members)) (s .args .k) (s .args .plan .n) _ _ h (r .run-form .last .1 .1 .1 .1 .1 .1 .1 .1 .1 .1 .1 .1 .1 .0)
+    (r .run-form .kept .1 .1 .1 .1 .1 .1 .1 .1 .1 .1 .1 .1 .1 .0 ∙ lent-length (now (s .args .members)) (s .args .k) (s .args .plan .n) _ _ h)
 
 returns-2 : tie.Need-returns-2
 returns-2 c =
-    let r = c .before .before .before .before .before .before .before .before .before .before .before .before in
-    let g = r .before .before .before .before .before .before in
+    let r = R (c .before) in
+    let g = P r in
     let t = B5 g in
     let s = T t in
-    let z = r .run-form in
-    turned-one (W s) (s .args .k) (s .args .outcomes) (B s) (z .result) (c .add .result) _ (unmasked (t .before .before .before .before .before))
-    (steps-put (W s) (s .args .k) (B s) (t .before .before .before .before .bounds .ensures) (t .before .before .before .bounds2 .ensures)
-    (t .before .before .bounds3 .ensures) (t .before .bounds4 .ensures) (t .bounds5 .ensures)
-    (z .last .1 .0) (z .last .1 .1 .1 .1 .1 .1 .1 .1 .0) (z .last .1 .1 .1 .1 .1 .1 .1 .1 .1 .0)
-    (z .last .1 .1 .1 .1 .1 .1 .1 .1 .1 .1 .0) (z .last .1 .1 .1 .1 .1 .1 .1 .1 .1 .1 .1 .0) (z .last .1 .1 .1 .1 .1 .1 .1 .1 .1 .1 .1 .1 .0)
-    (z .kept .1 .1 .1 .1 .1 .1 .1 .1 .0) (z .kept .1 .1 .1 .1 .1 .1 .1 .1 .1 .0) (z .kept .1 .1 .1 .1 .1 .1 .1 .1 .1 .1 .0)
-    (z .kept .1 .1 .1 .1 .1 .1 .1 .1 .1 .1 .1 .0) (z .kept .1 .1 .1 .1 .1 .1 .1 .1 .1 .1 .1 .1 .0)
-    (z .result) (answers-parts (parts g) _ _ (z .result) (z .ensures))) (c .add .ensures)
+    let z = r .run-form in (
+      turned-one (W s) (s .args .k) (s .args .outcomes) (B s) (z .result) (c .add .result) _ (unmasked (t .before .before .before .before .before))
+          (steps-put (W s) (s .args .k) (B s) (t .before .before .before .before .bounds .ensures) (t .before .before .before .bounds2 .ensures)
+          (t .before .before .bounds3 .ensures) (t .before .bounds4 .ensures) (t .bounds5 .ensures)
+          (z .last .1 .0)
+          (z .last .1 .1 .1 .1 .1 .1 .1 .1 .1 .0)
+          (z .last .1 .1 .1 .1 .1 .1 .1 .1 .1 .1 .0)
+          (z .last .1 .1 .1 .1 .1 .1 .1 .1 .1 .1 .1 .0)
+          (z .last .1 .1 .1 .1 .1 .1 .1 .1 .1 .1 .1 .1 .0)
+          (z .last .1 .1 .1 .1 .1 .1 .1 .1 .1 .1 .1 .1 .1 .0)
+          (z .kept .1 .1 .1 .1 .1 .1 .1 .1 .1 .0)
+          (z .kept .1 .1 .1 .1 .1 .1 .1 .1 .1 .1 .0)
+          (z .kept .1 .1 .1 .1 .1 .1 .1 .1 .1 .1 .1 .0)
+          (z .kept .1 .1 .1 .1 .1 .1 .1 .1 .1 .1 .1 .1 .0)
+          (z .kept .1 .1 .1 .1 .1 .1 .1 .1 .1 .1 .1 .1 .1 .0)
+          (z .result) (answers-parts (parts g) _ _ (z .result) (z .ensures .0))) (c .add .ensures),
+      totals-parts (parts g) (now (s .args .spins)) (now (s .args .totals)) (z .last .1 .0) (z .last .1 .1 .0) (z .ensures .1),
+    )
 
 pub step-spec : {M : Type 1} → statement M
 step-spec =
@@ -275,4 +321,5 @@ step-spec =
     same-length-4
     same-length-5
     same-length-6
+    same-length-7
     returns-2)

@@ -2,181 +2,259 @@
 use borrow.Author.Needs.{needs}
 use mathlib.Core.Path.{refl, sym, _∙_}
 use mathlib.Core.Bool.{not, _||_}
-use native.Mathlib.Omega.{arith}
 use mathlib.Core.Logic.{inl, inr}
+use mathlib.Core.List.{[], _∷_}
 use denote.Ref.{now}
+use lib.ListN.{length}
 use Rattle.lemmas.specs.Tells.{Tells, passed, refused, Test, said, implies, test-is}
-use Rattle.paper.specs.Panel.Takes.{drawsBonds}
-use Rattle.paper.specs.Refusal.Rules.{When, Ranged, Fits, AllSystems, Spins, Inverse, Grouped, SmallCouplings, Warm}
+use Rattle.paper.specs.Panel.Takes.{drawsBonds, keepsBy}
+use Rattle.paper.specs.Panel.Made.{latticeOf}
+use Rattle.paper.specs.Refusal.Rule.{rule, Kept}
+use Rattle.paper.specs.Refusal.Rules.{When, AllSystems, Spins, Inverse, Grouped, SmallCouplings, Warm}
+use Rattle.paper.specs.Refusal.Verdict.{verdict-kept}
+use Rattle.paper.specs.Answer.Totals.{TotalLengths}
 use Rattle.lattice.specs.Spinning.{all-rows}
-use Rattle.tests.specs.Lengths.{one-fits, fits-one}
+use Rattle.tests.specs.Panel.{shapeRules, either-first, either-second, either-broken}
+use Rattle.tests.proofs.Shape.{shape-lengths, shape-broken}
 use Rattle.tests.proofs.panel.test_panel.Statement.{statement}
 use Rattle.tests.proofs.panel.test_panel.Tie as tie
 
 -- what is known past each test
-abbrev S1 : tie.Else1 → tie.Start
-S1 e = e .before .before .before .before .before
+abbrev S0 : tie.After-test-shape → tie.Start
+S0 e = e .before .before .before
 
-k1 : (e : tie.Else1) → let a = S1 e .args in Ranged (a .t .n) (a .t .d) (a .t .s) (a .t .mode) (a .t .group .len)
-k1 e = passed (e .before .ranged .result) (e .if1 .left) (e .before .ranged .ensures)
+abbrev S1 : tie.Else1 → tie.Start
+S1 e = S0 (e .before)
+
+k1 : (e : tie.Else1) → let a = S1 e .args in Kept (shapeRules (a .t) (length (now (a .totals))) (a .l))
+k1 e = verdict-kept _ (e .before .test-shape .result) (e .if1 .left) (e .before .test-shape .ensures)
+
+k2 : (e : tie.Else1) → let a = S1 e .args in
+    When (keepsBy (a .t .keeps) (a .t .form)) (TotalLengths (latticeOf (a .t .n) (a .t .d) (a .t .s) (now (a .fwd)) (now (a .bwd)) (now (a .couplings)))
+    (now (a .totals)))
+k2 e =
+    let s = S1 e in
+    let a = s .args in
+    shape-lengths (a .t) (now (a .spins)) (now (a .totals)) (now (a .fwd)) (now (a .bwd)) (now (a .couplings)) (a .l) (s .pre) (k1 e)
 
 abbrev E1 : tie.Else2 → tie.Else1
 E1 e = e .before .before
 
-k2 : (e : tie.Else2) → let a = S1 (E1 e) .args in Fits (a .t .mode) (a .t .form) (a .t .n) (a .t .d) (a .t .s) (a .t .group .len) (a .l)
-k2 e =
-    let a = S1 (E1 e) .args in
-    let t = a .t in
-    one-fits (t .mode) (t .form) (t .n) (t .d) (t .s) (t .group .len) (a .l)
-    (passed (e .before .lengths-ok .result) (e .if2 .left) (e .before .lengths-ok .ensures))
+rows-tell : (e : tie.After-spins-ok) → let a = S1 (e .before) .args in
+    Tells (e .spins-ok .result) (Spins (a .t .n) (AllSystems (a .t .s)) (now (a .spins)))
+rows-tell e =
+    let s = S1 (e .before) in
+    let long = sym (s .pre .spins-is) ∙ k1 (e .before) .1 .0 .spins in
+    all-rows (s .args .t .n) (s .args .t .s) (now (s .args .spins)) long (e .spins-ok .result) (e .spins-ok .ensures)
+
+k3 : (e : tie.Else2) → let a = S1 (E1 e) .args in Spins (a .t .n) (AllSystems (a .t .s)) (now (a .spins))
+k3 e = passed (e .before .spins-ok .result) (e .if2 .left) (rows-tell (e .before))
 
 abbrev E2 : tie.Else3 → tie.Else2
 E2 e = e .before .before
 
-rows-tell : (e : tie.After-spins-ok) → let a = S1 (E1 (e .before)) .args in
-    Tells (e .spins-ok .result) (Spins (a .t .n) (AllSystems (a .t .s)) (now (a .spins)))
-rows-tell e =
-    let s = S1 (E1 (e .before)) in
-    let long = sym (s .pre .spins-is) ∙ k2 (e .before) .spins in
-    all-rows (s .args .t .n) (s .args .t .s) (now (s .args .spins)) long (e .spins-ok .result) (e .spins-ok .ensures)
-
-k3 : (e : tie.Else3) → let a = S1 (E1 (E2 e)) .args in Spins (a .t .n) (AllSystems (a .t .s)) (now (a .spins))
-k3 e = passed (e .before .spins-ok .result) (e .if3 .left) (rows-tell (e .before))
+k4 : (e : tie.Else3) → let a = S1 (E1 (E2 e)) .args in Inverse (a .t .n) (a .t .d) (now (a .fwd)) (now (a .bwd))
+k4 e = passed (e .before .tables-ok .result) (e .if3 .left) (e .before .tables-ok .ensures)
 
 abbrev E3 : tie.Else4 → tie.Else3
-E3 e = e .before .before
+E3 e = e .before .before .before
 
-k4 : (e : tie.Else4) → let a = S1 (E1 (E2 (E3 e))) .args in Inverse (a .t .n) (a .t .d) (now (a .fwd)) (now (a .bwd))
-k4 e = passed (e .before .tables-ok .result) (e .if4 .left) (e .before .tables-ok .ensures)
+k5 : (e : tie.Else4) → let a = S1 (E1 (E2 (E3 e))) .args in Grouped (a .t .s) (a .t .group)
+k5 e = passed (e .before .group-ok .result) (e .if4 .left) (e .before .group-ok .ensures)
 
-abbrev E4 : tie.Else5 → tie.Else4
-E4 e = e .before .before
+abbrev S4 : tie.Else4 → tie.Start
+S4 e = S1 (E1 (E2 (E3 e)))
 
-k5 : (e : tie.Else5) → let a = S1 (E1 (E2 (E3 (E4 e)))) .args in Grouped (a .t .s) (a .t .group)
-k5 e = passed (e .before .group-ok .result) (e .if5 .left) (e .before .group-ok .ensures)
+-- the test of the couplings, as the code puts it, and for both of its reasons
+abbrev D : tie.After-totals → tie.After-is-drawn
+D e = e .before
 
-abbrev E5 : tie.After-is-drawn → tie.Else5
-E5 e = e .before
+abbrev E4 : tie.After-totals → tie.Else4
+E4 e = D e .before
 
-abbrev S5 : tie.Else5 → tie.Start
-S5 e = S1 (E1 (E2 (E3 (E4 e))))
+large : (e : tie.After-couplings-fit) → let a = S4 (E4 (e .before)) .args in
+    Tells (e .couplings-fit .result) (When (drawsBonds (a .t .mode) || keepsBy (a .t .keeps) (a .t .form)) (SmallCouplings (now (a .couplings))))
+large e = rw (D (e .before) .is-drawn .ensures, e .before .totals .ensures) at (e .couplings-fit .ensures)
 
-k6 : (e : tie.Else6) → let a = S5 (e .before .before .before) .args in When (drawsBonds (a .t .mode)) (SmallCouplings (now (a .couplings)))
-k6 e = rw (e .before .before .is-drawn .ensures) at (passed (e .before .couplings-fit .result) (e .if6 .left) (e .before .couplings-fit .ensures))
+module _ (e : tie.Else5) where
+  abbrev C : tie.After-couplings-fit
+  C = e .before
 
-abbrev E6 : tie.Else7 → tie.Else6
-E6 e = e .before .before
+  abbrev T : tie.Start
+  T = S4 (E4 (C .before))
+
+  k6 : When (drawsBonds (T .args .t .mode) || keepsBy (T .args .t .keeps) (T .args .t .form)) (SmallCouplings (now (T .args .couplings)))
+  k6 = passed (C .couplings-fit .result) (e .if5 .left) (large C)
+
+  k6-drawn : When (drawsBonds (T .args .t .mode)) (SmallCouplings (now (T .args .couplings)))
+  k6-drawn = either-first (drawsBonds (T .args .t .mode)) (keepsBy (T .args .t .keeps) (T .args .t .form)) _ k6
+
+  k6-kept : When (keepsBy (T .args .t .keeps) (T .args .t .form)) (SmallCouplings (now (T .args .couplings)))
+  k6-kept = either-second (drawsBonds (T .args .t .mode)) (keepsBy (T .args .t .keeps) (T .args .t .form)) _ k6
 
 -- the last test, as the code puts it
-warm : (e : tie.After-temperature-ok) → let d = e .before .before .before .is-drawn .result in let a = S5 (e .before .before .before .before) .args in
-    Test (not d || e .temperature-ok .result) (When d (Warm (a .t .temperature)))
+abbrev F : tie.After-temperature-ok → tie.Else5
+F e = e .before
+
+warm : (e : tie.After-temperature-ok) → let d = D (C (F e) .before) .is-drawn .result in
+    Test (not d || e .temperature-ok .result) (When d (Warm (T (F e) .args .t .temperature)))
 warm e =
-    let i = e .before .before .before in
-    implies (test-is (i .is-drawn .result)) (said (e .temperature-ok .result) (Warm (S5 (i .before) .args .t .temperature)) (e .temperature-ok .ensures))
+    let i = D (C (F e) .before) in
+    implies (test-is (i .is-drawn .result)) (said (e .temperature-ok .result) (Warm (T (F e) .args .t .temperature)) (e .temperature-ok .ensures))
 
-k7 : (e : tie.Else7) → let a = S5 (E6 e .before .before .before) .args in When (drawsBonds (a .t .mode)) (Warm (a .t .temperature))
+k7 : (e : tie.Else6) → let a = T (F (e .before)) .args in When (drawsBonds (a .t .mode)) (Warm (a .t .temperature))
 k7 e =
-    let i = E6 e .before .before in
-    rw (i .is-drawn .ensures) at (passed (not (i .is-drawn .result) || e .before .temperature-ok .result) (e .if7 .left) (warm (e .before) .says))
+    let i = D (C (F (e .before)) .before) in
+    λ q. passed (not (i .is-drawn .result) || e .before .temperature-ok .result) (e .if6 .left) (warm (e .before) .says) (i .is-drawn .ensures ∙ q)
 
-ranged-requires : tie.Need-ranged-requires
-ranged-requires c κs = search needs
+test-shape-requires : tie.Need-test-shape-requires
+test-shape-requires c κs = search needs
 
 returns : tie.Need-returns
-returns c = inl (refused (c .before .ranged .result) (c .if1 .taken) (c .before .ranged .ensures), refl)
-
-lengths-ok-requires : tie.Need-lengths-ok-requires
-lengths-ok-requires c κs =
-    let r = k1 c in
-    record { n-high = r .lattice .n-high; d-high = r .lattice .d-high; s-high = r .lattice .s-high; m-high = r .size-high; count-high = omega arith }
-
-returns-2 : tie.Need-returns-2
-returns-2 c =
-    let e = c .before .before in
-    let a = S1 e .args in
-    let t = a .t in
-    let short = refused (c .before .lengths-ok .result) (c .if2 .taken) (c .before .lengths-ok .ensures) in
-    inr (k1 e, inl ((λ f. short (fits-one (t .mode) (t .form) (t .n) (t .d) (t .s) (t .group .len) (a .l) f)), refl))
+returns c =
+    let e = c .before in
+    let s = S0 e in
+    let a = s .args in
+    shape-broken (a .t) (now (a .spins)) (now (a .totals)) (now (a .fwd)) (now (a .bwd)) (now (a .couplings)) (a .l) (s .pre)
+    (e .test-shape .result) (c .if1 .taken) (e .test-shape .ensures)
 
 spins-ok-requires : tie.Need-spins-ok-requires
 spins-ok-requires c κs = search needs
 
-returns-3 : tie.Need-returns-3
-returns-3 c =
+returns-2 : tie.Need-returns-2
+returns-2 c =
     let t = c .before in
     let e = t .before in
-    inr (k1 (E1 e), inr (k2 e, inl (refused (t .spins-ok .result) (c .if3 .taken) (rows-tell t), refl)))
+    inr (k1 e .0, inr (k1 e .1 .0, inr (k2 e, inl (refused (t .spins-ok .result) (c .if2 .taken) (rows-tell t), refl))))
 
 tables-ok-requires : tie.Need-tables-ok-requires
 tables-ok-requires c κs =
-    let s = S1 (E1 (E2 c)) in
-    record { fwd-long = sym (s .pre .fwd-is) ∙ k2 (E2 c) .fwd; bwd-long = sym (s .pre .bwd-is) ∙ k2 (E2 c) .bwd }
+    let s = S1 (E1 c) in
+    let f = k1 (E1 c) .1 .0 in
+    record { fwd-long = sym (s .pre .fwd-is) ∙ f .fwd; bwd-long = sym (s .pre .bwd-is) ∙ f .bwd }
+
+returns-3 : tie.Need-returns-3
+returns-3 c =
+    let t = c .before in
+    let f = t .before in
+    let e = E1 f in
+    inr (k1 e .0, inr (k1 e .1 .0, inr (k2 e, inr (k3 f, inl (refused (t .tables-ok .result) (c .if3 .taken) (t .tables-ok .ensures), refl)))))
+
+group-ok-requires : tie.Need-group-ok-requires
+group-ok-requires c κs = k1 (E1 (E2 (c .before))) .0 .size-high
 
 returns-4 : tie.Need-returns-4
 returns-4 c =
     let t = c .before in
-    let e = t .before in
-    inr (k1 (E1 (E2 e)), inr (k2 (E2 e), inr (k3 e, inl (refused (t .tables-ok .result) (c .if4 .taken) (t .tables-ok .ensures), refl))))
-
-group-ok-requires : tie.Need-group-ok-requires
-group-ok-requires c κs = k1 (E1 (E2 (E3 c))) .size-high
-
-returns-5 : tie.Need-returns-5
-returns-5 c =
-    let t = c .before in
-    let e = t .before in
-    let no = refused (t .group-ok .result) (c .if5 .taken) (t .group-ok .ensures) in
-    inr (k1 (E1 (E2 (E3 e))), inr (k2 (E2 (E3 e)), inr (k3 (E3 e), inr (k4 e, inl (no, refl)))))
+    let i = t .before .before in
+    let f = E2 i in
+    let e = E1 f in
+    let no = refused (t .group-ok .result) (c .if4 .taken) (t .group-ok .ensures) in
+    inr (k1 e .0, inr (k1 e .1 .0, inr (k2 e, inr (k3 f, inr (k4 i, inl (no, refl))))))
 
 is-drawn-requires : tie.Need-is-drawn-requires
 is-drawn-requires c κs = search needs
 
+totals-requires : tie.Need-totals-requires
+totals-requires c κs = search needs
+
 couplings-fit-requires : tie.Need-couplings-fit-requires
 couplings-fit-requires c κs = search needs
 
-returns-6 : tie.Need-returns-6
-returns-6 c =
+returns-5 : tie.Need-returns-5
+returns-5 c =
     let t = c .before in
-    let e = t .before .before in
-    let large = refused (t .couplings-fit .result) (c .if6 .taken) (t .couplings-fit .ensures) in
-    let s = E4 e in
-    inr (k1 (E1 (E2 (E3 s))), inr (k2 (E2 (E3 s)), inr (k3 (E3 s), inr (k4 s, inr (k5 e, inl ((λ w. large (rw (t .before .is-drawn .ensures) w)), refl))))))
+    let g = E4 (t .before) in
+    let i = E3 g in
+    let f = E2 i in
+    let e = E1 f in
+    let a = S1 e .args in
+    let no = refused (t .couplings-fit .result) (c .if5 .taken) (large t) in
+    inr (
+      k1 e .0,
+      inr (
+        k1 e .1 .0,
+        inr (
+          k2 e,
+          inr (
+            k3 f,
+            inr (
+              k4 i,
+              inr (
+                k5 g,
+                either-broken (drawsBonds (a .t .mode)) (keepsBy (a .t .keeps) (a .t .form)) (SmallCouplings (now (a .couplings))) 6
+                    (rule 7 (When (drawsBonds (a .t .mode)) (Warm (a .t .temperature))) ∷ []) no,
+              ),
+            ),
+          ),
+        ),
+      ),
+    )
 
 temperature-ok-requires : tie.Need-temperature-ok-requires
 temperature-ok-requires c κs = search needs
 
+returns-6 : tie.Need-returns-6
+returns-6 c =
+    let t = c .before in
+    let j = F t in
+    let d = D (C j .before) in
+    let g = d .before in
+    let i = E3 g in
+    let f = E2 i in
+    let e = E1 f in
+    let cold = refused (not (d .is-drawn .result) || t .temperature-ok .result) (c .if6 .taken) (warm t .says) in
+    inr (
+      k1 e .0,
+      inr (
+        k1 e .1 .0,
+        inr (
+          k2 e,
+          inr (
+            k3 f,
+            inr (
+              k4 i,
+              inr (
+                k5 g,
+                inr (
+                  k6-drawn j,
+                  inr (
+                    k6-kept j,
+                    inl ((λ w. cold (λ q. w (sym (d .is-drawn .ensures) ∙ q))), refl),
+                  ),
+                ),
+              ),
+            ),
+          ),
+        ),
+      ),
+    )
+
 returns-7 : tie.Need-returns-7
 returns-7 c =
-    let f = c .before .before in
-    let i = f .before .before in
-    let e = i .before in
-    let cold = refused (not (i .is-drawn .result) || c .before .temperature-ok .result) (c .if7 .taken) (warm (c .before) .says) in
-    let s = E4 e in
-    inr (k1 (E1 (E2 (E3 s))), inr (k2 (E2 (E3 s)), inr (k3 (E3 s), inr (k4 s, inr (k5 e, inr (k6 f, inl ((λ w. cold (rw (i .is-drawn .ensures) w)), refl)))))))
-
-returns-8 : tie.Need-returns-8
-returns-8 c =
-    let f = E6 c in
-    let e = f .before .before .before in
-    (k1 (E1 (E2 (E3 (E4 e)))), (k2 (E2 (E3 (E4 e))), (k3 (E3 (E4 e)), (k4 (E4 e), (k5 e, (k6 f, (k7 c, tt)))))))
+    let j = F (c .before) in
+    let g = E4 (C j .before) in
+    let i = E3 g in
+    let f = E2 i in
+    let e = E1 f in
+    (k1 e .0, (k1 e .1 .0, (k2 e, (k3 f, (k4 i, (k5 g, (k6-drawn j, (k6-kept j, (k7 c, tt)))))))))
 
 pub test-panel-spec : {M : Type 1} → statement M
 test-panel-spec =
     tie.close
     (tie.spec
-    ranged-requires
+    test-shape-requires
     returns
-    lengths-ok-requires
-    returns-2
     spins-ok-requires
-    returns-3
+    returns-2
     tables-ok-requires
-    returns-4
+    returns-3
     group-ok-requires
-    returns-5
+    returns-4
     is-drawn-requires
+    totals-requires
     couplings-fit-requires
-    returns-6
+    returns-5
     temperature-ok-requires
-    returns-7
-    returns-8)
+    returns-6
+    returns-7)

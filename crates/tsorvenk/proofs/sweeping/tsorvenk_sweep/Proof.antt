@@ -1,16 +1,19 @@
 -- `tsorvenk_sweep` meets its contract: a code that is none is refused, without room for the counts test 1 decides, and any other
 -- call is answered by `overlap_update`.
 use borrow.Author.Needs.{needs}
+use mathlib.Core.Path.{_≡_}
 use denote.Ref.{now}
 use Rattle.lemmas.specs.Tells.{passed, refused}
 use Rattle.paper.specs.declared.Mode.{Mode}
 use Rattle.paper.specs.declared.Form.{Form}
+use Rattle.paper.specs.declared.Keeps.{Keeps}
 use Rattle.paper.specs.Panel.Input.{Buffers}
 use Rattle.paper.specs.Answer.Task.{Sweep}
 use Rattle.paper.specs.Panel.Made.{buffersOf}
 use Rattle.paper.specs.Answer.Made.{sweepOf}
-use Rattle.tsorvenk.specs.Number.{Coded, modeOf, formOf, takenOf}
+use Rattle.tsorvenk.specs.Number.{Coded, modeOf, formOf, keepsOf, takenOf}
 use Rattle.tsorvenk.specs.Sweep.{planFor}
+use Rattle.tsorvenk.proofs.Told.{same-keeping}
 use Rattle.tsorvenk.proofs.Swept.{same-sweep, uncoded-sweep, roomless-sweep, coded-sweep}
 use Rattle.tsorvenk.proofs.sweeping.tsorvenk_sweep.Statement.{statement}
 use Rattle.tsorvenk.proofs.sweeping.tsorvenk_sweep.Tie as tie
@@ -19,26 +22,32 @@ abbrev S : tie.After-codes-ok → tie.Start
 S k = k .before .before .before .before .before .before .before .before .before .before .before .before .before .before .before .before .before .before
 
 -- the codes are known from here on
-abbrev F : tie.After-form-of → tie.Start
-F f = S (f .before .before .before)
+abbrev F : tie.After-keeps-of → tie.Start
+F f = S (f .before .before .before .before)
 
--- the sweep of a mode and a form, and what is lent
-abbrev W : tie.Start → Mode → Form → Sweep
-W k m f =
+-- the sweep of a mode, a form and what is kept, and what is lent
+abbrev W : tie.Start → Mode → Form → Keeps → Sweep
+W k m f q =
     let a = k .args in
-    sweepOf (planFor m f (a .n) (a .d) (a .s) (a .t) (a .r) (a .members)) (now (a .fwd)) (now (a .bwd)) (now (a .couplings)) (now (a .order)) (now (a .masks))
-    (now (a .temperatures)) (now (a .cuts)) (now (a .references)) (now (a .seeds)) (takenOf m (now (a .flips)) (now (a .perms))) (now (a .greys))
+    sweepOf (planFor m f q (a .n) (a .d) (a .s) (a .t) (a .r) (a .members)) (now (a .fwd)) (now (a .bwd)) (now (a .couplings)) (now (a .order))
+    (now (a .masks)) (now (a .temperatures)) (now (a .cuts)) (now (a .references)) (now (a .seeds))
+    (takenOf m (now (a .flips)) (now (a .perms))) (now (a .greys))
 
 abbrev B : tie.Start → Buffers
 B k = let a = k .args in buffersOf (now (a .spins)) (now (a .labels)) (now (a .grey-labels)) (now (a .counts)) (now (a .sizes)) (now (a .member-sites))
 
-abbrev made : tie.After-form-of → Sweep
-made f = W (F f) (f .before .mode-of .result) (f .form-of .result)
+abbrev made : tie.After-keeps-of → Sweep
+made f = W (F f) (f .before .before .mode-of .result) (f .before .form-of .result) (f .keeps-of .result)
 
-abbrev meant : tie.After-form-of → Sweep
-meant f = W (F f) (modeOf (F f .args .mode)) (formOf (F f .args .form))
+abbrev meant : tie.After-keeps-of → Sweep
+meant f = W (F f) (modeOf (F f .args .mode)) (formOf (F f .args .form)) (keepsOf (F f .args .keeps))
 
-known : (e : tie.Else1) → let a = S (e .before) .args in Coded (a .mode) (a .form)
+same : (f : tie.After-keeps-of) → made f ≡ meant f
+same f =
+    let a = F f .args in
+    same-sweep (now (a .flips)) (now (a .perms)) (f .keeps-of .result) (keepsOf (a .keeps)) (f .before .before .mode-of .ensures) (f .before .form-of .ensures)
+
+known : (e : tie.Else1) → let a = S (e .before) .args in Coded (a .mode) (a .form) (a .keeps)
 known e = passed (e .before .codes-ok .result) (e .if1 .left) (e .before .codes-ok .ensures)
 
 codes-ok-requires : tie.Need-codes-ok-requires
@@ -53,6 +62,9 @@ mode-of-requires c κs = known c .mode-known
 form-of-requires : tie.Need-form-of-requires
 form-of-requires c κs = known (c .before) .form-known
 
+keeps-of-requires : tie.Need-keeps-of-requires
+keeps-of-requires c κs = known (c .before .before) .keeps-known
+
 roomless-requires : tie.Need-roomless-requires
 roomless-requires c κs = search needs
 
@@ -60,8 +72,9 @@ returns-2 : tie.Need-returns-2
 returns-2 c =
     let e = c .before in
     let f = e .before in
-    roomless-sweep (made f) (meant f) (B (F f)) (now (F f .args .outcomes)) (c .roomless .result) (known (f .before .before))
-    (same-sweep (now (F f .args .flips)) (now (F f .args .perms)) (f .before .mode-of .ensures) (f .form-of .ensures)) (e .if2 .taken) (c .roomless .ensures)
+    let a = F f .args in
+    roomless-sweep (made f) (meant f) (B (F f)) (now (a .totals)) (now (a .outcomes)) (c .roomless .result) (f .keeps-of .result)
+    (known (f .before .before .before)) (same f) (e .if2 .taken) (c .roomless .ensures)
 
 taken-requires : tie.Need-taken-requires
 taken-requires c κs = search needs
@@ -93,15 +106,19 @@ same-length-6 c = search needs
 same-length-7 : tie.Need-same-length-7
 same-length-7 c = search needs
 
+same-length-8 : tie.Need-same-length-8
+same-length-8 c = search needs
+
 returns-3 : tie.Need-returns-3
 returns-3 c =
     let t = c .before .before in
-    let o = t .before .before .before .before .before .before .before .before .before .before .before .before .before in
+    let o = t .before .before .before .before .before .before .before .before .before .before .before .before .before .before in
     let k = o .before .before .before .before .before .before in
-    let e = k .before .before in
+    let e = k .before .before .before in
     let f = e .before in
-    coded-sweep (made f) (meant f) (B (F f)) (now (F f .args .outcomes)) (t .tell .result) (o .overlap-update .result) _ _ (known (f .before .before))
-    (same-sweep (now (F f .args .flips)) (now (F f .args .perms)) (f .before .mode-of .ensures) (f .form-of .ensures)) (e .if2 .left)
+    let a = F f .args in
+    coded-sweep (made f) (meant f) (B (F f)) (now (a .totals)) (now (a .outcomes)) (t .tell .result) _ (o .overlap-update .result) _ _ _
+    (known (f .before .before .before)) (same-keeping (f .keeps-of .ensures) (f .before .form-of .ensures)) (same f) (e .if2 .left)
     (rw (k .taken .ensures) at (o .overlap-update .ensures)) (t .tell .ensures)
 
 pub tsorvenk-sweep-spec : {M : Type 1} → statement M
@@ -112,6 +129,7 @@ tsorvenk-sweep-spec =
     returns
     mode-of-requires
     form-of-requires
+    keeps-of-requires
     roomless-requires
     returns-2
     taken-requires
@@ -124,4 +142,5 @@ tsorvenk-sweep-spec =
     same-length-5
     same-length-6
     same-length-7
+    same-length-8
     returns-3)

@@ -5,6 +5,8 @@
 //!
 //! Then a call that grows a cluster of ten sites, at n = 256 and n = 4096. Its tests are the same call refused by the last of
 //! them. What clearing the members takes is an idle call less one that is refused with 10, both after a look at every site.
+//!
+//! count growths, count totals: those alone, and what keeping totals takes beside metering anew.
 use calls::{Answer, Form, Mode};
 use published_as_is::Sweeper;
 use std::env;
@@ -13,6 +15,8 @@ use tsorvenk_runs::case::Single;
 use tsorvenk_runs::port;
 use tsorvenk_runs::rand::Rand;
 use tsorvenk_runs::timing;
+
+mod totals;
 
 const FEW: usize = 2;
 const MORE: usize = 12;
@@ -147,6 +151,11 @@ fn growths() {
 fn main() {
     let words: Vec<String> = env::args().skip(1).collect();
     let number = |word: &String| word.parse::<usize>().expect("a number");
+    if let [what, case @ .., times] = words.as_slice() {
+        if let &[mode, form, d, members, share] = &case.iter().map(number).collect::<Vec<_>>()[..] {
+            return totals::run(what, [mode, form, d, members, share], number(times));
+        }
+    }
     if let [what, mode, last, times] = words.as_slice() {
         let (mode, last, times) = (Mode::ALL[number(mode)], number(last), number(times));
         return match what.as_str() {
@@ -158,10 +167,14 @@ fn main() {
         println!("left out: the port or the published Rust was not found when this was built");
         return;
     }
-    if words != ["growths"] {
-        sweeps();
+    match words.first().map(String::as_str) {
+        Some("totals") => totals::all(),
+        Some("growths") => growths(),
+        _ => {
+            sweeps();
+            growths();
+        }
     }
-    growths();
 }
 
 #[test]

@@ -1,0 +1,149 @@
+-- Totals beside the replicas (6/14): a call that keeps them is the call that keeps none, and brings each system's total current.
+use Prim.Native.Nat.{ℕ, _*_, _≤_, _<_}
+use mathlib.Core.Path.{_≡_}
+use mathlib.Core.Bool.{Bool, false}
+use mathlib.Core.List.{List, [], _∷_, _++_}
+use lib.ListN.{length, getD}
+use lib.IntN.{ℤ, pos, natAbs, _+ℤ_, _-ℤ_}
+use Rattle.paper.specs.declared.Answer.{Answer}
+use Rattle.paper.specs.declared.Answer.the-variants.{Refused, Idle, Moved}
+use Rattle.paper.specs.declared.Group.{Group}
+use Rattle.paper.specs.declared.SweepAnswer.{SweepAnswer}
+use Rattle.paper.specs.declared.SweepAnswer.the-variants.{Fault, Swept}
+use Rattle.paper.specs.Panel.Input.{Lattice, Call, Choices, Buffers, member}
+use Rattle.paper.specs.Site.Energy.{energy}
+use Rattle.paper.specs.Refusal.Rule.{Rule, rule, Broken, Kept}
+use Rattle.paper.specs.Refusal.Rules.{When, Sizes, AllSystems, Spins, Inverse, SmallCouplings, choiceRules, More, rulesWith}
+use Rattle.paper.specs.Refusal.Kept.{Valid, valid-of}
+use Rattle.paper.specs.Answer.Number.{number, sweepNumber}
+use Rattle.paper.specs.Answer.Meter.{MeterExact}
+use Rattle.paper.specs.Answer.Move.{Answers}
+use Rattle.paper.specs.Answer.Task.{Sweep}
+use Rattle.paper.specs.Answer.Sweep.{SweepAnswers, sweepRulesWith}
+
+-- the total of the system t
+abbrev pub total : List ℤ → ℕ → ℤ
+total ts t = getD ts t (pos 0)
+
+-- ---- refusals
+
+-- 16,384 bonds of at most 1,000,000 each: no meter reaches more
+abbrev pub SmallTotals : List ℤ → Type 0
+SmallTotals ts = (t : ℕ) → t < length ts → natAbs (total ts t) ≤ 16384000000
+
+-- couplings are taken in every mode, and a total for each system
+pub record TotalLengths (g : Lattice) (ts : List ℤ) : Type 0 where
+  pub couplings : length (g .couplings) ≡ g .n * g .d
+  pub totals : length ts ≡ g .s
+
+-- what a call asks beyond the others where it keeps totals; 14 is last
+abbrev pub totalsAsk : Bool → Lattice → List ℤ → More
+totalsAsk keeping g ts = record {
+  lengths = rule 2 (When keeping (TotalLengths g ts)) ∷ [];
+  couplings = rule 6 (When keeping (SmallCouplings (g .couplings))) ∷ [];
+  last = rule 14 (When keeping (SmallTotals ts)) ∷ [];
+}
+
+abbrev pub keptRules : Bool → Call → Choices → Buffers → List ℤ → List Rule
+keptRules keeping c p b ts = rulesWith (totalsAsk keeping (c .lattice) ts) c p b
+
+abbrev pub sweptRules : Bool → Sweep → Buffers → List ℤ → List Rule
+sweptRules keeping w b ts = sweepRulesWith (totalsAsk keeping (w .lattice) ts) w b
+
+-- the same by name: all rules are kept just if the others are and these
+pub record TotalsAsked (keeping : Bool) (g : Lattice) (ts : List ℤ) : Type 0 where
+  pub lengths : When keeping (TotalLengths g ts)
+  pub couplings : When keeping (SmallCouplings (g .couplings))
+  pub small : When keeping (SmallTotals ts)
+
+-- what of it one task needs: of the totals, that its own group's are small
+pub record TotalsReady (keeping : Bool) (g : Lattice) (o : Group) (ts : List ℤ) : Type 0 where
+  pub lengths : When keeping (TotalLengths g ts)
+  pub couplings : When keeping (SmallCouplings (g .couplings))
+  pub small : When keeping ((k : ℕ) → k < o .len → natAbs (total ts (member o k)) ≤ 16384000000)
+
+module _ (keeping : Bool) (c : Call) (p : Choices) (b : Buffers) (ts : List ℤ) where
+  pub kept-valid : Kept (keptRules keeping c p b ts) → Valid c p b
+  kept-valid k =
+      let q = k .1 .1 .1 in
+      let h = q .1 .1 .1 .1 .1 in
+      valid-of c p b (k .0, (k .1 .0, (q .0, (q .1 .0, (q .1 .1 .0, (q .1 .1 .1 .0, (h .0, (h .1 .0, (h .1 .1 .0, (h .1 .1 .1 .0, tt))))))))))
+
+  pub kept-asked : Kept (keptRules keeping c p b ts) → TotalsAsked keeping (c .lattice) ts
+  kept-asked k =
+      let h = k .1 .1 .1 .1 .1 .1 .1 in
+      record { lengths = k .1 .1 .0; couplings = h .0; small = h .1 .1 .1 .1 .1 .0 }
+
+  last-kept : Valid c p b → TotalsAsked keeping (c .lattice) ts → Kept (choiceRules c p (b .spins) ++ totalsAsk keeping (c .lattice) ts .last)
+  last-kept v a = let f = v .fit in (f .cuts, (f .chosen, (f .seeded, (a .small, tt))))
+
+  pub asked-kept : Valid c p b → TotalsAsked keeping (c .lattice) ts → Kept (keptRules keeping c p b ts)
+  asked-kept v a =
+      let s = v .sound in
+      (s .ranged, (s .exact, (a .lengths, (s .spins, (s .inverse, (s .grouped, (s .couplings, (a .couplings, (s .warm, last-kept v a)))))))))
+
+-- ---- what becomes of the totals
+
+-- each changes by its system's energy after less its energy before: that of a system which does not move, by 0
+pub record Brought (g : Lattice) (xs ts ys ts′ : List ℤ) : Type 0 where
+  pub long : length ts′ ≡ length ts
+  pub each : (t : ℕ) → t < g .s → total ts′ t ≡ total ts t +ℤ (energy g ys t -ℤ energy g xs t)
+
+-- not kept, they are what they were, whatever is lent
+pub record TotalsAfter (keeping : Bool) (g : Lattice) (xs ts ys ts′ : List ℤ) : Type 0 where
+  pub brought : When keeping (Brought g xs ts ys ts′)
+  pub left : keeping ≡ false → ts′ ≡ ts
+
+-- ---- a move
+
+pub record KeepRefuses (keeping : Bool) (c : Call) (p : Choices) (b : Buffers) (ts : List ℤ) (r : ℕ) (b′ : Buffers) (ts′ : List ℤ) : Type 0 where
+  pub why : Broken (keptRules keeping c p b ts) r
+  pub kept : b′ ≡ b
+  pub totals-kept : ts′ ≡ ts
+
+pub record KeepAccepts (keeping : Bool) (c : Call) (p : Choices) (b : Buffers) (ts : List ℤ) (a : Answer) (b′ : Buffers) (ts′ : List ℤ) : Type 0 where
+  pub valid : Kept (keptRules keeping c p b ts)
+  pub answers : Answers c p b a b′
+  pub totals : TotalsAfter keeping (c .lattice) (b .spins) ts (b′ .spins) ts′
+
+-- the answer a may be given to the call c, which keeps totals or not, with the lent buffers b and totals ts, which then hold b′ and ts′
+abbrev pub KeepAnswers : Bool → Call → Choices → Buffers → List ℤ → Answer → Buffers → List ℤ → Type 0
+KeepAnswers keeping c p b ts (Refused r) b′ ts′ = KeepRefuses keeping c p b ts (number (Refused r)) b′ ts′
+KeepAnswers keeping c p b ts Idle b′ ts′ = KeepAccepts keeping c p b ts Idle b′ ts′
+KeepAnswers keeping c p b ts Moved b′ ts′ = KeepAccepts keeping c p b ts Moved b′ ts′
+
+-- ---- a sweep
+
+pub record SweepKeepRefuses (keeping : Bool) (w : Sweep) (b : Buffers) (ts : List ℤ) (r : ℕ) (b′ : Buffers) (ts′ : List ℤ) : Type 0 where
+  pub why : Broken (sweptRules keeping w b ts) r
+  pub kept : b′ ≡ b
+  pub totals-kept : ts′ ≡ ts
+
+pub record SweepKeeps (keeping : Bool) (w : Sweep) (b : Buffers) (ts : List ℤ) (idle moved : ℕ) (b′ : Buffers) (ts′ : List ℤ) : Type 0 where
+  pub valid : Kept (sweptRules keeping w b ts)
+  pub answers : SweepAnswers w b (Swept idle moved) b′
+  pub totals : TotalsAfter keeping (w .lattice) (b .spins) ts (b′ .spins) ts′
+
+abbrev pub SweepKeepAnswers : Bool → Sweep → Buffers → List ℤ → SweepAnswer → Buffers → List ℤ → Type 0
+SweepKeepAnswers keeping w b ts (Fault r) b′ ts′ = SweepKeepRefuses keeping w b ts (sweepNumber (Fault r)) b′ ts′
+SweepKeepAnswers keeping w b ts (Swept idle moved) b′ ts′ = SweepKeeps keeping w b ts idle moved b′ ts′
+
+-- ---- the hand-over
+
+-- each total is its system's energy
+abbrev pub Current : Lattice → List ℤ → List ℤ → Type 0
+Current g xs ts = (t : ℕ) → t < g .s → total ts t ≡ energy g xs t
+
+pub record HandOverExact (g : Lattice) (xs ts : List ℤ) : Type 0 where
+  pub panel : MeterExact g xs
+  pub totals : length ts ≡ g .s
+
+abbrev pub handOverRules : Lattice → List ℤ → List ℤ → List Rule
+handOverRules g xs ts =
+    rule 1 (Sizes (g .n) (g .d) (g .s))
+    ∷ rule 2 (HandOverExact g xs ts)
+    ∷ rule 3 (Spins (g .n) (AllSystems (g .s)) xs)
+    ∷ rule 4 (Inverse (g .n) (g .d) (g .fwd) (g .bwd))
+    ∷ rule 6 (SmallCouplings (g .couplings))
+    ∷ rule 14 (Current g xs ts)
+    ∷ []

@@ -1,0 +1,156 @@
+-- `test_values` meets its contract: each test is reached past those before it.
+use borrow.Author.Needs.{needs}
+use mathlib.Core.Path.{refl}
+use mathlib.Core.Logic.{inl}
+use mathlib.Core.List.{List, _++_}
+use Prim.Native.Nat.{ℕ}
+use denote.Ref.{now}
+use Rattle.lemmas.specs.Tells.{Tells, passed, refused}
+use Rattle.paper.specs.Panel.Input.{Buffers}
+use Rattle.paper.specs.Panel.Made.{buffersOf}
+use Rattle.paper.specs.Panel.Takes.{keepsBy}
+use Rattle.paper.specs.Refusal.Rule.{Rule, Kept}
+use Rattle.paper.specs.Refusal.Rules.{When}
+use Rattle.paper.specs.Refusal.Verdict.{Verdict, verdict-later, verdict-kept}
+use Rattle.paper.specs.Answer.Task.{Sweep}
+use Rattle.paper.specs.Answer.Totals.{SmallTotals}
+use Rattle.paper.specs.Answer.Made.{sweepOf}
+use Rattle.sweep_tests.specs.First.{panelRules, heatRules, first-broken}
+use Rattle.sweep_tests.specs.Whole.{panelOf, heatOf, tasksRules, lastRule, valueRules, tested-of}
+use Rattle.sweep_tests.proofs.test_values.Statement.{statement}
+use Rattle.sweep_tests.proofs.test_values.Tie as tie
+
+abbrev S : tie.After-test-panel → tie.Start
+S t = t .before .before .before .before .before .before .before .before .before .before .before
+
+abbrev W : tie.Start → Sweep
+W s =
+    let a = s .args in
+    sweepOf (a .plan) (now (a .fwd)) (now (a .bwd)) (now (a .couplings)) (now (a .order)) (now (a .masks)) (now (a .temperatures)) (now (a .cuts))
+    (now (a .references)) (now (a .seeds)) (now (a .choices)) (now (a .greys))
+
+-- the rules, whatever the outputs hold
+module _ (s : tie.Start) (labels greyLabels counts sizes members : List ℕ) where
+  abbrev B : Buffers
+  B = buffersOf (now (s .args .spins)) labels greyLabels counts sizes members
+
+  abbrev P : List Rule
+  P = panelOf (s .args .plan .keeps) (W s) B (now (s .args .totals))
+
+  abbrev H : List Rule
+  H = heatOf (s .args .plan .keeps) (W s) B (now (s .args .totals))
+
+  abbrev K : List Rule
+  K = tasksRules (s .args .plan .keeps) (W s) B (now (s .args .totals))
+
+  abbrev L : List Rule
+  L = lastRule (s .args .plan .keeps) (W s) B (now (s .args .totals))
+
+-- where each test was reached
+abbrev E1 : tie.Else2 → tie.Else1
+E1 e = e .before .before
+
+abbrev S1 : tie.Else1 → tie.Start
+S1 e = S (e .before)
+
+abbrev E2 : tie.After-test-tasks → tie.Else2
+E2 e = e .before
+
+abbrev T : tie.After-totals-fit → tie.After-test-tasks
+T e = e .before .before
+
+abbrev S3 : tie.After-totals-fit → tie.Start
+S3 e = S1 (E1 (E2 (T e)))
+
+-- what is known past each test
+panel : (e : tie.Else1) → let a = S1 e .args in Kept (panelRules (a .plan) (now (a .spins)) (now (a .fwd)) (now (a .bwd)) (now (a .order)))
+panel e = verdict-kept _ (e .before .test-panel .result) (e .if1 .left) (e .before .test-panel .ensures)
+
+heat : (e : tie.Else2) → let a = S1 (E1 e) .args in Kept (heatRules (a .plan) (now (a .couplings)) (now (a .temperatures)) (now (a .masks)))
+heat e = verdict-kept _ (e .before .test-heat .result) (e .if2 .left) (e .before .test-heat .ensures)
+
+-- past the tests of the panel and of the temperatures
+past : (e : tie.Else2) (labels greyLabels counts sizes members : List ℕ) (r : ℕ) → let s = S1 (E1 e) in
+    Verdict (K s labels greyLabels counts sizes members ++ L s labels greyLabels counts sizes members) r
+    → Verdict (valueRules (s .args .plan .keeps) (W s) (B s labels greyLabels counts sizes members) (now (s .args .totals))) r
+past e a b c d f r v =
+    let s = S1 (E1 e) in
+    verdict-later (P s a b c d f) (H s a b c d f ++ (K s a b c d f ++ L s a b c d f)) r (panel (E1 e))
+    (verdict-later (H s a b c d f) (K s a b c d f ++ L s a b c d f) r (heat e) v)
+
+-- the verdict on the tasks, and that on the totals
+tasks-told : (e : tie.After-test-tasks) (labels greyLabels counts sizes members : List ℕ) →
+    Verdict (K (S1 (E1 (E2 e))) labels greyLabels counts sizes members) (e .test-tasks .result)
+tasks-told e = let a = S1 (E1 (E2 e)) .args in e .test-tasks .ensures .is (now (a .fwd)) (now (a .bwd)) (now (a .couplings))
+
+totals-tell : (e : tie.After-totals-fit) → let a = S3 e .args in
+    Tells (e .totals-fit .result) (When (keepsBy (a .plan .keeps) (a .plan .form)) (SmallTotals (now (a .totals))))
+totals-tell e = rw (e .before .totals .ensures) at (e .totals-fit .ensures)
+
+test-panel-requires : tie.Need-test-panel-requires
+test-panel-requires c κs = c .before .before .before .before .before .before .before .before .before .before .pre .panel
+
+returns : tie.Need-returns
+returns c = let t = c .before in let s = S t in record {
+  is = λ a b d e f.
+      first-broken (P s a b d e f) (H s a b d e f ++ (K s a b d e f ++ L s a b d e f)) (t .test-panel .result) (c .if1 .taken) (t .test-panel .ensures);
+}
+
+test-heat-requires : tie.Need-test-heat-requires
+test-heat-requires c κs = S1 c .pre .heat
+
+returns-2 : tie.Need-returns-2
+returns-2 c = let t = c .before in let i = t .before in let s = S1 i in record {
+  is = λ a b d e f.
+      verdict-later (P s a b d e f) (H s a b d e f ++ (K s a b d e f ++ L s a b d e f)) (t .test-heat .result) (panel i)
+      (first-broken (H s a b d e f) (K s a b d e f ++ L s a b d e f) (t .test-heat .result) (c .if2 .taken) (t .test-heat .ensures));
+}
+
+test-tasks-requires : tie.Need-test-tasks-requires
+test-tasks-requires c κs = tested-of (S1 (E1 c) .pre) (panel (E1 c))
+
+totals-requires : tie.Need-totals-requires
+totals-requires c κs = search needs
+
+totals-fit-requires : tie.Need-totals-fit-requires
+totals-fit-requires c κs = search needs
+
+returns-3 : tie.Need-returns-3
+returns-3 c = let t = T (c .before) in let s = S3 (c .before) in record {
+  is = λ a b d e f.
+      past (E2 t) a b d e f (t .test-tasks .result)
+      (first-broken (K s a b d e f) (L s a b d e f) (t .test-tasks .result) (c .if3 .taken) (tasks-told t a b d e f));
+}
+
+module _ (e : tie.Else3) where
+  kept : (labels greyLabels counts sizes members : List ℕ) → Kept (K (S3 (e .before)) labels greyLabels counts sizes members)
+  kept a b d f g = let t = T (e .before) in verdict-kept (K (S3 (e .before)) a b d f g) (t .test-tasks .result) (e .if3 .left) (tasks-told t a b d f g)
+
+returns-4 : tie.Need-returns-4
+returns-4 c = let i = c .before in let u = i .before in let s = S3 u in record {
+  is = λ a b d e f.
+      past (E2 (T u)) a b d e f 14
+      (verdict-later (K s a b d e f) (L s a b d e f) 14 (kept i a b d e f) (inl (refused (u .totals-fit .result) (c .if4 .taken) (totals-tell u), refl)));
+}
+
+returns-5 : tie.Need-returns-5
+returns-5 c = let i = c .before in let u = i .before in let s = S3 u in record {
+  is = λ a b d e f.
+      past (E2 (T u)) a b d e f 0
+      (verdict-later (K s a b d e f) (L s a b d e f) 0 (kept i a b d e f) (passed (u .totals-fit .result) (c .if4 .left) (totals-tell u), tt));
+}
+
+pub test-values-spec : {M : Type 1} → statement M
+test-values-spec =
+    tie.close
+    (tie.spec
+    test-panel-requires
+    returns
+    test-heat-requires
+    returns-2
+    test-tasks-requires
+    totals-requires
+    totals-fit-requires
+    returns-3
+    returns-4
+    returns-5)
