@@ -22,7 +22,7 @@ use Rattle.paper.specs.declared.SweepAnswer.the-variants.{Swept}
 use Rattle.paper.specs.declared.MeterAnswer.the-variants.{Energy}
 use Rattle.paper.specs.Panel.Input.{Call, Choices, Buffers}
 use Rattle.paper.specs.Site.Acting.{acts, pairDiffers}
-use Rattle.paper.specs.Component.Sizes.{sizeOf, ofSize, atLeast, Counted, Largest}
+use Rattle.paper.specs.Component.Sizes.{sizeOf, isFirst, ofSize, atLeast, Counted, Largest}
 use Rattle.paper.specs.Refusal.Rule.{Rule}
 use Rattle.paper.specs.Answer.Number.{number, sweepNumber, meterNumber}
 use Rattle.paper.specs.Answer.Move.{SeenAll, SeenOne, memberBonds}
@@ -160,7 +160,7 @@ pub record Counts : Type 0 where
   pub smallest : ofSize (acts pair red) (0 ∷ 0 ∷ []) 2 ≡ 0
 
 pub counts : Counts
-unfolding acts pairDiffers sizeOf countWhere
+unfolding acts pairDiffers sizeOf isFirst countWhere
 counts = record { one = refl; one-size = refl; both = refl; both-sizes = refl; smallest = refl }
 
 -- and that is what a move's counts and sizes are of
@@ -211,7 +211,16 @@ tasks-counted w b b′ idle moved s = s .counts
 
 -- bonds are judged on the spins before the move: what it leaves in the spins does not matter to the labels, counts and sizes, nor to the members
 abbrev withSpins : Buffers → List ℤ → Buffers
-withSpins b ys = record { spins = ys; labels = b .labels; greyLabels = b .greyLabels; counts = b .counts; sizes = b .sizes; members = b .members }
+withSpins b ys = record {
+  spins = ys;
+  labels = b .labels;
+  greyLabels = b .greyLabels;
+  counts = b .counts;
+  sizes = b .sizes;
+  members = b .members;
+  found = b .found;
+  greyFound = b .greyFound;
+}
 
 pub judged-before :
     (c : Call) (b b′ : Buffers) (ys : List ℤ)
@@ -221,6 +230,7 @@ judged-before c b b′ ys s = record {
   labels = s .labels;
   grey-labels = s .grey-labels;
   grey-kept = s .grey-kept;
+  grey-found-kept = s .grey-found-kept;
   counts = s .counts;
   sizes = s .sizes;
   members-kept = s .members-kept;
@@ -234,4 +244,6 @@ grown-before c b b′ ys s = record {
   grey-kept = s .grey-kept;
   counts-kept = s .counts-kept;
   sizes-kept = s .sizes-kept;
+  found-kept = s .found-kept;
+  grey-found-kept = s .grey-found-kept;
 }
