@@ -4,6 +4,7 @@ pub mod Choices
 pub mod Patterns
 pub mod Partners
 pub mod Permuted
+pub mod Numbering
 pub mod Unique
 pub mod Decided
 pub mod Verdicts
