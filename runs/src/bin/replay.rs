@@ -69,12 +69,15 @@ fn tidy(case: &mut Swept) {
     keep(&mut case.choices.perms, exact.perms);
     keep(&mut case.choices.greys, exact.greys);
     keep(&mut case.lent.grey_labels, exact.grey_labels);
+    keep(&mut case.lent.grey_found, exact.grey_found);
     let lent = &mut case.lent;
     for output in [
         &mut lent.labels,
         &mut lent.grey_labels,
         &mut lent.counts,
         &mut lent.sizes,
+        &mut lent.found,
+        &mut lent.grey_found,
     ] {
         output.fill(UNTOUCHED);
     }
