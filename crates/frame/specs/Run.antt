@@ -210,6 +210,7 @@ module _ {text : List ℕ} {b : Held} {z : Sizes} {g : Group} {a : Held} (h : Re
       → MoveWritten (z .n) (z .d) (z .s) g (take (z .n * z .d) (a .fwd)) (take (z .n * g .len) (a .perms))
       (buffersRead z (a .spins) labels counts sizes) out w out′
       → RunAs text out w out′
+  unfolding table
   panel-answers v = record {
     answer = answerText (v .answer) (v .after .labels) (v .after .counts) (v .after .spins);
     answers = moves-answer text (v .bwd) (h .spelt) (moved .long) (moved .reversed) (v .answer)
