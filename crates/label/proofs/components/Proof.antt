@@ -17,11 +17,11 @@ abbrev R : tie.Start → Request
 R s = record { n = s .args .n; d = s .args .d; fwd = now (s .args .fwd); holds = now (s .args .holds); counted = now (s .args .counted) }
 
 abbrev B : tie.Start → Lent
-B s = record { labels = now (s .args .labels); counts = now (s .args .counts); sizes = now (s .args .sizes) }
+B s = record { labels = now (s .args .labels); counts = now (s .args .counts); sizes = now (s .args .sizes); found = now (s .args .found) }
 
 -- where the function starts, and the places past each test
 abbrev S : tie.After-sizes-ok → tie.Start
-S c = c .before .before .before .before .before .before .before
+S c = c .before .before .before .before .before .before .before .before
 
 abbrev s1 : tie.Else1 → tie.Start
 s1 c = S (c .before)
