@@ -1,6 +1,6 @@
 // Components of holding bonds: the number of each site's component, how many components there are in all and of each size, and the four largest sizes.
 ghost use mathlib.Core.Path.{_≡_};
-ghost use Prim.Native.Nat.{ℕ, _+_, _≤_, _<_};
+ghost use Prim.Native.Nat.{_≤_, _<_};
 ghost use lib.ListN.{length};
 ghost use mathlib.Core.Bool.{cond};
 ghost use Rattle.lemmas.specs.Counts.{bit};

@@ -71,7 +71,10 @@ cast-ones : tie.Need-cast-ones Inv-loop μ-loop
 cast-ones c = search needs
 
 add-ones : tie.Need-add-ones Inv-loop μ-loop
-add-ones c = let w = c .before in let t = w .before .before .before in omega (arith, ones t, S t .pre .n-high, t .loop-test .taken, bit-le (own w && eqb (size w) 1))
+add-ones c =
+    let w = c .before in
+    let t = w .before .before .before in
+    omega (arith, ones t, S t .pre .n-high, t .loop-test .taken, bit-le (own w && eqb (size w) 1))
 
 one-requires : tie.Need-one-requires Inv-loop μ-loop
 one-requires c κs = search needs
