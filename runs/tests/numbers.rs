@@ -44,6 +44,10 @@ fn numbers_follow_the_smallest_sites() {
 /// What does not act has a number of its own, and is found but not counted.
 #[test]
 fn idle_sites_are_numbered() {
+    // docs/DIFFERENCES.md: the Rust's roots are 1, 1, 2
+    let gap = call(Perm, Observe, &[2, 0, 1], &["+++", "--+"]);
+    numbers(&gap, &[0, 0, 1], 2);
+    labelled(&gap, &[0, 0, 1], &[0, 0, 1, 0], [2, 0, 0, 0]);
     let mixed = call(Pair, Observe, TWO_PAIRS, &["+++++", "++--+"]);
     labelled(&mixed, &[0, 1, 2, 2, 3], &[0, 0, 1, 0, 0, 0], [2, 0, 0, 0]);
     numbers(&mixed, &[0, 1, 2, 2, 3], 4);
@@ -110,6 +114,13 @@ fn an_entry_is_its_numbers_choice() {
     for row in 1..5 {
         moved(&gauged(row), &["+++++", "++---"]);
     }
+    // docs/DIFFERENCES.md: the second row is that of site 2, whose number is 1
+    let behind = perms(
+        call(Perm, Sw, &[1, 0, 2], &["+++", "---"]),
+        &[0, 1, 1, 0, 0, 1],
+    );
+    let lent = moved(&behind, &["++-", "--+"]);
+    assert_eq!((lent.labels, lent.found), (vec![0, 0, 1], vec![2]));
     let jorg = drawn(pairs(Jorg), &[1, 0, 1, 0, 0], 1.0, &[0.0; 5]);
     moved(&flips(jorg, &[0, 1, 0, 0, 0]), &["++--+", "--++-"]);
 }
