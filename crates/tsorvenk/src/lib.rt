@@ -254,7 +254,8 @@ fn labelling_number(answer: Labelling) -> u8
     }
 }
 
-// The components of the bonds whose byte in `holds` is 1, and into a buffer of one number how many there are. Counts and sizes are of those whose smallest site has a byte 1 in `counted`.
+// The components of the bonds whose byte in `holds` is 1, and how many there are, into a buffer of one number. Counts and sizes are of those whose
+// smallest site has a byte 1 in `counted`.
 #[no_mangle]
 pub extern "C" fn tsorvenk_label(
     n: usize,
