@@ -76,7 +76,11 @@ module _ (l : List ℕ) where
   pub first-only : (i j : ℕ) → isFirst l i ≡ true → j < i → labelOf l j ≢ labelOf l i
   unfolding isFirst
   first-only i j e h same =
-      absurd (omega (arith, count-pos (λ j. eqb (labelOf l j) (labelOf l i)) i j h (eq-eqb _ _ same), eqb-true (countWhere (λ j. eqb (labelOf l j) (labelOf l i)) i) 0 e))
+      absurd (omega (
+        arith,
+        count-pos (λ j. eqb (labelOf l j) (labelOf l i)) i j h (eq-eqb _ _ same),
+        eqb-true (countWhere (λ j. eqb (labelOf l j) (labelOf l i)) i) 0 e,
+      ))
 
   pub first-when : (i : ℕ) → ((j : ℕ) → j < i → labelOf l j ≢ labelOf l i) → isFirst l i ≡ true
   unfolding isFirst

@@ -37,8 +37,8 @@ pub record Call : Type 0 where
   pub reference : ℕ
   pub seed : ℕ
 
--- the choices by component: SW has one entry for each label, which is the component's number, Wolff and grow one entry in all. An entry is a flip, or in perm and gperm a permutation;
--- Wolff and grow take no flip. CMR's grey components have a number each
+-- the choices by component: SW has one entry for each label, which is the component's number, Wolff and grow one entry in all. An entry is a flip, or in
+-- perm and gperm a permutation; Wolff and grow take no flip. CMR's grey components have a grey number each
 pub record Choices : Type 0 where
   pub choices : List ℕ
   pub greys : List ℕ
