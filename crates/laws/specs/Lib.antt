@@ -6,6 +6,7 @@ pub mod Partners
 pub mod Permuted
 pub mod Numbering
 pub mod Unique
+pub mod Renumbered
 pub mod Decided
 pub mod Verdicts
 pub mod ByAnswer
