@@ -1,5 +1,6 @@
 /* A small panel through the C interface: a torus of 4 by 4 sites, four systems at two temperatures, one sweep of each
- * mode in the all-clusters form, a sweep that is refused, and one that grows a cluster in each task. The sweeps keep each
+ * mode in the all-clusters form, a sweep that is refused, and one that grows a cluster in each task. Behind each of the first
+ * stand the components that were found in its tasks, and the first task's sites by their numbers. The sweeps keep each
  * system's energy as a total, which is metered before them, handed over, and held to the meter after each. The couplings
  * come from an edge list, in the file that is named behind the program, or else in examples/panel.edges; every choice is
  * drawn from one seed, so that each run is the same. panel.rs is the same program in Rust; both print panel.out. */
@@ -20,7 +21,8 @@ static const float CUTS[8] = {2.7726f, 1.6740f, 1.1632f, 0.8267f, 0.5754f, 0.374
 struct outputs {
     int64_t totals[S];
     int8_t spins[S * N];
-    uint32_t labels[TASKS * N], grey_labels[TASKS * N], counts[TASKS * (N + 1)], sizes[TASKS * 4], outcomes[2];
+    uint32_t labels[TASKS * N], grey_labels[TASKS * N], counts[TASKS * (N + 1)], sizes[TASKS * 4];
+    uint32_t found[TASKS], grey_found[TASKS], outcomes[2];
 };
 
 /* the draws of one sweep, for every mode */
@@ -124,6 +126,8 @@ static uint8_t sweep(uint8_t mode, const struct choices *c, struct outputs *o) {
     args.grey_labels = o->grey_labels, args.grey_labels_len = TASKS * N;
     args.counts = o->counts, args.counts_len = TASKS * (N + 1);
     args.sizes = o->sizes, args.sizes_len = TASKS * 4;
+    args.found = o->found, args.found_len = TASKS;
+    args.grey_found = o->grey_found, args.grey_found_len = TASKS;
     return tsorvenk_sweep_with(&args);
 }
 
@@ -201,6 +205,17 @@ static void start_totals(struct outputs *o) {
     o->totals[0]--;
 }
 
+/* how many components each task has, those of sites that do not act too, and the number of each site's in the first */
+static void print_numbers(const char *what, const uint32_t *found, const uint32_t *labels) {
+    printf("  %s", what);
+    for (int k = 0; k < TASKS; k++)
+        printf("%s %u", k ? "," : "", (unsigned)found[k]);
+    printf("; numbers of the first");
+    for (int i = 0; i < N; i++)
+        printf(" %u", (unsigned)labels[i]);
+    printf("\n");
+}
+
 static void print_sweep(uint8_t mode, uint8_t code, const struct outputs *o) {
     if (code) {
         printf("%s: refused with %d\n", NAMES[mode], code);
@@ -211,6 +226,9 @@ static void print_sweep(uint8_t mode, uint8_t code, const struct outputs *o) {
         printf("%s %u %u %u %u", k ? "," : "", (unsigned)o->sizes[k * 4], (unsigned)o->sizes[k * 4 + 1],
             (unsigned)o->sizes[k * 4 + 2], (unsigned)o->sizes[k * 4 + 3]);
     printf("\n");
+    print_numbers("found", o->found, o->labels);
+    if (mode == TSORVENK_CMR)
+        print_numbers("grey found", o->grey_found, o->grey_labels);
 }
 
 int main(int argc, char **argv) {

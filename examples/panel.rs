@@ -1,5 +1,6 @@
 //! A small panel through the safe crate: a torus of 4 by 4 sites, four systems at two temperatures, one sweep of each mode
-//! in the all-clusters form, a sweep that is refused, and one that grows a cluster in each task. The sweeps keep each
+//! in the all-clusters form, a sweep that is refused, and one that grows a cluster in each task. Behind each of the first
+//! stand the components that were found in its tasks, and the first task's sites by their numbers. The sweeps keep each
 //! system's energy as a total, which is metered before them, handed over, and held to the meter after each. The couplings
 //! come from an edge list, in the file that is named behind the program, or else in examples/panel.edges; every choice is
 //! drawn from one seed, so that each run is the same. panel.c is the same program in C; both print panel.out.
@@ -42,6 +43,8 @@ struct Outputs {
     grey_labels: [u32; TASKS * N],
     counts: [u32; TASKS * (N + 1)],
     sizes: [u32; TASKS * 4],
+    found: [u32; TASKS],
+    grey_found: [u32; TASKS],
 }
 
 /// The draws of one sweep, for every mode.
@@ -113,6 +116,8 @@ fn make_panel(path: &str, source: &mut Source) -> Result<(Panel, Outputs), Box<d
         grey_labels: [0; TASKS * N],
         counts: [0; TASKS * (N + 1)],
         sizes: [0; TASKS * 4],
+        found: [0; TASKS],
+        grey_found: [0; TASKS],
     };
     let mut coins = [0; S * N];
     source.fill_flips(&mut coins)?;
@@ -180,6 +185,8 @@ fn sweep(mode: Mode, panel: &Panel, c: &Choices, o: &mut Outputs) -> Result<Swep
         grey_labels: &mut o.grey_labels,
         counts: &mut o.counts,
         sizes: &mut o.sizes,
+        found: &mut o.found,
+        grey_found: &mut o.grey_found,
         ..lent(panel, c, &mut o.spins, &mut o.totals)
     })
 }
@@ -273,11 +280,22 @@ fn start_totals(panel: &Panel, o: &mut Outputs) -> Result<(), Refusal> {
     Ok(())
 }
 
-fn print_sweep(mode: Mode, answer: Result<Swept, Refusal>, sizes: &[u32]) {
+/// How many components each task has, those of sites that do not act too, and the number of each site's in the first.
+fn print_numbers(what: &str, found: &[u32], labels: &[u32]) {
+    let all = |numbers: &[u32], between: &str| {
+        let words: Vec<String> = numbers.iter().map(|number| format!(" {number}")).collect();
+        words.join(between)
+    };
+    let (found, labels) = (all(found, ","), all(&labels[..N], ""));
+    println!("  {what}{found}; numbers of the first{labels}");
+}
+
+fn print_sweep(mode: Mode, answer: Result<Swept, Refusal>, o: &Outputs) {
     match answer {
         Err(refusal) => println!("{}: refused with {}", mode.name(), refusal.number),
         Ok(Swept { idle, moved, .. }) => {
-            let largest: Vec<String> = sizes
+            let largest: Vec<String> = o
+                .sizes
                 .chunks(4)
                 .map(|z| format!(" {} {} {} {}", z[0], z[1], z[2], z[3]))
                 .collect();
@@ -286,6 +304,10 @@ fn print_sweep(mode: Mode, answer: Result<Swept, Refusal>, sizes: &[u32]) {
                 mode.name(),
                 largest.join(",")
             );
+            print_numbers("found", &o.found, &o.labels);
+            if mode == Mode::Cmr {
+                print_numbers("grey found", &o.grey_found, &o.grey_labels);
+            }
         }
     }
 }
@@ -300,7 +322,7 @@ fn main() -> Result<(), Box<dyn Error>> {
     for mode in Mode::ALL {
         let c = make_choices(&mut source)?;
         let answer = sweep(mode, &panel, &c, &mut o);
-        print_sweep(mode, answer, &o.sizes);
+        print_sweep(mode, answer, &o);
         print_totals(&panel, &o)?;
     }
     // A fault in the last task: the first task does not move either.
@@ -308,7 +330,7 @@ fn main() -> Result<(), Box<dyn Error>> {
     c.flips[TASKS * N - 1] = 2;
     let before = o.clone();
     let answer = sweep(Mode::Pair, &panel, &c, &mut o);
-    print_sweep(Mode::Pair, answer, &o.sizes);
+    print_sweep(Mode::Pair, answer, &o);
     println!(
         "  {}",
         if before == o {

@@ -85,19 +85,24 @@ enum { TSORVENK_IDLE = 64, TSORVENK_NO_ROOM = 65 };
  *   greys        SW: n, each 0 to 3; Wolff and grow: one, 1 to 3; bit 0 flips the first replica, bit 1 the second
  *                                                                  SW, Wolff, grow of CMR
  *
- * In SW the entry at a component's label is the component's choice, and entries that no component uses are tested too.
+ * In SW a component's choice is the entry, of perms the row, at its number (CMR: flips at the blue number, greys at the grey
+ * one). Entries that no component uses are tested too.
  * Written, unless refused:
  *
- *   labels       n: the smallest site of each site's component (CMR: blue components)
+ *   labels       n: the number of each site's component (CMR: of its blue one). Components are numbered 0, 1, 2 .. in the order
+ *                of their smallest sites; a site that does not act is a component of its own and is numbered too
  *                                                                  SW, Wolff, observe
  *   grey_labels  n: the same of grey components                    SW and Wolff of CMR
- *   counts       n + 1: count k is the number of acting components of size k, count 0 is 0 (CMR: blue, all of them). A site
- *                that does not act is labelled as a component of its own and not counted
+ *   counts       n + 1: count k is the number of acting components of size k, count 0 is 0 (CMR: blue, all of them)
  *                                                                  SW, Wolff, observe
  *   sizes        4: the largest sizes of what is counted, in falling order, filled with 0
  *                                                                  SW, Wolff, observe
  *   member_sites n: 1 at the sites of the seed's component (CMR: of its grey one), else 0; idle: all 0
  *                                                                  grow
+ *   found        1: how many components there are (CMR: blue ones), one more than the largest label. Counts are of acting
+ *                components only: found is their sum and one for each site that does not act
+ *                                                                  SW, Wolff, observe
+ *   grey_found   1: how many grey ones there are                   SW and Wolff of CMR
  *   spins        the group's rows after the move; idle and observe leave them as they are
  *   totals       s, one for each system: that of a system of the group changes by its energy after the move less its
  *                energy before; those of others stay                SW, Wolff, grow where keeps is 1
@@ -111,7 +116,8 @@ uint8_t tsorvenk_step(uint8_t mode, uint8_t form, uint8_t keeps, size_t n, size_
     const uint8_t *flips, size_t flips_len, const uint8_t *perms, size_t perms_len, const uint8_t *greys, size_t greys_len,
     uint32_t *labels, size_t labels_len, uint32_t *grey_labels, size_t grey_labels_len,
     uint32_t *counts, size_t counts_len, uint32_t *sizes, size_t sizes_len,
-    uint8_t *member_sites, size_t member_sites_len);
+    uint8_t *member_sites, size_t member_sites_len,
+    uint32_t *found, size_t found_len, uint32_t *grey_found, size_t grey_found_len);
 
 /* A sweep over t temperatures of r replicas, t * r = s, in groups of N = members systems.
  *
@@ -137,6 +143,8 @@ uint8_t tsorvenk_step(uint8_t mode, uint8_t form, uint8_t keeps, size_t n, size_
  *   counts        K * (n + 1)                                      SW, Wolff, observe
  *   sizes         K * 4                                            SW, Wolff, observe
  *   member_sites  K * n                                            grow
+ *   found         K                                                SW, Wolff, observe
+ *   grey_found    K                                                SW and Wolff of CMR
  *   outcomes      2: how many unmasked tasks were idle, and how many were not, even if every choice was 0
  *   spins         the rows of the groups of unmasked tasks
  *   totals        s, as in a step                                  SW, Wolff, grow where keeps is 1
@@ -155,7 +163,9 @@ uint8_t tsorvenk_sweep(uint8_t mode, uint8_t form, uint8_t keeps, size_t n, size
     const uint8_t *flips, size_t flips_len, const uint8_t *perms, size_t perms_len, const uint8_t *greys, size_t greys_len,
     uint32_t *labels, size_t labels_len, uint32_t *grey_labels, size_t grey_labels_len,
     uint32_t *counts, size_t counts_len, uint32_t *sizes, size_t sizes_len,
-    uint8_t *member_sites, size_t member_sites_len, uint32_t *outcomes, size_t outcomes_len);
+    uint8_t *member_sites, size_t member_sites_len,
+    uint32_t *found, size_t found_len, uint32_t *grey_found, size_t grey_found_len,
+    uint32_t *outcomes, size_t outcomes_len);
 
 /* The energy of one system: minus the sum over all n * d bonds of the coupling times both spins.
  *
@@ -184,12 +194,13 @@ uint8_t tsorvenk_hand_over(size_t n, size_t d, size_t s,
  *   fwd          n * d, each below n; a backward table is not needed
  *   holds        n * d, at the bond's entry, each 0 or 1
  *   counted      n, each 0 or 1: a component counts where the byte at its smallest site is 1
- *   labels n, counts n + 1, sizes 4                                written as by a step, unless refused
+ *   labels n, counts n + 1, sizes 4, found 1                       written as by a step, unless refused; found is of all
+ *                components, those that do not count too
  *
  * Returns 0, or the refusal 1 (n or d out of range), 2, 4 (a neighbour is n or more) or 9 (a byte of holds or counted). */
 uint8_t tsorvenk_label(size_t n, size_t d, const uint32_t *fwd, size_t fwd_len, const uint8_t *holds, size_t holds_len,
     const uint8_t *counted, size_t counted_len, uint32_t *labels, size_t labels_len, uint32_t *counts, size_t counts_len,
-    uint32_t *sizes, size_t sizes_len);
+    uint32_t *sizes, size_t sizes_len, uint32_t *found, size_t found_len);
 
 /* Bytes that are room for the answer to every text of frames. */
 enum { TSORVENK_FRAMES_ROOM = 6157 };
@@ -292,6 +303,7 @@ enum { TSORVENK_EDGES_ROOM = 302451 };
  *         .spins = spins, .spins_len = s * n, .fwd = fwd, .fwd_len = n * d, .bwd = bwd, .bwd_len = n * d,
  *         .group = group, .group_len = 2, .seed = seed,
  *         .labels = labels, .labels_len = n, .counts = counts, .counts_len = n + 1, .sizes = sizes, .sizes_len = 4,
+ *         .found = &found, .found_len = 1,
  *     };
  *     uint8_t number = tsorvenk_step_with(&args);
  *
@@ -334,6 +346,10 @@ struct tsorvenk_step_args {
     size_t sizes_len;
     uint8_t *member_sites;
     size_t member_sites_len;
+    uint32_t *found;
+    size_t found_len;
+    uint32_t *grey_found;
+    size_t grey_found_len;
 };
 
 struct tsorvenk_sweep_args {
@@ -377,6 +393,10 @@ struct tsorvenk_sweep_args {
     size_t sizes_len;
     uint8_t *member_sites;
     size_t member_sites_len;
+    uint32_t *found;
+    size_t found_len;
+    uint32_t *grey_found;
+    size_t grey_found_len;
     uint32_t *outcomes;
     size_t outcomes_len;
 };
@@ -424,6 +444,8 @@ struct tsorvenk_label_args {
     size_t counts_len;
     uint32_t *sizes;
     size_t sizes_len;
+    uint32_t *found;
+    size_t found_len;
 };
 
 struct tsorvenk_draw_args {
@@ -493,7 +515,8 @@ static inline uint8_t tsorvenk_step_with(const struct tsorvenk_step_args *args) 
         TSORVENK_LENT(couplings, no_i32), TSORVENK_LENT(group, no_u32), args->temperature, TSORVENK_LENT(cuts, no_f32),
         args->reference, args->seed, TSORVENK_LENT(flips, no_u8), TSORVENK_LENT(perms, no_u8), TSORVENK_LENT(greys, no_u8),
         TSORVENK_LENT(labels, no_u32), TSORVENK_LENT(grey_labels, no_u32), TSORVENK_LENT(counts, no_u32),
-        TSORVENK_LENT(sizes, no_u32), TSORVENK_LENT(member_sites, no_u8));
+        TSORVENK_LENT(sizes, no_u32), TSORVENK_LENT(member_sites, no_u8), TSORVENK_LENT(found, no_u32),
+        TSORVENK_LENT(grey_found, no_u32));
 }
 
 static inline uint8_t tsorvenk_sweep_with(const struct tsorvenk_sweep_args *args) {
@@ -510,7 +533,7 @@ static inline uint8_t tsorvenk_sweep_with(const struct tsorvenk_sweep_args *args
         TSORVENK_LENT(seeds, no_u32), TSORVENK_LENT(flips, no_u8), TSORVENK_LENT(perms, no_u8),
         TSORVENK_LENT(greys, no_u8), TSORVENK_LENT(labels, no_u32), TSORVENK_LENT(grey_labels, no_u32),
         TSORVENK_LENT(counts, no_u32), TSORVENK_LENT(sizes, no_u32), TSORVENK_LENT(member_sites, no_u8),
-        TSORVENK_LENT(outcomes, no_u32));
+        TSORVENK_LENT(found, no_u32), TSORVENK_LENT(grey_found, no_u32), TSORVENK_LENT(outcomes, no_u32));
 }
 
 static inline uint8_t tsorvenk_energy_with(const struct tsorvenk_energy_args *args) {
@@ -536,7 +559,7 @@ static inline uint8_t tsorvenk_label_with(const struct tsorvenk_label_args *args
     uint32_t no_u32 = 0;
     return tsorvenk_label(args->n, args->d, TSORVENK_LENT(fwd, no_u32), TSORVENK_LENT(holds, no_u8),
         TSORVENK_LENT(counted, no_u8), TSORVENK_LENT(labels, no_u32), TSORVENK_LENT(counts, no_u32),
-        TSORVENK_LENT(sizes, no_u32));
+        TSORVENK_LENT(sizes, no_u32), TSORVENK_LENT(found, no_u32));
 }
 
 static inline uint8_t tsorvenk_word_with(const struct tsorvenk_draw_args *args) {

@@ -1,5 +1,6 @@
 #!/usr/bin/env python3
-"""The frame program as document 01 has it, with the counts of request 4/14, in plain Python, and texts to compare it with the proved program on.
+"""The frame program as document 01 has it, with the counts of request 4/14 and the numbers of 7/14, in plain Python, and texts to compare it with the
+proved program on.
 
     frames.py answer < TEXT            what the program must write
     frames.py stored > CASES           every kind of answer once or more, named in this file
@@ -75,7 +76,8 @@ def check(n, d, s, spins, ahead, group, perms):
 
 
 def components(n, d, ahead, acts):
-    """Each site's smallest companion: a bond joins two sites that act, in either sense."""
+    """The components, each with its sites in rising order, by number: in the order of their smallest sites. A bond joins two sites that act,
+    in either sense."""
     near = [[] for _ in range(n)]
     for i in range(n):
         for e in range(d):
@@ -83,32 +85,34 @@ def components(n, d, ahead, acts):
             if acts[i] and acts[j]:
                 near[i].append(j)
                 near[j].append(i)
-    label = [None] * n
+    seen, found = set(), []
     for i in range(n):
-        if label[i] is None:
-            label[i], todo = i, [i]
+        if i not in seen:
+            sites, todo = {i}, [i]
             while todo:
                 for j in near[todo.pop()]:
-                    if label[j] is None:
-                        label[j] = i
+                    if j not in sites:
+                        sites.add(j)
                         todo.append(j)
-    return label
+            seen |= sites
+            found.append(sorted(sites))
+    return found
 
 
 def move(n, d, s, spins, ahead, group, perms):
     old = [[1 if spins[t * n + i] == 1 else -1 for i in range(n)] for t in range(s)]
     acts = [len({old[t][i] for t in group}) > 1 for i in range(n)]
-    label = components(n, d, ahead, acts)
-    counts = [0] * (n + 1)
-    for i in range(n):
-        if label[i] == i and acts[i]:
-            counts[label.count(i)] += 1
+    label, counts = [None] * n, [0] * (n + 1)
     new = [row[:] for row in old]
-    for i in range(n):
-        if acts[i]:
-            p = perms[label[i] * len(group):(label[i] + 1) * len(group)]
+    for number, sites in enumerate(components(n, d, ahead, acts)):
+        p = perms[number * len(group):(number + 1) * len(group)]
+        if acts[sites[0]]:
+            counts[len(sites)] += 1
+        for i in sites:
+            label[i] = number
             for k, t in enumerate(group):
-                new[t][i] = old[group[p[k]]][i]
+                if acts[i]:
+                    new[t][i] = old[group[p[k]]][i]
     return label, counts, new
 
 
@@ -313,7 +317,9 @@ def stored():
     yield "one site in four directions, eight systems", spell(1, 4, 8, [1, 255] * 4, [0] * 4, range(8), [7, 6, 5, 4, 3, 2, 1, 0]), None
     yield "only a bond back", spell(3, 1, 2, [1, 1, 1, 255, 1, 255], [1, 2, 0], [0, 1], [1, 0, 0, 1, 0, 1]), None
     yield "single sites move", spell(2, 1, 2, [1, 1, 255, 255], [0, 1], [0, 1], [1, 0, 0, 1]), None
-    yield "the choice stands at the label", spell(3, 1, 2, [1, 1, 1, 1, 255, 255], [1, 2, 0], [0, 1], [0, 1, 1, 0, 0, 1]), None
+    yield "the choice stands at the number", spell(3, 1, 2, [1, 1, 1, 1, 255, 255], [1, 2, 0], [0, 1], [0, 1, 1, 0, 0, 1]), None
+    behind = spell(3, 1, 2, [1, 1, 1, 255, 255, 255], [1, 0, 2], [0, 1], [0, 1, 1, 0, 0, 1])
+    yield "behind two sites a number is not its site", behind, b"20000000000001\n210000000100010000\n220101ffffff01\n"
     yield "the way round of a permutation", spell(1, 1, 3, [1, 255, 255], [0], [0, 1, 2], [2, 0, 1]), None
     yield "a group in another order", spell(2, 1, 4, [1, 255, 255, 255, 1, 1, 255, 1], [1, 0], [3, 1, 2], [1, 2, 0, 2, 0, 1]), None
     yield "a torus", spell(16, 2, 3, tenth(16, 3), torus(4, 2), [2, 0, 1], rotations(16, 3)), None

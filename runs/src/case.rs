@@ -12,6 +12,8 @@ pub struct Lent {
     pub counts: Vec<u32>,
     pub sizes: Vec<u32>,
     pub member_sites: Vec<u8>,
+    pub found: Vec<u32>,
+    pub grey_found: Vec<u32>,
 }
 
 impl Lent {
@@ -26,6 +28,8 @@ impl Lent {
             counts: output(exact.counts),
             sizes: output(exact.sizes),
             member_sites: vec![byte; exact.member_sites.unwrap_or(0)],
+            found: output(exact.found),
+            grey_found: output(exact.grey_found),
         }
     }
 }
@@ -134,6 +138,7 @@ impl Bonds {
             labels: &mut lent.labels,
             counts: &mut lent.counts,
             sizes: &mut lent.sizes,
+            found: &mut lent.found,
         });
         (code, lent)
     }
@@ -163,6 +168,8 @@ macro_rules! call_of {
             counts: &mut $lent.counts,
             sizes: &mut $lent.sizes,
             member_sites: &mut $lent.member_sites,
+            found: &mut $lent.found,
+            grey_found: &mut $lent.grey_found,
             $($field: $value,)*
         }
     };

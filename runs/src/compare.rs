@@ -68,6 +68,8 @@ fn differ_untotalled(text: &mut String, model: &Lent, other: &Lent) {
     differ(text, "counts", &model.counts, &other.counts);
     differ(text, "sizes", &model.sizes, &other.sizes);
     differ(text, "members", &model.member_sites, &other.member_sites);
+    differ(text, "found", &model.found, &other.found);
+    differ(text, "grey found", &model.grey_found, &other.grey_found);
 }
 
 /// Runs the published Rust; a panic is a difference too.

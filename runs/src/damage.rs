@@ -74,7 +74,7 @@ fn totals(rand: &mut Rand, totals: &mut [i64]) {
 }
 
 fn outputs(rand: &mut Rand, lent: &mut Lent) {
-    match rand.range(0, 9) {
+    match rand.range(0, 11) {
         6 => longer_or_shorter(rand, &mut lent.totals),
         7..=9 => totals(rand, &mut lent.totals),
         0 => longer_or_shorter(rand, &mut lent.spins),
@@ -82,6 +82,8 @@ fn outputs(rand: &mut Rand, lent: &mut Lent) {
         2 => longer_or_shorter(rand, &mut lent.grey_labels),
         3 => longer_or_shorter(rand, &mut lent.counts),
         4 => longer_or_shorter(rand, &mut lent.sizes),
+        10 => longer_or_shorter(rand, &mut lent.found),
+        11 => longer_or_shorter(rand, &mut lent.grey_found),
         _ => longer_or_shorter(rand, &mut lent.member_sites),
     }
 }
@@ -191,7 +193,7 @@ pub fn swept(rand: &mut Rand, case: &mut Swept) {
 
 pub fn bonds(rand: &mut Rand, case: &mut Bonds) {
     for _ in 0..rand.pick(&[1, 1, 2, 3]) {
-        match rand.range(0, 11) {
+        match rand.range(0, 12) {
             0 => size(rand, &mut case.n, 4096),
             1 => size(rand, &mut case.d, 4),
             2 => longer_or_shorter(rand, &mut case.fwd),
@@ -202,6 +204,7 @@ pub fn bonds(rand: &mut Rand, case: &mut Bonds) {
             7 => longer_or_shorter(rand, &mut case.lent.sizes),
             8 => set(rand, &mut case.fwd, &[case.n as u32, u32::MAX, 0]),
             9 => set(rand, &mut case.holds, &[2, 255, 128, 1]),
+            10 => longer_or_shorter(rand, &mut case.lent.found),
             _ => set(rand, &mut case.counted, &[2, 255, 128, 1]),
         }
     }

@@ -155,6 +155,8 @@ fn outputs(rand: &mut Rand, exact: Lengths, n: usize, spins: Vec<i8>) -> Lent {
         counts: output(rand, exact.counts, n, UNTOUCHED),
         sizes: output(rand, exact.sizes, 3, UNTOUCHED),
         member_sites: output(rand, exact.member_sites, n, UNTOUCHED_BYTE),
+        found: output(rand, exact.found, 1, UNTOUCHED),
+        grey_found: output(rand, exact.grey_found, 1, UNTOUCHED),
     }
 }
 
@@ -371,6 +373,7 @@ pub fn bonds(rand: &mut Rand, panel: &Panel) -> Bonds {
             labels: vec![UNTOUCHED; n],
             counts: vec![UNTOUCHED; n + 1],
             sizes: vec![UNTOUCHED; 4],
+            found: vec![UNTOUCHED],
             ..Lent::default()
         },
     }

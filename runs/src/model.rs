@@ -1,5 +1,5 @@
 //! Document 01 in plain Rust, written from its text and not from overlap.rs: every sentence once, no speed. Counts and sizes are those of
-//! request 4/14, the form that grows is that of request 5/14, and the totals are those of 6/14.
+//! request 4/14, the form that grows is that of request 5/14, the totals are those of 6/14, and the components are numbered as in 7/14.
 use crate::case;
 use calls::{Answer, HandOver, Label, Meter, MeterAnswer, Port, Step, Sweep, SweepAnswer};
 use calls::{Form, Mode};
@@ -28,7 +28,7 @@ mod sweeps;
 mod totals;
 
 use bonds::acts;
-use components::{counts, four_largest, labels};
+use components::Components;
 use grow::{grown, Grown};
 use moves::{outcome, Outcome};
 use refusals::*;
@@ -86,6 +86,8 @@ pub fn active_in_task(call: &Sweep, number: usize) -> Vec<bool> {
         counts: &mut [],
         sizes: &mut [],
         member_sites: &mut [],
+        found: &mut [],
+        grey_found: &mut [],
         ..*call
     };
     let (panel, task) = (panel_of!(unseeded), sweep_task(&unseeded, number));
@@ -126,6 +128,8 @@ fn single_length_refused(call: &Step) -> bool {
         || differs(exact.counts, call.counts.len())
         || differs(exact.sizes, call.sizes.len())
         || differs(exact.member_sites, call.member_sites.len())
+        || differs(exact.found, call.found.len())
+        || differs(exact.grey_found, call.grey_found.len())
 }
 
 fn single_refusal(call: &Step) -> Option<u8> {
@@ -153,17 +157,21 @@ struct Areas<'a> {
     counts: &'a mut [u32],
     sizes: &'a mut [u32],
     member_sites: &'a mut [u8],
+    found: &'a mut [u32],
+    grey_found: &'a mut [u32],
 }
 
-fn write_labels(to: &mut [u32], labels: &[usize]) {
-    for (to, &label) in to.iter_mut().zip(labels) {
+/// Numbers by site, and how many there are.
+fn write_numbers(labels: &mut [u32], found: &mut [u32], of: &Components) {
+    for (to, &label) in labels.iter_mut().zip(&of.labels) {
         *to = label as u32;
     }
+    found.copy_from_slice(&[of.found() as u32]);
 }
 
-fn write_sizes(to_counts: &mut [u32], to_sizes: &mut [u32], labels: &[usize], counted: &[bool]) {
-    to_counts.copy_from_slice(&counts(labels, counted));
-    to_sizes.copy_from_slice(&four_largest(labels, counted));
+fn write_sizes(to_counts: &mut [u32], to_sizes: &mut [u32], of: &Components, counted: &[bool]) {
+    to_counts.copy_from_slice(&of.counts(counted));
+    to_sizes.copy_from_slice(&of.four_largest(counted));
 }
 
 /// What one task does.
@@ -197,11 +205,11 @@ impl Done {
     fn write(&self, to: Areas) {
         match self {
             Done::Labelled(done) => {
-                write_labels(to.labels, &done.labels);
-                if let Some(grey) = &done.grey_labels {
-                    write_labels(to.grey_labels, grey);
+                write_numbers(to.labels, to.found, &done.first);
+                if let Some(grey) = &done.grey {
+                    write_numbers(to.grey_labels, to.grey_found, grey);
                 }
-                write_sizes(to.counts, to.sizes, &done.labels, &done.acting);
+                write_sizes(to.counts, to.sizes, &done.first, &done.acting);
             }
             Done::Grown(done) => {
                 for (to, &member) in to.member_sites.iter_mut().zip(&done.members) {
@@ -231,6 +239,7 @@ fn label_refusal(call: &Label) -> Option<u8> {
         || call.labels.len() != n
         || call.counts.len() != n + 1
         || call.sizes.len() != 4
+        || call.found.len() != 1
     {
         Some(2)
     } else if call.fwd.iter().any(|&site| site as usize >= n) {
@@ -274,6 +283,8 @@ impl Port for Model {
             counts: call.counts,
             sizes: call.sizes,
             member_sites: call.member_sites,
+            found: call.found,
+            grey_found: call.grey_found,
         });
         match done.idle() {
             true => Answer::Idle,
@@ -300,6 +311,8 @@ impl Port for Model {
                 counts: area(each.counts, call.counts, number),
                 sizes: area(each.sizes, call.sizes, number),
                 member_sites: area(each.member_sites, call.member_sites, number),
+                found: area(each.found, call.found, number),
+                grey_found: area(each.grey_found, call.grey_found, number),
             });
             match done.idle() {
                 true => idle += 1,
@@ -323,9 +336,9 @@ impl Port for Model {
             return number;
         }
         let ones = |bytes: &[u8]| -> Vec<bool> { bytes.iter().map(|&byte| byte == 1).collect() };
-        let found = labels(call.n, call.d, call.fwd, &ones(call.holds));
-        write_labels(call.labels, &found);
-        write_sizes(call.counts, call.sizes, &found, &ones(call.counted));
+        let all = Components::new(call.n, call.d, call.fwd, &ones(call.holds));
+        write_numbers(call.labels, call.found, &all);
+        write_sizes(call.counts, call.sizes, &all, &ones(call.counted));
         0
     }
 }

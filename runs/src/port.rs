@@ -68,6 +68,8 @@ mod linked {
                 counts: $from.counts,
                 sizes: $from.sizes,
                 member_sites: $from.member_sites,
+                found: $from.found,
+                grey_found: $from.grey_found,
                 $($field: $from.$field,)*
             }
         };
@@ -151,6 +153,7 @@ mod linked {
                 labels: call.labels,
                 counts: call.counts,
                 sizes: call.sizes,
+                found: call.found,
             }))
         }
     }

@@ -31,11 +31,16 @@
 //! greys       K*n or K     cmr: SW or Wolff
 //! idle, moved 1 each       the tasks that answer so; a single move has one task
 //! spins       S*n          after the call, like all that follows
-//! labels      K*n * 2
+//! labels      K*n * 2      the components' numbers
 //! grey labels K*n * 2      cmr, SW and Wolff
 //! counts      K*(n+1) * 2  of acting components, as the sizes are; the Rust's own have the sites that do not act in count 1
 //! sizes       K*4 * 2
+//! found       K * 2        how many components each task has, those that do not act too
+//! grey found  K * 2        cmr, SW and Wolff
 //! ```
+//!
+//! In SW the entry r of a task's flips, perms or greys is the choice of its component number r, greys of the grey one;
+//! entries past the last number are not used.
 //!
 //! A masked task's choices are faulty (its cuts are 0) and its outputs `ffff`: fill all outputs with 65535 before the
 //! call and compare all of them after it. n, S and N are at most 8, n*D at most 12, D, K and t at most 4.
@@ -171,6 +176,8 @@ pub fn write(entry: &Entry) -> String {
         &entry.after.grey_labels,
         &entry.after.counts,
         &entry.after.sizes,
+        &entry.after.found,
+        &entry.after.grey_found,
     ] {
         out.numbers(output.iter().copied(), 2);
     }
@@ -227,6 +234,8 @@ impl<'a> Reader<'a> {
             counts: self.numbers(exact.counts.unwrap_or(0), 2),
             sizes: self.numbers(exact.sizes.unwrap_or(0), 2),
             member_sites: Vec::new(),
+            found: self.numbers(exact.found.unwrap_or(0), 2),
+            grey_found: self.numbers(exact.grey_found.unwrap_or(0), 2),
         }
     }
 

@@ -132,6 +132,8 @@ fn odd_outputs(case: &mut Single, length: usize) {
     case.lent.grey_labels = vec![7; length];
     case.lent.counts = vec![7; length];
     case.lent.sizes = vec![7; length];
+    case.lent.found = vec![7; length];
+    case.lent.grey_found = vec![7; length];
 }
 
 #[test]
@@ -150,8 +152,15 @@ fn what_is_not_taken_is_left_alone() {
         for length in [0, 3, 4, 5] {
             let mut case = taken(Grow);
             odd_outputs(&mut case, length);
-            let Lent { labels, counts, .. } = after(mode, Grow, case.clone());
-            assert_eq!((labels, counts), (vec![7; length], vec![7; length]));
+            let Lent {
+                labels,
+                counts,
+                found,
+                ..
+            } = after(mode, Grow, case.clone());
+            for output in [labels, counts, found] {
+                assert_eq!(output, vec![7; length]);
+            }
         }
         for form in [Sw, Wolff, Observe] {
             for length in [0, 2, 3, 4] {

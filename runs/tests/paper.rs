@@ -109,11 +109,11 @@ fn single_sites_move_in_perm_only() {
 }
 
 #[test]
-fn labels_are_smallest_sites_both_ways() {
+fn labels_go_by_smallest_sites_both_ways() {
     let ring = call(Perm, Observe, R3, &["+++", "-+-"]);
     labelled(&ring, &[0, 1, 0], &[0, 0, 1, 0], [2, 0, 0, 0]);
     let late = call(Perm, Observe, &[3, 2, 0, 1], &["++++", "---+"]);
-    labelled(&late, &[0, 0, 0, 3], &[0, 0, 0, 1, 0], [3, 0, 0, 0]);
+    labelled(&late, &[0, 0, 0, 1], &[0, 0, 0, 1, 0], [3, 0, 0, 0]);
     labels(
         &call(Perm, Observe, &[2, 0, 1], &["+++", "+--"]),
         &[0, 1, 1],
@@ -124,7 +124,7 @@ fn labels_are_smallest_sites_both_ways() {
     labelled(&idle, &[0], &[0, 0], [0; 4]);
 }
 
-/// 4/14: what does not act is labelled as before, and not counted.
+/// 4/14: what does not act is labelled, and not counted.
 #[test]
 fn acting_components_are_counted() {
     for mode in [Houd, Pair, Perm, Jorg] {
@@ -144,7 +144,7 @@ fn acting_components_are_counted() {
     labelled(&cmr(&["++", "++"]), &[0, 1], &[0, 2, 0], [1, 1, 0, 0]);
     // in one call: a pair that acts, a single that acts, and two sites that do not
     let mixed = call(Pair, Observe, &[1, 0, 2, 3, 4], &["+++++", "--++-"]);
-    labelled(&mixed, &[0, 0, 2, 3, 4], &[0, 1, 1, 0, 0, 0], [2, 1, 0, 0]);
+    labelled(&mixed, &[0, 0, 1, 2, 3], &[0, 1, 1, 0, 0, 0], [2, 1, 0, 0]);
 }
 
 /// "Two or more sites" is of a component's sites, not of what is counted: here one pair acts and moves, and no single is counted.
@@ -154,7 +154,7 @@ fn flips_go_by_component_sizes() {
     let lent = moved(&pair, &["--+", "+++"]);
     assert_eq!(
         (lent.labels, lent.counts, lent.sizes),
-        (vec![0, 0, 2], vec![0, 0, 1, 0], vec![2, 0, 0, 0])
+        (vec![0, 0, 1], vec![0, 0, 1, 0], vec![2, 0, 0, 0])
     );
     let single = flips(call(Pair, Sw, R3, &["+++", "-++"]), &[1, 1, 1]);
     let lent = moved(&single, &["+++", "-++"]);
@@ -177,12 +177,13 @@ fn labelled_components_are_counted_by_their_smallest_sites() {
             labels: vec![9; 3],
             counts: vec![9; 4],
             sizes: vec![9; 4],
+            found: vec![9],
             ..Lent::default()
         },
     };
     let counted = |bytes: &[u8], counts: &[u32], sizes: [u32; 4]| {
         let (code, lent) = run_bonds(&two(bytes));
-        assert_eq!((code, lent.labels), (0, vec![0, 1, 1]));
+        assert_eq!((code, lent.labels, lent.found), (0, vec![0, 1, 1], vec![2]));
         assert_eq!((lent.counts, lent.sizes), (counts.to_vec(), sizes.to_vec()));
     };
     counted(&[1, 1, 1], &[0, 1, 1, 0], [2, 1, 0, 0]);
@@ -197,7 +198,7 @@ fn labelled_components_are_counted_by_their_smallest_sites() {
 }
 
 #[test]
-fn choices_stand_at_labels() {
+fn choices_stand_at_numbers() {
     let ring = call(Perm, Sw, R3, &["+++", "+--"]);
     moved(&perms(ring, &[0, 1, 1, 0, 0, 1]), &["+--", "+++"]);
     let apart = call(Perm, Sw, I2, &["++", "--"]);
@@ -272,7 +273,7 @@ fn cmr_colours() {
     );
     assert_eq!(
         (lent.labels, lent.grey_labels),
-        (vec![0, 0, 2], vec![0, 0, 2])
+        (vec![0, 0, 1], vec![0, 0, 1])
     );
     let one = call(Cmr, Wolff, L1, &["+", "+"]);
     moved(&greys(one.clone(), &[3]), &["+", "+"]);

@@ -95,6 +95,7 @@ fn masked_tasks_are_left_alone() {
     assert_eq!(lent.labels, [9, 0]);
     assert_eq!(lent.counts, [9, 9, 0, 1]);
     assert_eq!(lent.sizes, [9, 9, 9, 9, 1, 0, 0, 0]);
+    assert_eq!(lent.found, [9, 1]);
     assert_eq!(lent.spins, spins(&["+", "-", "-", "+"]));
     case.temperatures[0] = f32::NAN;
     sweep_refused(&case, 7);

@@ -78,8 +78,9 @@ impl Keeps {
 
 /// One move or observation of one group, of N = `group.len()` systems.
 ///
-/// Behind each field stands its exact length, and which modes and forms take it if not all do. In SW the entry at a
-/// component's label is the component's choice, and entries that no component uses are tested too.
+/// Behind each field stands its exact length, and which modes and forms take it if not all do. In SW a component's choice is
+/// the entry, of `perms` the row, at its number (CMR: `flips` at the blue number, `greys` at the grey one), and entries that no
+/// component uses are tested too.
 #[derive(Debug, Default)]
 pub struct Step<'a> {
     /// Houd if left out.
@@ -124,17 +125,23 @@ pub struct Step<'a> {
     /// SW: n, each 0 to 3; Wolff and grow: one, 1 to 3. Bit 0 flips the first replica, bit 1 the second. SW, Wolff and grow
     /// of CMR.
     pub greys: &'a [u8],
-    /// n. Written: the smallest site of each site's component (CMR: blue components). All forms but grow.
+    /// n. Written: the number of each site's component (CMR: of its blue one). Components are numbered 0, 1, 2 .. in the order
+    /// of their smallest sites; a site that does not act is a component of its own and is numbered too. All forms but grow.
     pub labels: &'a mut [u32],
     /// n. Written: the same of grey components. SW and Wolff of CMR.
     pub grey_labels: &'a mut [u32],
-    /// n + 1. Written: count k is the number of acting components of size k, count 0 is 0 (CMR: blue, all of them). A site that
-    /// does not act is labelled as a component of its own and not counted. All forms but grow.
+    /// n + 1. Written: count k is the number of acting components of size k, count 0 is 0 (CMR: blue, all of them). All forms
+    /// but grow.
     pub counts: &'a mut [u32],
     /// 4. Written: the largest sizes of what is counted, in falling order, filled with 0. All forms but grow.
     pub sizes: &'a mut [u32],
     /// n. Written: 1 at the sites of the seed's component (CMR: of its grey one), else 0; idle: all 0. Grow.
     pub member_sites: &'a mut [u8],
+    /// 1. Written: how many components there are (CMR: blue ones), one more than the largest label. Counts are of acting
+    /// components only: this is their sum and one for each site that does not act. All forms but grow.
+    pub found: &'a mut [u32],
+    /// 1. Written: how many grey ones there are. SW and Wolff of CMR.
+    pub grey_found: &'a mut [u32],
 }
 
 /// A sweep over t temperatures of r replicas, t * r = s, in groups of N = `members` systems.
@@ -201,6 +208,10 @@ pub struct Sweep<'a> {
     pub sizes: &'a mut [u32],
     /// K * n. Written. Grow.
     pub member_sites: &'a mut [u8],
+    /// K. Written. All forms but grow.
+    pub found: &'a mut [u32],
+    /// K. Written. SW and Wolff of CMR.
+    pub grey_found: &'a mut [u32],
 }
 
 /// The energy of one system: every field is taken.
@@ -279,12 +290,14 @@ pub struct Label<'a> {
     pub holds: &'a [u8],
     /// n, each 0 or 1: a component counts where the byte at its smallest site is 1.
     pub counted: &'a [u8],
-    /// n. Written: the smallest site of each site's component.
+    /// n. Written: the number of each site's component, 0, 1, 2 .. in the order of their smallest sites.
     pub labels: &'a mut [u32],
     /// n + 1. Written: count k is the number of components of size k that count, count 0 is 0.
     pub counts: &'a mut [u32],
     /// 4. Written: the largest sizes of what is counted, in falling order, filled with 0.
     pub sizes: &'a mut [u32],
+    /// 1. Written: how many components there are, those that do not count too.
+    pub found: &'a mut [u32],
 }
 
 /// Couplings from an edge list, as docs/EDGES.md has it: every field is taken.

@@ -11,6 +11,7 @@ extern "C" {
         labels: *mut u32, labels_len: usize, grey_labels: *mut u32, grey_labels_len: usize,
         counts: *mut u32, counts_len: usize, sizes: *mut u32, sizes_len: usize,
         member_sites: *mut u8, member_sites_len: usize,
+        found: *mut u32, found_len: usize, grey_found: *mut u32, grey_found_len: usize,
     ) -> u8;
     pub fn tsorvenk_sweep(
         mode: u8, form: u8, keeps: u8, n: usize, d: usize, s: usize, t: usize, r: usize, members: usize,
@@ -24,6 +25,7 @@ extern "C" {
         labels: *mut u32, labels_len: usize, grey_labels: *mut u32, grey_labels_len: usize,
         counts: *mut u32, counts_len: usize, sizes: *mut u32, sizes_len: usize,
         member_sites: *mut u8, member_sites_len: usize,
+        found: *mut u32, found_len: usize, grey_found: *mut u32, grey_found_len: usize,
         outcomes: *mut u32, outcomes_len: usize,
     ) -> u8;
     pub fn tsorvenk_energy(
@@ -40,6 +42,7 @@ extern "C" {
         n: usize, d: usize, fwd: *const u32, fwd_len: usize, holds: *const u8, holds_len: usize,
         counted: *const u8, counted_len: usize,
         labels: *mut u32, labels_len: usize, counts: *mut u32, counts_len: usize, sizes: *mut u32, sizes_len: usize,
+        found: *mut u32, found_len: usize,
     ) -> u8;
     pub fn tsorvenk_frames(
         text: *const u8, text_len: usize, out: *mut u8, out_len: usize, written: *mut usize, written_len: usize,

@@ -16,7 +16,7 @@
 //!
 //! // two sites, each the other's neighbour, and two systems that differ at both
 //! let mut spins = [1, 1, -1, -1];
-//! let (mut labels, mut counts, mut sizes) = ([0; 2], [0; 3], [0; 4]);
+//! let (mut labels, mut counts, mut sizes, mut found) = ([0; 2], [0; 3], [0; 4], [0]);
 //! let mut move_from = |seed| {
 //!     step(Step {
 //!         mode: Mode::Pair,
@@ -32,13 +32,15 @@
 //!         labels: &mut labels,
 //!         counts: &mut counts,
 //!         sizes: &mut sizes,
+//!         found: &mut found,
 //!         ..Default::default()
 //!     })
 //! };
 //! assert_eq!(move_from(0), Ok(Stepped::Moved));
 //! assert_eq!(move_from(2), Err(Refusal { number: 10 }));
 //! assert_eq!(spins, [-1, -1, 1, 1]);
-//! assert_eq!((labels, counts, sizes), ([0, 0], [0, 0, 1], [2, 0, 0, 0]));
+//! assert_eq!((labels, found), ([0, 0], [1]));
+//! assert_eq!((counts, sizes), ([0, 0, 1], [2, 0, 0, 0]));
 //! ```
 //!
 //! The build links `libtsorvenk.a` where `build-library` at the top of the repository leaves it, or where the environment

@@ -46,6 +46,7 @@ pub fn step(call: Step) -> Result<Stepped, Refusal> {
             call.labels.as_mut_ptr(), call.labels.len(), call.grey_labels.as_mut_ptr(), call.grey_labels.len(),
             call.counts.as_mut_ptr(), call.counts.len(), call.sizes.as_mut_ptr(), call.sizes.len(),
             call.member_sites.as_mut_ptr(), call.member_sites.len(),
+            call.found.as_mut_ptr(), call.found.len(), call.grey_found.as_mut_ptr(), call.grey_found.len(),
         )
     };
     match number {
@@ -62,7 +63,7 @@ pub fn step(call: Step) -> Result<Stepped, Refusal> {
 ///
 /// // one site that is its own neighbour, four systems at one temperature, in pairs: (+, -) acts and (+, +) does not
 /// let mut spins = [1, -1, 1, 1];
-/// let (mut labels, mut counts, mut sizes) = ([0; 2], [0; 4], [0; 8]);
+/// let (mut labels, mut counts, mut sizes, mut found) = ([0; 2], [0; 4], [0; 8], [0; 2]);
 /// let swept = sweep(Sweep {
 ///     mode: Mode::Pair,
 ///     form: Form::Wolff,
@@ -81,10 +82,12 @@ pub fn step(call: Step) -> Result<Stepped, Refusal> {
 ///     labels: &mut labels,
 ///     counts: &mut counts,
 ///     sizes: &mut sizes,
+///     found: &mut found,
 ///     ..Default::default()
 /// })?;
 /// assert_eq!((swept.idle, swept.moved), (1, 1));
 /// assert_eq!(spins, [-1, 1, 1, 1]);
+/// assert_eq!((found, counts), ([1, 1], [0, 1, 0, 0]), "what does not act is found and not counted");
 /// # Ok::<(), tsorvenk::Refusal>(())
 /// ```
 #[inline]
@@ -105,6 +108,7 @@ pub fn sweep(call: Sweep) -> Result<Swept, Refusal> {
             call.labels.as_mut_ptr(), call.labels.len(), call.grey_labels.as_mut_ptr(), call.grey_labels.len(),
             call.counts.as_mut_ptr(), call.counts.len(), call.sizes.as_mut_ptr(), call.sizes.len(),
             call.member_sites.as_mut_ptr(), call.member_sites.len(),
+            call.found.as_mut_ptr(), call.found.len(), call.grey_found.as_mut_ptr(), call.grey_found.len(),
             outcomes.as_mut_ptr(), outcomes.len(),
         )
     };
@@ -224,21 +228,22 @@ pub fn hand_over(call: HandOver) -> Result<(), Refusal> {
 /// ```
 /// use tsorvenk::{label, Label};
 ///
-/// // a ring of four, broken in two places; the first site does not count
-/// let (mut labels, mut counts, mut sizes) = ([0; 4], [0; 5], [0; 4]);
+/// // a ring of four, broken in two places; the component of the first two sites does not count
+/// let (mut labels, mut counts, mut sizes, mut found) = ([0; 4], [0; 5], [0; 4], [0]);
 /// label(Label {
 ///     n: 4,
 ///     d: 1,
 ///     fwd: &[1, 2, 3, 0],
-///     holds: &[0, 1, 1, 0],
+///     holds: &[1, 0, 1, 0],
 ///     counted: &[0, 1, 1, 1],
 ///     labels: &mut labels,
 ///     counts: &mut counts,
 ///     sizes: &mut sizes,
+///     found: &mut found,
 /// })?;
-/// assert_eq!(labels, [0, 1, 1, 1]);
-/// assert_eq!(counts, [0, 0, 0, 1, 0]);
-/// assert_eq!(sizes, [3, 0, 0, 0]);
+/// assert_eq!((labels, found), ([0, 0, 1, 1], [2]));
+/// assert_eq!(counts, [0, 0, 1, 0, 0]);
+/// assert_eq!(sizes, [2, 0, 0, 0]);
 /// # Ok::<(), tsorvenk::Refusal>(())
 /// ```
 #[inline]
@@ -249,7 +254,7 @@ pub fn label(call: Label) -> Result<(), Refusal> {
             call.n, call.d, call.fwd.as_ptr(), call.fwd.len(), call.holds.as_ptr(), call.holds.len(),
             call.counted.as_ptr(), call.counted.len(),
             call.labels.as_mut_ptr(), call.labels.len(), call.counts.as_mut_ptr(), call.counts.len(),
-            call.sizes.as_mut_ptr(), call.sizes.len(),
+            call.sizes.as_mut_ptr(), call.sizes.len(), call.found.as_mut_ptr(), call.found.len(),
         )
     };
     match number {

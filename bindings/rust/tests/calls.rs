@@ -19,6 +19,7 @@ fn one_site(mode: Mode, form: Form, lent: &mut Lent) -> Step<'_> {
         counts: &mut lent.counts,
         sizes: &mut lent.sizes,
         member_sites: &mut lent.member_sites,
+        found: &mut lent.found,
         ..Default::default()
     }
 }
@@ -30,6 +31,7 @@ struct Lent {
     counts: [u32; 2],
     sizes: [u32; 4],
     member_sites: [u8; 1],
+    found: [u32; 1],
 }
 
 const LENT: Lent = Lent {
@@ -38,6 +40,7 @@ const LENT: Lent = Lent {
     counts: [9; 2],
     sizes: [9; 4],
     member_sites: [9],
+    found: [9],
 };
 
 const WRITTEN: Lent = Lent {
@@ -46,6 +49,7 @@ const WRITTEN: Lent = Lent {
     counts: [0, 1],
     sizes: [1, 0, 0, 0],
     member_sites: [9],
+    found: [1],
 };
 
 #[test]
@@ -74,7 +78,8 @@ fn what_is_not_taken_may_be_left_out() {
     );
 }
 
-/// The form that grows takes no labels, counts and sizes, and the others no member sites: whatever is lent is kept.
+/// The form that grows takes no labels, counts, sizes and number of components, and the others no member sites: whatever is
+/// lent is kept.
 #[test]
 fn a_form_leaves_the_outputs_of_others() {
     let mut lent = LENT;
@@ -90,6 +95,7 @@ fn a_form_leaves_the_outputs_of_others() {
         labels: &mut [],
         counts: &mut [],
         sizes: &mut [],
+        found: &mut [],
         ..one_site(Mode::Gperm, Form::Grow, &mut lent)
     };
     let turned = Step {

@@ -13,7 +13,7 @@ use Rattle.paper.specs.Panel.Input.{graph, Call, Choices, Buffers, spin, size, 
 use Rattle.paper.specs.Panel.Takes.{labelsBy}
 use Rattle.paper.specs.Site.Acting.{acts, SomeActs, NoneActs}
 use Rattle.paper.specs.Site.Bonds.{holds}
-use Rattle.paper.specs.Component.Labels.{Labels}
+use Rattle.paper.specs.Component.Labels.{Numbered}
 use Rattle.paper.specs.Component.Sizes.{Counted, Largest}
 use Rattle.paper.specs.Move.Moving.{final}
 use Rattle.paper.specs.Refusal.Rules.{Spin, AllSystems, Spins, Exact, Chosen, Seeded}
@@ -24,7 +24,7 @@ use Rattle.laws.specs.Unique.{Outside}
 use Rattle.laws.specs.MovesExist.{write, moves-exist}
 use Rattle.demand3.specs.Statement.{Reversible, Move, Outcome}
 use Rattle.demand3.specs.Step.{Step, step, seen-of, valid-move}
-use Rattle.demand3.specs.Turns.{spins-kept, acts-kept, labels-kept, counts-kept, sizes-kept}
+use Rattle.demand3.specs.Turns.{spins-kept, acts-kept, numbered-kept, counts-kept, sizes-kept}
 use Rattle.demand3.specs.ChoicesFit.{Sized, no-greys}
 use Rattle.demand3.specs.Such.{outcome}
 
@@ -63,11 +63,20 @@ some-or-none f (suc m) = go (f m) refl (some-or-none f m)
 
 module _
     {c : Call} {r : Choices} {d : Buffers} (v : Reversible (c .mode) (size c)) (f : labelsBy (c .form) ≡ true) (k : Valid c r d)
-    (l counts sizes : List ℕ)
-    (labels : Labels (graph c) (holds c (d .spins)) l) (tally : Counted (acts c (d .spins)) l counts) (four : Largest (acts c (d .spins)) l sizes)
+    (l found counts sizes : List ℕ)
+    (labels : Numbered (graph c) (holds c (d .spins)) l found) (tally : Counted (acts c (d .spins)) l counts) (four : Largest (acts c (d .spins)) l sizes)
   where
     left : List ℤ → Buffers
-    left ys = record { spins = ys; labels = l; greyLabels = d .greyLabels; counts = counts; sizes = sizes; members = d .members }
+    left ys = record {
+      spins = ys;
+      labels = l;
+      greyLabels = d .greyLabels;
+      counts = counts;
+      sizes = sizes;
+      members = d .members;
+      found = found;
+      greyFound = d .greyFound;
+    }
 
     seen : (ys : List ℤ) → Seen c d (left ys)
     unfolding left
@@ -76,6 +85,7 @@ module _
         labels = labels;
         grey-labels = λ t. never (sym (no-greys c v) ∙ t);
         grey-kept = λ _. refl;
+        grey-found-kept = λ _. refl;
         counts = tally;
         sizes = four;
         members-kept = refl;
@@ -108,7 +118,7 @@ module _
     fit = valid-move m .fit
 
     pub instead : {q : Choices} → Exact c q b → Chosen c q → Outcome c q b
-    instead {q} e h = outcome-of v f valid (b′ .labels) (b′ .counts) (b′ .sizes) (seen-of f m .labels) (seen-of f m .counts) (seen-of f m .sizes)
+    instead {q} e h = outcome-of v f valid (b′ .labels) (b′ .found) (b′ .counts) (b′ .sizes) (seen-of f m .labels) (seen-of f m .counts) (seen-of f m .sizes)
       where
         valid : Valid c q b
         valid = record {
@@ -126,7 +136,7 @@ module _
 
     pub next : {q : Choices} {d : Buffers} → d .spins ≡ b′ .spins → Exact c q d → Chosen c q → Outcome c q d
     next {q} {d} same e h =
-        outcome-of v f valid (b′ .labels) (b′ .counts) (b′ .sizes) (rw same (labels-kept (step v f m) f))
+        outcome-of v f valid (b′ .labels) (b′ .found) (b′ .counts) (b′ .sizes) (rw same (numbered-kept (step v f m) (seen-of f m .labels)))
         (rw same (counts-kept (step v f m) f (seen-of f m .counts))) (rw same (sizes-kept (step v f m) f (seen-of f m .sizes)))
       where
         valid : Valid c q d
@@ -158,6 +168,8 @@ module _
       counts = e .counts;
       sizes = e .sizes;
       members = e .members;
+      found = e .found;
+      grey-found = e .grey-found;
     }
 
     pub exact-next : {q : Choices} → Sized c q → Exact c q b′
@@ -169,9 +181,11 @@ module _
       cuts = e .cuts;
       choices = z .choices;
       greys = λ t. never (sym (no-greys c v) ∙ t);
-      labels = λ _. seen-of f m .labels .long;
+      labels = λ _. seen-of f m .labels .labels .long;
       grey-labels = λ t. never (sym (no-greys c v) ∙ and-right (labelsBy (c .form)) _ t);
-      counts = λ _. rw (seen-of f m .labels .long) at (seen-of f m .counts .long);
+      counts = λ _. rw (seen-of f m .labels .labels .long) at (seen-of f m .counts .long);
       sizes = λ _. seen-of f m .sizes .long;
       members = forms-apart (c .form) f;
+      found = λ _. seen-of f m .labels .one;
+      grey-found = λ t. never (sym (no-greys c v) ∙ and-right (labelsBy (c .form)) _ t);
     }

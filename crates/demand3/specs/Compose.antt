@@ -21,7 +21,7 @@ module _ {c : Call} {p : Choices} {xs : List ℤ} {l : List ℕ} {ys : List ℤ}
   none-moved h = spins-equal c ys xs (s .some-site) (s .long) same (s .others)
     where
       stays : (i k : ℕ) → i < c .lattice .n → k < size c → (t : Bool) → cond t (chosen c p (labelOf l i) k) k ≡ k
-      stays i k hi hk true = h (labelOf l i) (label-lt (graph c) (holds c xs) l (s .told .labels f) i hi) k hk
+      stays i k hi hk true = h (labelOf l i) (label-lt (graph c) (holds c xs) l (s .told .labels f .1) i hi) k hk
       stays i k hi hk false = refl
 
       same : (i k : ℕ) → i < c .lattice .n → k < size c → pattern c ys i k ≡ pattern c xs i k
@@ -31,17 +31,17 @@ module _ {c : Call} {p : Choices} {xs : List ℤ} {l : List ℕ} {ys : List ℤ}
 
   -- what holds at every entry holds at those that are used
   pub composed-all : {q r : Choices} → ComposedAll c p q r → Composed c xs l p q r
-  composed-all h = record { is = λ i hi _. h (labelOf l i) (label-lt (graph c) (holds c xs) l (s .told .labels f) i hi) }
+  composed-all h = record { is = λ i hi _. h (labelOf l i) (label-lt (graph c) (holds c xs) l (s .told .labels f .1) i hi) }
 
   pub cancels-all : {q : Choices} → CancelsAll c p q → Cancels c xs l p q
-  cancels-all h = record { is = λ i hi _. h (labelOf l i) (label-lt (graph c) (holds c xs) l (s .told .labels f) i hi) }
+  cancels-all h = record { is = λ i hi _. h (labelOf l i) (label-lt (graph c) (holds c xs) l (s .told .labels f .1) i hi) }
 
 module _
     {c : Call} {p q : Choices} {xs : List ℤ} {l : List ℕ} {ys : List ℤ} {m : List ℕ} {zs : List ℤ}
     (f : labelsBy (c .form) ≡ true) (s : Step c p xs l ys) (t : Step c q ys m zs)
   where
-    pub same-labels : m ≡ l
-    same-labels = labels-unique (graph c) (holds c ys) m l (t .told .labels f) (labels-kept s f)
+    same-labels : m ≡ l
+    same-labels = labels-unique (graph c) (holds c ys) m l (t .told .labels f .1) (labels-kept s (s .told .labels f .1))
 
     same-reach : (i : ℕ) → i < c .lattice .n → reached c ys m i ≡ reached c xs l i
     unfolding reached
@@ -96,7 +96,7 @@ module _
 
     module _ {r : Choices} {o : List ℕ} {ws : List ℤ} (u : Step c r xs o ws) where
       same : o ≡ l
-      same = labels-unique (graph c) (holds c xs) o l (u .told .labels f) (s .told .labels f)
+      same = labels-unique (graph c) (holds c xs) o l (u .told .labels f .1) (s .told .labels f .1)
 
       -- one component's sites are as after the one move
       pub then-at :

@@ -19,7 +19,7 @@ use Rattle.paper.specs.Panel.Takes.{isPerm, moves, entries}
 use Rattle.paper.specs.Site.Acting.{acts}
 use Rattle.paper.specs.Site.Bonds.{holds}
 use Rattle.paper.specs.Site.Energy.{bondSum}
-use Rattle.paper.specs.Component.Labels.{Joined, Labels}
+use Rattle.paper.specs.Component.Labels.{Joined, Numbered}
 use Rattle.paper.specs.Component.Sizes.{labelOf}
 use Rattle.paper.specs.Move.Moving.{chosen, reached}
 use Rattle.paper.specs.Refusal.Rules.{Exact, Chosen, NotIdentity, permRow}
@@ -52,14 +52,15 @@ pub record Such (c : Call) (p : Choices) (b b′ : Buffers) : Type 0 where
 -- ---- "A move keeps the active sites, the components and, for every bond, the sum over the group of the product of its end spins."
 pub record Keeps (c : Call) (b b′ : Buffers) : Type 0 where
   pub acting : (i : ℕ) → i < c .lattice .n → acts c (b′ .spins) i ≡ acts c (b .spins) i
-  -- the components: two sites are joined after the move just if they were before it; their labels, as the move wrote them, are right for both
+  -- the components: two sites are joined after the move just if they were before it; their numbers and how many there are, as the move wrote them,
+  -- are right for both
   pub components :
       (i j : ℕ)
       → i < c .lattice .n
       → j < c .lattice .n
       → Joined (graph c) (holds c (b′ .spins)) i j ↔ Joined (graph c) (holds c (b .spins)) i j
-  pub labels-before : Labels (graph c) (holds c (b .spins)) (b′ .labels)
-  pub labels-after : Labels (graph c) (holds c (b′ .spins)) (b′ .labels)
+  pub labels-before : Numbered (graph c) (holds c (b .spins)) (b′ .labels) (b′ .found)
+  pub labels-after : Numbered (graph c) (holds c (b′ .spins)) (b′ .labels) (b′ .found)
   -- every bond (i, e): also one that joins a site to itself, and each of two that join one pair
   pub sums : (i e : ℕ) → i < c .lattice .n → e < c .lattice .d → bondSum c (b′ .spins) i e ≡ bondSum c (b .spins) i e
   -- "Other systems keep their bytes."
@@ -69,10 +70,10 @@ pub record Keeps (c : Call) (b b′ : Buffers) : Type 0 where
       → ((k : ℕ) → k < size c → t ≢ system c k)
       → spin (c .lattice .n) (b′ .spins) t i ≡ spin (c .lattice .n) (b .spins) t i
 
--- ---- "choosing p and then q on a component": `chosen c p l k` is the place that p makes of the place k on the component with the label l. A flip
+-- ---- "choosing p and then q on a component": `chosen c p l k` is the place that p makes of the place k on the component with the number l. A flip
 -- makes of each place its partner; with two replicas of opposite spins that is what houd's negation does
 
--- r is "k to p(q(k))" there; and on every component that moves, by the labels l of the spins xs. Entries that no such component has are free
+-- r is "k to p(q(k))" there; and on every component that moves, by the numbers l of the spins xs. Entries that no such component has are free
 abbrev pub ComposedAt : Call → Choices → Choices → Choices → ℕ → Type 0
 ComposedAt c p q r l = (k : ℕ) → k < size c → chosen c r l k ≡ chosen c p l (chosen c q l k)
 
@@ -92,13 +93,14 @@ pub record Two (c : Call) (p q : Choices) (b b′ d d′ : Buffers) : Type 0 whe
   pub second : Such c q d d′
   pub handed : d .spins ≡ b′ .spins
 
--- labels, counts and sizes
+-- component numbers and how many there are, counts and sizes
 pub record SameOutputs (b′ d′ : Buffers) : Type 0 where
   pub labels : d′ .labels ≡ b′ .labels
+  pub found : d′ .found ≡ b′ .found
   pub counts : d′ .counts ≡ b′ .counts
   pub sizes : d′ .sizes ≡ b′ .sizes
 
--- ---- choices as buffers: permutations of which row r sends k to f r k. SW has a row for each label, Wolff one
+-- ---- choices as buffers: permutations of which row r sends k to f r k. SW has a row for each number of a component, Wolff one
 abbrev pub permsOf : Call → (ℕ → ℕ → ℕ) → List ℕ
 permsOf c f = table (entries (c .form) (c .lattice .n) * size c) (λ x. f (x / size c) (x % size c))
 
@@ -142,7 +144,7 @@ pub record Demand3 (c : Call) : Type 0 where
   pub keeps : {p : Choices} {b b′ : Buffers} → Such c p b b′ → Keeps c b b′
   -- after a move the next is accepted, with the same gauge site and seed: only its own choices and its buffers' lengths must be right
   pub next : {p q : Choices} {b b′ d : Buffers} → Such c p b b′ → d .spins ≡ b′ .spins → Exact c q d → Chosen c q → Outcome c q d
-  -- and it writes the same labels, counts and sizes
+  -- and it writes the same component numbers and how many there are, the same counts and the same sizes
   pub outputs : {p q : Choices} {b b′ d d′ : Buffers} → Two c p q b b′ d d′ → SameOutputs b′ d′
   -- "Two moves .. choosing p and then q on a component, leave the spin bytes of one such move choosing k to p(q(k))": on that component
   pub composes-at :

@@ -27,9 +27,9 @@ use Rattle.laws.specs.Entries.{permOf, perms-of, perms-grown, spin-of}
 use Rattle.demand3.specs.Statement.{Reversible, Move}
 use Rattle.demand3.specs.Reversible.{not-cmr}
 
--- the list l tells each site's component: its labels, or in grow its members. So it tells the site's entry of the choices
+-- the list l tells each site's component: its number, or in grow whether it is a member. So it tells the site's entry of the choices
 pub record Told (c : Call) (p : Choices) (xs : List ℤ) (l : List ℕ) : Type 0 where
-  pub labels : When (labelsBy (c .form)) (Labels (graph c) (holds c xs) l)
+  pub labels : When (labelsBy (c .form)) ((found : ℕ) × Labels (graph c) (holds c xs) l found)
   pub joint : (i e : ℕ) → i < c .lattice .n → e < c .lattice .d → holds c xs i e ≡ true → labelOf l i ≡ labelOf l (ahead c i e)
   pub perms : takesPerms c ≡ true → (i : ℕ) → i < c .lattice .n → Permutes (size c) (permOf c p (labelOf l i))
 
@@ -71,9 +71,9 @@ module _ {c : Call} {p : Choices} {b : Buffers} (valid : Valid c p b) where
       → Joined (graph c) (holds c (b .spins)) i (ahead c i e)
   over i e hi he on = along (record { site = hi; dir = e; dir-lt = he; on = on; leads = refl }) stay
 
-  told-labels : (l : List ℕ) → Labels (graph c) (holds c (b .spins)) l → Told c p (b .spins) l
-  told-labels l labels = record {
-    labels = λ _. labels;
+  told-labels : {found : ℕ} (l : List ℕ) → Labels (graph c) (holds c (b .spins)) l found → Told c p (b .spins) l
+  told-labels {found} l labels = record {
+    labels = λ _. (found, labels);
     joint = λ i e hi he on. same-label (graph c) (holds c (b .spins)) l labels i (ahead c i e) hi (inside i e hi he) .1 (over i e hi he on);
     perms = λ t i hi. perms-of valid t (labelOf l i) (label-lt (graph c) (holds c (b .spins)) l labels i hi);
   }
@@ -133,13 +133,13 @@ pub step :
     → Step c p (b .spins) (b′ .labels) (b′ .spins)
 step {c} {p} {b} {b′} v f (Move.idle w) =
     let valid = valid-of c p b (w .valid) in
-    step-of valid (b′ .labels) (b′ .spins) v (told-labels valid (b′ .labels) (w .seen .all f .labels)) (ap length (w .still))
+    step-of valid (b′ .labels) (b′ .spins) v (told-labels valid (b′ .labels) (w .seen .all f .labels .labels)) (ap length (w .still))
     (λ i k hi hk. rw (w .still, reached-no c (b .spins) (b′ .labels) i (w .none i hi)) refl)
     (λ i t hi h. rw (w .still) refl)
 step {c} {p} {b} {b′} v f (Move.moved w) =
     let valid = valid-of c p b (w .valid) in
     let m = w .moved f in
-    step-of valid (b′ .labels) (b′ .spins) v (told-labels valid (b′ .labels) (w .seen .all f .labels)) (m .long)
+    step-of valid (b′ .labels) (b′ .spins) v (told-labels valid (b′ .labels) (w .seen .all f .labels .labels)) (m .long)
     (λ i k hi hk. m .group i k hi hk ∙ final-after c p (b .spins) (b′ .labels) (b′ .greyLabels) i k (not-cmr (c .mode) (size c) v))
     (m .others)
 

@@ -12,16 +12,16 @@ use Rattle.paper.specs.Panel.Input.{graph, Call, Choices, Buffers, size}
 use Rattle.paper.specs.Panel.Takes.{isPerm, oneCluster, labelsBy, moves, takesPerms}
 use Rattle.paper.specs.Site.Bonds.{holds}
 use Rattle.paper.specs.Site.Energy.{bondSum}
-use Rattle.paper.specs.Component.Labels.{Joined, Labels}
+use Rattle.paper.specs.Component.Labels.{Joined, Labels, Numbered}
 use Rattle.paper.specs.Refusal.Rules.{When, Chosen, NotIdentity, permRow}
 use Rattle.paper.specs.Rows.Cases.{houd4, before12, after12}
-use Rattle.laws.specs.Unique.{same-label, counts-unique, sizes-unique}
+use Rattle.laws.specs.Unique.{same-label, numbered-unique, counts-unique, sizes-unique}
 use Rattle.rows.specs.Proved.{table}
 use Rattle.demand3.specs.Statement.{Reversible, Move, Such, Keeps, Two, SameOutputs, composite, inverse, identity, Leaves, Demand3, Boundary}
 use Rattle.demand3.specs.Step.{Step, step, seen-of, valid-move}
-use Rattle.demand3.specs.Turns.{acts-kept, labels-kept, counts-kept, sizes-kept}
+use Rattle.demand3.specs.Turns.{acts-kept, numbered-kept, counts-kept, sizes-kept}
 use Rattle.demand3.specs.BondSums.{sum-kept}
-use Rattle.demand3.specs.Compose.{none-moved, composed-all, cancels-all, same-labels, back-at, two-back, then-at, two-then}
+use Rattle.demand3.specs.Compose.{none-moved, composed-all, cancels-all, back-at, two-back, then-at, two-then}
 use Rattle.demand3.specs.ChoicesAdd.{wolff-cancels}
 use Rattle.demand3.specs.ChoicesFit.{composite-chosen, composite-is, composite-sized, inverse-chosen, inverse-cancels, inverse-sized}
 use Rattle.demand3.specs.ChoicesFit.{identity-chosen, identity-stays, identity-sized}
@@ -30,9 +30,9 @@ use Rattle.demand3.specs.Chain.{instead, next, exact-instead, exact-next
 
 module _ (c : Call) (v : Reversible (c .mode) (size c)) (f : labelsBy (c .form) ≡ true) where
   joined :
-      (l : List ℕ) (h₁ h₂ : ℕ → ℕ → Bool)
-      → Labels (graph c) h₁ l
-      → Labels (graph c) h₂ l
+      {found₁ found₂ : ℕ} (l : List ℕ) (h₁ h₂ : ℕ → ℕ → Bool)
+      → Labels (graph c) h₁ l found₁
+      → Labels (graph c) h₂ l found₂
       → (i j : ℕ)
       → i < c .lattice .n
       → j < c .lattice .n
@@ -44,17 +44,23 @@ module _ (c : Call) (v : Reversible (c .mode) (size c)) (f : labelsBy (c .form) 
   keeps {p} {b} {b′} m = record {
     acting = acts-kept s;
     components = λ i j hi hj. (
-      joined (b′ .labels) (holds c (b′ .spins)) (holds c (b .spins)) (labels-kept s f) (s .told .labels f) i j hi hj,
-      joined (b′ .labels) (holds c (b .spins)) (holds c (b′ .spins)) (s .told .labels f) (labels-kept s f) i j hi hj,
+      joined (b′ .labels) (holds c (b′ .spins)) (holds c (b .spins)) (after .labels) (before .labels) i j hi hj,
+      joined (b′ .labels) (holds c (b .spins)) (holds c (b′ .spins)) (before .labels) (after .labels) i j hi hj,
     );
-    labels-before = s .told .labels f;
-    labels-after = labels-kept s f;
+    labels-before = before;
+    labels-after = after;
     sums = sum-kept s;
     others = s .others;
   }
     where
       s : Step c p (b .spins) (b′ .labels) (b′ .spins)
       s = step v f (move-of m)
+
+      before : Numbered (graph c) (holds c (b .spins)) (b′ .labels) (b′ .found)
+      before = seen-of f (move-of m) .labels
+
+      after : Numbered (graph c) (holds c (b′ .spins)) (b′ .labels) (b′ .found)
+      after = numbered-kept s before
 
   module _ {p q : Choices} {b b′ d d′ : Buffers} (w : Two c p q b b′ d d′) where
     first : Step c p (b .spins) (b′ .labels) (b′ .spins)
@@ -69,15 +75,18 @@ module _ (c : Call) (v : Reversible (c .mode) (size c)) (f : labelsBy (c .form) 
 
     outputs : SameOutputs b′ d′
     outputs = record {
-      labels = labels;
+      labels = numbers .0;
+      found = numbers .1;
       counts = counts-unique (d′ .labels) (d′ .counts) (b′ .counts) (rw (w .handed) at (seen-of f (move-of (w .second)) .counts))
-          (rw labels (counts-kept first f (seen-of f (move-of (w .first)) .counts)));
+          (rw (numbers .0) (counts-kept first f (seen-of f (move-of (w .first)) .counts)));
       sizes = sizes-unique (d′ .labels) (d′ .sizes) (b′ .sizes) (rw (w .handed) at (seen-of f (move-of (w .second)) .sizes))
-          (rw labels (sizes-kept first f (seen-of f (move-of (w .first)) .sizes)));
+          (rw (numbers .0) (sizes-kept first f (seen-of f (move-of (w .first)) .sizes)));
     }
       where
-        labels : d′ .labels ≡ b′ .labels
-        labels = same-labels f first second
+        numbers : (d′ .labels ≡ b′ .labels) × (d′ .found ≡ b′ .found)
+        numbers =
+            numbered-unique (graph c) (holds c (b′ .spins)) (d′ .labels) (b′ .labels) (d′ .found) (b′ .found)
+            (rw (w .handed) at (seen-of f (move-of (w .second)) .labels)) (numbered-kept first (seen-of f (move-of (w .first)) .labels))
 
     chosen-first : Chosen c p
     chosen-first = valid-move (move-of (w .first)) .fit .chosen

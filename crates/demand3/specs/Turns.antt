@@ -12,11 +12,11 @@ use Rattle.paper.specs.Panel.Input.{graph, Call, Choices, Pattern, pattern, siz
 use Rattle.paper.specs.Panel.Takes.{labelsBy, moves, isPerm, isGperm}
 use Rattle.paper.specs.Site.Acting.{actsBy, acts, gauge}
 use Rattle.paper.specs.Site.Bonds.{bothAct, holds}
-use Rattle.paper.specs.Component.Labels.{Labels}
+use Rattle.paper.specs.Component.Labels.{Labels, Numbered}
 use Rattle.paper.specs.Component.Sizes.{labelOf, Counted, Largest}
 use Rattle.paper.specs.Move.Moving.{chosen, actBy, reached, after}
 use Rattle.paper.specs.Refusal.Rules.{Spin, Permutes}
-use Rattle.laws.specs.Unique.{labels-ext, counts-ext, sizes-ext}
+use Rattle.laws.specs.Unique.{HoldAlike, labels-ext, numbered-ext, counts-ext, sizes-ext}
 use Rattle.laws.specs.Patterns.{Spinning}
 use Rattle.laws.specs.Entries.{form-moves}
 use Rattle.laws.specs.Acting.{acts-same, gauge-ext}
@@ -128,13 +128,20 @@ module _ {c : Call} {p : Choices} {xs : List ℤ} {l : List ℕ} {ys : List ℤ}
       by-ends : (zs : List ℤ) → holds c zs i e ≡ bothAct c zs i e
       by-ends zs = holds-both (c .mode) (size c) (s .reversible) c zs i e
 
-  -- so labels are those of the spins after the step too, and what is counted by them
-  module _ (f : labelsBy (c .form) ≡ true) where
-    pub labels-kept : Labels (graph c) (holds c ys) l
-    labels-kept = labels-ext (graph c) (holds c xs) (holds c ys) l (λ i e hi he. sym (holds-kept i e hi he)) (s .told .labels f)
+  -- so component numbers are those of the spins after the step too, and how many there are
+  alike : HoldAlike (graph c) (holds c xs) (holds c ys)
+  alike i e hi he = sym (holds-kept i e hi he)
 
+  pub labels-kept : {found : ℕ} → Labels (graph c) (holds c xs) l found → Labels (graph c) (holds c ys) l found
+  labels-kept = labels-ext (graph c) (holds c xs) (holds c ys) l alike
+
+  pub numbered-kept : {found : List ℕ} → Numbered (graph c) (holds c xs) l found → Numbered (graph c) (holds c ys) l found
+  numbered-kept {found} = numbered-ext (graph c) (holds c xs) (holds c ys) l found alike
+
+  -- and what is counted by them
+  module _ (f : labelsBy (c .form) ≡ true) where
     marks-kept : (i : ℕ) → i < length l → acts c xs i ≡ acts c ys i
-    marks-kept i h = sym (acts-kept i (rw (s .told .labels f .long) at h))
+    marks-kept i h = sym (acts-kept i (rw (s .told .labels f .1 .long) at h))
 
     pub counts-kept : {counts : List ℕ} → Counted (acts c xs) l counts → Counted (acts c ys) l counts
     counts-kept = counts-ext l marks-kept

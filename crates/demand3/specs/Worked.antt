@@ -14,7 +14,7 @@ use Rattle.paper.specs.declared.Answer.the-variants.{Moved}
 use Rattle.paper.specs.Panel.Input.{Lattice, Call, Choices, Buffers, system}
 use Rattle.paper.specs.Site.Acting.{pairDiffers, acts}
 use Rattle.paper.specs.Site.Bonds.{whole, holds}
-use Rattle.paper.specs.Component.Sizes.{sizeOf, labelOf}
+use Rattle.paper.specs.Component.Sizes.{sizeOf, isFirst, labelOf}
 use Rattle.paper.specs.Move.Moving.{other, reached, final}
 use Rattle.paper.specs.Answer.Move.{Answers}
 use Rattle.paper.specs.Answer.Same.{SameTaken}
@@ -47,9 +47,9 @@ hot = record {
 abbrev flips : List ℕ → Choices
 flips xs = record { choices = xs; greys = [] }
 
--- all sites act and are one component, so entry 1 is unused
+-- all sites act and are the one component 0, so entry 1 is unused
 abbrev at : List ℤ → Buffers
-at spins = buffers spins (0 ∷ 0 ∷ []) (0 ∷ 0 ∷ 1 ∷ []) (2 ∷ 0 ∷ 0 ∷ 0 ∷ [])
+at spins = buffers spins (0 ∷ 0 ∷ []) (0 ∷ 0 ∷ 1 ∷ []) (2 ∷ 0 ∷ 0 ∷ 0 ∷ []) 1
 
 abbrev start : List ℤ
 start = + ∷ + ∷ - ∷ - ∷ []
@@ -58,16 +58,16 @@ abbrev turned : List ℤ
 turned = - ∷ - ∷ + ∷ + ∷ []
 
 turns : Answers warm (flips (1 ∷ 0 ∷ [])) (at start) Moved (at turned)
-unfolding every any holds acts pairDiffers sizeOf countWhere other reached final
-turns = goes-by warm (flips (1 ∷ 0 ∷ [])) (at start) (at turned) (0 ∷ 0 ∷ []) [] refl (λ _. refl) refl
+unfolding every any holds acts pairDiffers sizeOf isFirst countWhere other reached final
+turns = goes-by warm (flips (1 ∷ 0 ∷ [])) (at start) (at turned) (0 ∷ 0 ∷ []) [] refl (λ _. (refl, refl)) refl
 
 turns-both : Answers warm (flips (1 ∷ 1 ∷ [])) (at start) Moved (at turned)
-unfolding every any holds acts pairDiffers sizeOf countWhere other reached final
-turns-both = goes-by warm (flips (1 ∷ 1 ∷ [])) (at start) (at turned) (0 ∷ 0 ∷ []) [] refl (λ _. refl) refl
+unfolding every any holds acts pairDiffers sizeOf isFirst countWhere other reached final
+turns-both = goes-by warm (flips (1 ∷ 1 ∷ [])) (at start) (at turned) (0 ∷ 0 ∷ []) [] refl (λ _. (refl, refl)) refl
 
 stays : Answers hot (flips (0 ∷ 0 ∷ [])) (at turned) Moved (at turned)
-unfolding every any holds acts pairDiffers sizeOf countWhere other reached final
-stays = goes-by hot (flips (0 ∷ 0 ∷ [])) (at turned) (at turned) (0 ∷ 0 ∷ []) [] refl (λ _. refl) refl
+unfolding every any holds acts pairDiffers sizeOf isFirst countWhere other reached final
+stays = goes-by hot (flips (0 ∷ 0 ∷ [])) (at turned) (at turned) (0 ∷ 0 ∷ []) [] refl (λ _. (refl, refl)) refl
 
 systems : (k : ℕ) → k < 2 → system hot k ≡ system warm k
 systems zero h = refl

@@ -11,14 +11,15 @@ use lib.Seq.{take-at}
 use Rattle.lemmas.specs.Counts.{count-most}
 use Rattle.paper.specs.declared.Group.{Group}
 use Rattle.paper.specs.declared.Answer.{Answer}
-use Rattle.paper.specs.Panel.Input.{Call, Buffers}
+use Rattle.paper.specs.Panel.Input.{graph, Call, Buffers}
 use Rattle.paper.specs.Site.Acting.{acts}
-use Rattle.paper.specs.Component.Links.{Linked.stay}
-use Rattle.paper.specs.Component.Sizes.{counted, sizeOf}
+use Rattle.paper.specs.Site.Bonds.{holds}
+use Rattle.paper.specs.Component.Sizes.{counted, labelOf, sizeOf}
 use Rattle.paper.specs.Refusal.Rule.{Kept, Broken}
 use Rattle.paper.specs.Refusal.Verdict.{Verdict}
 use Rattle.paper.specs.Answer.Move.{Answers, SeenAll, Accepted, accepted-zero}
 use Rattle.paper.specs.Answer.Frame.{bytes, signed, frameLattice, frameCall, frameChoices, frameBuffers, HasBack, frameRules, refusal, FrameAnswers}
+use Rattle.laws.specs.Unique.{label-lt}
 use Rattle.frame_lines.specs.declared.Sizes.{Sizes}
 use Rattle.frame_lines.specs.Spelling.{line2, line3, spellingRules, valueRules, Spelling, spelling-of, misspelt, misvalued, all-kept}
 use Rattle.frame_text.specs.Digits.{Below}
@@ -87,15 +88,16 @@ pub seen-small : (c : Call) (b b′ : Buffers) → SeenAll c b b′ → c .latti
 seen-small c b b′ v h = record { small-labels = labels; small-counts = counts }
   where
     few : length (b′ .labels) ≤ 4096
-    few = omega (arith, v .labels .long)
+    few = omega (arith, v .labels .labels .long)
 
     labels : Below 65536 (b′ .labels)
     labels i l =
-        let inside : i < c .lattice .n = omega (arith, v .labels .long) in
-        omega (arith, v .labels .least i i inside inside stay)
+        let inside : i < c .lattice .n = omega (arith, v .labels .labels .long) in
+        omega (arith, label-lt (graph c) (holds c (b .spins)) (b′ .labels) (v .labels .labels) i inside)
 
     counts : Below 65536 (b′ .counts)
     counts s l =
         let most : s ≤ length (b′ .labels) = omega (arith, v .counts .long) in
-        let all = count-most (λ r. counted (acts c (b .spins)) (b′ .labels) r && eqb (sizeOf (b′ .labels) r) s) (length (b′ .labels)) in
+        let all = count-most (λ i. counted (acts c (b .spins)) (b′ .labels) i && eqb (sizeOf (b′ .labels) (labelOf (b′ .labels) i)) s)
+        (length (b′ .labels)) in
         omega (arith, few, v .counts .each s most, all)

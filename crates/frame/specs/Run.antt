@@ -86,7 +86,9 @@ pub record PermMoved (n d s : ℕ) (g : Group) (fwd perms : List ℕ) (b : Buffe
   pub reversed : Reversed n d fwd bwd
   pub grey : List ℕ
   pub members : List ℕ
-  pub answers : Answers (permCall n d s fwd bwd g) (choicesOf perms []) b r (buffersOf spins labels grey counts sizes members)
+  pub found : List ℕ
+  pub grey-found : List ℕ
+  pub answers : Answers (permCall n d s fwd bwd g) (choicesOf perms []) b r (buffersOf spins labels grey counts sizes members found grey-found)
 
 -- what is written for a move's answer
 abbrev pub answerText : Answer → List ℕ → List ℕ → List ℤ → List ℕ
@@ -107,9 +109,9 @@ pub writable : {n d s : ℕ} {g : Group} {fwd perms : List ℕ} {b : Buffers} (r
     → n ≤ 4096 → PermMoved n d s g fwd perms b r bwd spins labels counts sizes → Writable r labels counts
 writable (Refused c) h m = refused-small (m .answers)
 writable {b = b} Idle {spins = spins} {labels} {counts} {sizes} h m =
-    seen-small _ b (buffersOf spins labels (m .grey) counts sizes (m .members)) (m .answers .seen .all refl) h
+    seen-small _ b (buffersOf spins labels (m .grey) counts sizes (m .members) (m .found) (m .grey-found)) (m .answers .seen .all refl) h
 writable {b = b} Moved {spins = spins} {labels} {counts} {sizes} h m =
-    seen-small _ b (buffersOf spins labels (m .grey) counts sizes (m .members)) (m .answers .seen .all refl) h
+    seen-small _ b (buffersOf spins labels (m .grey) counts sizes (m .members) (m .found) (m .grey-found)) (m .answers .seen .all refl) h
 
 -- the move ran, and its answer is written
 pub record MoveWritten (n d s : ℕ) (g : Group) (fwd perms : List ℕ) (b : Buffers) (out : List ℕ) (w : Written) (out′ : List ℕ) : Type 0 where
@@ -191,7 +193,7 @@ zeros-part (suc m) (x ∷ xs) l h = λ i. h 0 (omega arith) i ∷ zeros-part m x
 
 -- the same on what was read
 abbrev pub buffersRead : Sizes → List ℤ → List ℕ → List ℕ → List ℕ → Buffers
-buffersRead z spins labels counts sizes = buffersOf (take (z .s * z .n) spins) (take (z .n) labels) [] (take (z .n + 1) counts) sizes []
+buffersRead z spins labels counts sizes = buffersOf (take (z .s * z .n) spins) (take (z .n) labels) [] (take (z .n + 1) counts) sizes [] (0 ∷ []) []
 
 module _ {text : List ℕ} {b : Held} {z : Sizes} {g : Group} {a : Held} (h : Readout text b z g a)
     {bwd labels counts sizes : List ℕ} (k : Blank bwd labels counts sizes) (few : z .n ≤ 256) where
@@ -208,10 +210,12 @@ module _ {text : List ℕ} {b : Held} {z : Sizes} {g : Group} {a : Held} (h : Re
       → MoveWritten (z .n) (z .d) (z .s) g (take (z .n * z .d) (a .fwd)) (take (z .n * g .len) (a .perms))
       (buffersRead z (a .spins) labels counts sizes) out w out′
       → RunAs text out w out′
+  unfolding table
   panel-answers v = record {
     answer = answerText (v .answer) (v .after .labels) (v .after .counts) (v .after .spins);
     answers = moves-answer text (v .bwd) (h .spelt) (moved .long) (moved .reversed) (v .answer)
-        (buffersOf (v .after .spins) (v .after .labels) (moved .grey) (v .after .counts) (v .after .sizes) (moved .members)) (moved .answers);
+        (buffersOf (v .after .spins) (v .after .labels) (moved .grey) (v .after .counts) (v .after .sizes) (moved .members)
+        (moved .found) (moved .grey-found)) (moved .answers);
     written = v .written;
   }
     where
@@ -222,8 +226,9 @@ module _ {text : List ℕ} {b : Held} {z : Sizes} {g : Group} {a : Held} (h : Re
         where
           buffers : buffersRead z (a .spins) labels counts sizes ≡ frameBuffers text
           buffers =
-              (λ i. buffersOf (spins-part h i) (is-labels i) [] (is-counts i) (is-sizes i) [])
-              ∙ (λ i. buffersOf (frameBuffers text .spins) (table (h .sizes i .n) (λ k. 0)) [] (table (h .sizes i .n + 1) (λ k. 0)) (table 4 (λ k. 0)) [])
+              (λ i. buffersOf (spins-part h i) (is-labels i) [] (is-counts i) (is-sizes i) [] (0 ∷ []) [])
+              ∙ (λ i. buffersOf (frameBuffers text .spins) (table (h .sizes i .n) (λ k. 0)) [] (table (h .sizes i .n + 1) (λ k. 0)) (table 4 (λ k. 0)) []
+              (0 ∷ []) [])
 
 -- ---- from what the reading found
 pub misread-answers : (text : List ℕ) (b : Held) (f : Found) (g : Group) (a : Held) (r : ℕ) {out : List ℕ} {w : Written} {out′ : List ℕ}

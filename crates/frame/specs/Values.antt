@@ -48,6 +48,8 @@ module _ (text bwd : List ℕ) (s : Spelling text) (long : length bwd ≡ frameL
     counts = λ e. length-table (frameLattice text [] .n + 1) (λ k. 0);
     sizes = λ e. length-table 4 (λ k. 0);
     members = λ e. never e;
+    found = λ e. length-table 1 (λ k. 0);
+    grey-found = λ e. never e;
   }
 
   chosen-of : Chosen (frameCall text bwd) (frameChoices text) → Chosen (frameCall text []) (frameChoices text)

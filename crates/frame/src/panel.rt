@@ -7,7 +7,7 @@ use paper::Group;
 use paper::Keeps;
 use paper::Mode;
 use paper::Task;
-ghost use mathlib.Core.List.{List, []};
+ghost use mathlib.Core.List.{List, [], _∷_};
 ghost use Prim.Native.Nat.{ℕ, _*_};
 ghost use Rattle.lattice.specs.Backward.{Turnable};
 ghost use Rattle.paper.specs.Panel.Made.{buffersOf};
@@ -15,7 +15,7 @@ ghost use Rattle.frame_lines.specs.Reading.{Held, Readout};
 ghost use Rattle.frame_lines.specs.Writing.{WrittenAs};
 ghost use Rattle.frame.specs.Run.{PermMoved, Writable, answerText, MoveWritten, PanelGiven, RunAs};
 
-// The move keeps no totals, and takes no couplings, cuts, grey numbers or members: they are empty.
+// The move keeps no totals, and takes no couplings, cuts, grey numbers or members: they are empty. How many components it finds is not written out.
 fn perm_move(
     n: usize,
     d: usize,
@@ -31,7 +31,7 @@ fn perm_move(
 ) -> Answer
     requires { ⌜ Turnable n d (now fwd) (now bwd) ⌝ }
     ensures { λ r. ⌜ PermMoved n d s group (now (fwd .entry)) (now (perms .entry))
-        (buffersOf (now (spins .entry)) (now (labels .entry)) [] (now (counts .entry)) (now (sizes .entry)) [])
+        (buffersOf (now (spins .entry)) (now (labels .entry)) [] (now (counts .entry)) (now (sizes .entry)) [] (0 ∷ []) [])
         r (now (bwd .exit)) (now (spins .exit)) (now (labels .exit)) (now (counts .exit)) (now (sizes .exit)) ⌝ }
 {
     lattice::backward(n, d, fwd, bwd);
@@ -40,6 +40,8 @@ fn perm_move(
     let cuts = [0f32; 1];
     let mut grey_labels = [0u32; 1];
     let mut members = [0u8; 1];
+    let mut found = [0u32; 1];
+    let mut grey_found = [0u32; 1];
     let t = Task {
         mode: Mode::Perm,
         form: Form::Sw,
@@ -67,6 +69,8 @@ fn perm_move(
         counts,
         sizes,
         &mut members[..0],
+        &mut found,
+        &mut grey_found[..0],
     )
 }
 
@@ -98,7 +102,7 @@ fn move_and_write(
 ) -> Written
     requires { ⌜ Turnable n d (now fwd) (now bwd) ⌝ }
     ensures { λ w. ⌜ MoveWritten n d s group (now (fwd .entry)) (now (perms .entry))
-        (buffersOf (now (spins .entry)) (now (labels .entry)) [] (now (counts .entry)) (now (sizes .entry)) [])
+        (buffersOf (now (spins .entry)) (now (labels .entry)) [] (now (counts .entry)) (now (sizes .entry)) [] (0 ∷ []) [])
         (now (out .entry)) w (now (out .exit)) ⌝ }
 {
     let r = perm_move(

@@ -8,6 +8,7 @@ use native.Mathlib.Numerals.{add-one}
 use lib.ListN.{length, getD, take, drop, set, length-append, length-map}
 use lib.Seq.{sets, sets-eq, length-sets, take-at, drop-at, take-suc, take-all, length-take-le}
 use lib.IntN.{ℤ}
+use Rattle.paper.specs.Panel.Made.{buffersOf}
 use Rattle.paper.specs.Refusal.Rule.{Rule, rule}
 use Rattle.paper.specs.Refusal.Verdict.{Verdict}
 use Rattle.paper.specs.Answer.Frame.{digit, hex, line, result, refusal, twoBytes, spinByte}
@@ -19,7 +20,7 @@ use Rattle.frame_lines.specs.Words.{twoBytes-length}
 
 -- the answer of a move that left these labels, counts and spins
 abbrev pub resultOf : List ℕ → List ℕ → List ℤ → List ℕ
-resultOf labels counts spins = result (record { spins = spins; labels = labels; greyLabels = []; counts = counts; sizes = []; members = [] })
+resultOf labels counts spins = result (buffersOf spins labels [] counts [] [] [] [])
 
 -- labels and counts that two bytes hold
 pub record TwoByte (labels counts : List ℕ) : Type 0 where

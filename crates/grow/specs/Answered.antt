@@ -176,6 +176,8 @@ module _ (t : Task) (fwd bwd : List ℕ) (js : List ℤ) (cuts : List Float) (ch
         grey-kept = refl;
         counts-kept = refl;
         sizes-kept = refl;
+        found-kept = refl;
+        grey-found-kept = refl;
       };
     };
   }
@@ -300,6 +302,8 @@ module _ (t : Task) (fwd bwd : List ℕ) (js : List ℤ) (cuts : List Float) (ch
           grey-kept = refl;
           counts-kept = refl;
           sizes-kept = refl;
+          found-kept = refl;
+          grey-found-kept = refl;
         };
       };
     }

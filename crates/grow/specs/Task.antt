@@ -17,12 +17,14 @@ pub record Outputs : Type 0 where
   pub greyLabels : List ℕ
   pub counts : List ℕ
   pub sizes : List ℕ
+  pub found : List ℕ
+  pub greyFound : List ℕ
 
 abbrev pub noOutputs : Outputs
-noOutputs = record { labels = []; greyLabels = []; counts = []; sizes = [] }
+noOutputs = record { labels = []; greyLabels = []; counts = []; sizes = []; found = []; greyFound = [] }
 
 abbrev pub withOutputs : Outputs → List ℤ → List ℕ → Buffers
-withOutputs o xs members = buffersOf xs (o .labels) (o .greyLabels) (o .counts) (o .sizes) members
+withOutputs o xs members = buffersOf xs (o .labels) (o .greyLabels) (o .counts) (o .sizes) members (o .found) (o .greyFound)
 
 pub record GrowAsks (c : Call) (p : Choices) (xs : List ℤ) (members : List ℕ) : Type 0 where
   pub grows : growsBy (c .form) ≡ true
@@ -48,6 +50,8 @@ grown-with {c} o u f v = let s = v .sound in let e = s .exact in record {
       counts = λ l. forms-apart (c .form) l f;
       sizes = λ l. forms-apart (c .form) l f;
       members = e .members;
+      found = λ l. forms-apart (c .form) l f;
+      grey-found = λ l. forms-apart (c .form) (and-left (labelsBy (c .form)) _ l) f;
     };
     spins = s .spins;
     inverse = s .inverse;

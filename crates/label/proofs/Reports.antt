@@ -6,28 +6,27 @@ use mathlib.Core.List.{List}
 use native.Mathlib.Nat.{lt-irrefl, le-trans}
 use native.Mathlib.Omega.{arith}
 use borrow.Author.Count.{below-none, below-more}
-use borrow.Author.Tests.{ne-eqb, eqb-true}
+use borrow.Author.Tests.{eq-eqb, ne-eqb, eqb-true}
 use lib.Dec.{eqb, leb}
 use lib.ListN.{length, getD, set, take, length-set}
 use lib.Seq.{length-take-le, getD-take, getD-set-same, getD-set-other}
+use Rattle.lemmas.specs.Bools.{and-no}
 use Rattle.lemmas.specs.Counts.{bit, countWhere, count-zero, count-pos, count-most, count-ext}
-use Rattle.paper.specs.Component.Sizes.{labelOf, counted, sizeOf, ofSize, atLeast, Counted, Rank, Largest, Sized}
+use Rattle.paper.specs.Component.Sizes.{labelOf, isFirst, counted, sizeOf, ofSize, atLeast, Counted, Rank, Largest, Sized}
+use Rattle.laws.specs.Numbering.{Ranked}
 use Rattle.label.specs.Contract.{isOne}
-use Rattle.label.specs.Sizes.{single, several, Picked, Histogramming, onesPass, Histogram, allOrMore, Place, Top4}
+use Rattle.label.specs.Sizes.{tallyAt, single, several, Picked, Histogramming, onesPass, Histogram, allOrMore, Place, Top4}
 use Rattle.label.proofs.Ranks.{top-ext}
-
-first-of : (a b : Bool) → (a && b) ≡ true → a ≡ true
-first-of true b e = refl
-first-of false b e = e
 
 -- a component has a site
 no-empty : (mark : ℕ → Bool) (l : List ℕ) → ofSize mark l 0 ≡ 0
 unfolding sizeOf
-no-empty mark l = count-zero (λ r. counted mark l r && eqb (sizeOf l r) 0) (length l) (λ r rl. go r rl (counted mark l r) refl)
+no-empty mark l = count-zero (λ i. counted mark l i && eqb (sizeOf l (labelOf l i)) 0) (length l) (λ i il. rw (some i il) (and-no (counted mark l i)))
   where
-    go : (r : ℕ) → r < length l → (b : Bool) → counted mark l r ≡ b → b && eqb (sizeOf l r) 0 ≡ false
-    go r rl true e = ne-eqb (sizeOf l r) 0 (λ z. lt-irrefl 0 (rw z at (count-pos (λ i. eqb (labelOf l i) r) (length l) r rl (first-of _ _ e))))
-    go r rl false e = refl
+    some : (i : ℕ) → i < length l → eqb (sizeOf l (labelOf l i)) 0 ≡ false
+    some i il =
+        ne-eqb (sizeOf l (labelOf l i)) 0
+        (λ z. lt-irrefl 0 (rw z at (count-pos (λ j. eqb (labelOf l j) (labelOf l i)) (length l) i il (eq-eqb (labelOf l i) (labelOf l i) refl))))
 
 -- another component, which is counted or not, with one site or not
 turn : (c q a b : Bool) (x y z : ℕ) → (q ≡ true → a ≡ b) → cond a x 0 + y ≡ z
@@ -41,8 +40,8 @@ turn true false false b x y z e h = omega (arith, h)
 
 -- those of one site and the others are all
 parts : (l tally marks : List ℕ) (f : ℕ → Bool) (m : ℕ)
-    → onesPass (countWhere (single l tally marks) m) f + countWhere (λ r. several l tally marks r && f (getD tally r 0)) m
-    ≡ countWhere (λ r. counted (isOne marks) l r && f (getD tally r 0)) m
+    → onesPass (countWhere (single l tally marks) m) f + countWhere (λ i. several l tally marks i && f (tallyAt l tally i)) m
+    ≡ countWhere (λ i. counted (isOne marks) l i && f (tallyAt l tally i)) m
 unfolding countWhere
 parts l tally marks f zero = none (f 1)
   where
@@ -50,30 +49,42 @@ parts l tally marks f zero = none (f 1)
     none true = refl
     none false = refl
 parts l tally marks f (suc m) =
-    turn (counted (isOne marks) l m) (eqb (getD tally m 0) 1) (f 1) (f (getD tally m 0)) _ _ _ (λ e. ap f (sym (eqb-true _ _ e))) (parts l tally marks f m)
+    turn (counted (isOne marks) l m) (eqb (tallyAt l tally m) 1) (f 1) (f (tallyAt l tally m)) _ _ _ (λ e. ap f (sym (eqb-true _ _ e)))
+    (parts l tally marks f m)
 
 module _
-    {l tally marks list : List ℕ} {ones m : ℕ} (z : Sized l tally) (s : ones ≡ countWhere (single l tally marks) (length l))
-    (p : Picked l tally marks list m) (fits : m ≤ length list)
+    {l tally marks list : List ℕ} {ones m : ℕ} (ranked : Ranked l) (z : Sized l tally) (p : Picked l tally marks list ones m) (fits : m ≤ length list)
   where
     pub part-long : length (take m list) ≡ m
     part-long = length-take-le m list fits
 
+    -- a first's tally is its component's size
+    sized : (f : ℕ → Bool) (i : ℕ) → i < length l
+        → counted (isOne marks) l i && f (tallyAt l tally i) ≡ counted (isOne marks) l i && f (sizeOf l (labelOf l i))
+    sized f i il = go (isFirst l i) refl
+      where
+        low : isFirst l i ≡ true → labelOf l i < length l
+        low e = omega (arith, eqb-true (labelOf l i) (countWhere (isFirst l) i) (sym (ranked i il) ∙ e), count-most (isFirst l) i)
+
+        go : (b : Bool) → isFirst l i ≡ b → (b && isOne marks i) && f (tallyAt l tally i) ≡ (b && isOne marks i) && f (sizeOf l (labelOf l i))
+        go true e = ap (λ (y : ℕ). isOne marks i && f y) (z .each (labelOf l i) (low e))
+        go false e = refl
+
     -- as many of the list and of the sizes 1 pass a test as components
     passing : (f : ℕ → Bool)
         → onesPass ones f + countWhere (λ t. f (getD (take m list) t 0)) (length (take m list))
-        ≡ countWhere (λ r. counted (isOne marks) l r && f (sizeOf l r)) (length l)
+        ≡ countWhere (λ i. counted (isOne marks) l i && f (sizeOf l (labelOf l i))) (length l)
     passing f =
-        rw (s, listed) (parts l tally marks f (length l))
-        ∙ count-ext (λ r. counted (isOne marks) l r && f (getD tally r 0)) (λ r. counted (isOne marks) l r && f (sizeOf l r)) (length l)
-        (λ r rl. ap (λ (y : ℕ). counted (isOne marks) l r && f y) (z .each r rl))
+        rw (p .singles, listed) (parts l tally marks f (length l))
+        ∙ count-ext (λ i. counted (isOne marks) l i && f (tallyAt l tally i)) (λ i. counted (isOne marks) l i && f (sizeOf l (labelOf l i))) (length l)
+        (sized f)
       where
         listed : countWhere (λ t. f (getD (take m list) t 0)) (length (take m list))
-            ≡ countWhere (λ r. several l tally marks r && f (getD tally r 0)) (length l)
+            ≡ countWhere (λ i. several l tally marks i && f (tallyAt l tally i)) (length l)
         listed = rw part-long (count-ext (λ t. f (getD (take m list) t 0)) (λ t. f (getD list t 0)) m (λ t tl. ap f (getD-take m list t 0 tl))) ∙ p .same f
 
     few : ones ≤ length l
-    few = rw s (count-most (single l tally marks) (length l))
+    few = rw (p .singles) (count-most (single l tally marks) (length l))
 
     pub histogramming : length l ≤ 4096 → Histogramming (take m list) ones (length l + 1)
     histogramming h = record {

@@ -7,9 +7,11 @@ use mathlib.Core.List.{List}
 use native.Mathlib.Nat.{le-trans, le-of-eq}
 use lib.ListN.{length, getD}
 use Rattle.lemmas.specs.Cells.{cell-lt}
+use Rattle.lemmas.specs.Counts.{countWhere}
 use Rattle.paper.specs.Component.Links.{Linked, Linked.stay, bind}
 use Rattle.paper.specs.Component.Labels.{Bond, Joined, Labels}
 use Rattle.paper.specs.Refusal.Rules.{Sizes}
+use Rattle.laws.specs.Numbering.{Smallest, own, carried}
 use Rattle.label.specs.Closure.{one, alike}
 use Rattle.label.specs.Contract.{graphOf, Given}
 use Rattle.label.specs.Entry.{ExactLengths, Below}
@@ -35,33 +37,43 @@ module _ {n d : ℕ} {fwd : List ℕ} {f : ℕ → ℕ → Bool} where
   of-bond : {x y : ℕ} → Bond (graphOf n d fwd) f x y → Part d fwd f 0 n d x y
   of-bond b = record { from = zero-le; below = b .site; dir = b .dir; dir-lt = b .dir-lt; on = b .on; leads = b .leads }
 
-  -- p is the first forest, q has every bond, and l is q made flat
-  pub labelled : {p q l tally : List ℕ} → Own n p → Adds p (Part d fwd f 0 (length p) d) q → Flattened q l tally → Labels (graphOf n d fwd) f l
-  labelled {p} {q} {l} o kq h = record {
-    long = long;
-    joined = λ i il. bind (λ a b. ⊎-elim (self a b) (λ e. one (to-bond (rw (o .long) at e))))
-        (bind (kq .same .to) (kl .same .to i (getD l i 0) (record { site = rw long il; parent = refl })));
-    least = λ i j il jl w. le-trans (le-of-eq (alike (λ (x : ℕ). getD l x 0) root (bind up w))) (kl .down j (rw long jl));
-  }
+  -- p is the first forest, q has every bond, and l has the numbers of the roots of q made flat
+  pub labelled : {p q l tally : List ℕ} {found : ℕ} → Own n p → Adds p (Part d fwd f 0 (length p) d) q → Flattened q l tally found
+      → Labels (graphOf n d fwd) f l found
+  labelled {p} {q} {l} {tally} {found} o kq h = rw all (carried smallest l (h .long ∙ long) (λ i il. h .number i (rw long il)))
     where
-      kl : Keeps q (Edge q) l
+      s : List ℕ
+      s = h .q
+
+      kl : Keeps q (Edge q) s
       kl = h .kept
 
-      long : length l ≡ n
+      long : length s ≡ n
       long = kl .long ∙ (kq .long ∙ o .long)
+
+      all : found ≡ countWhere (own s) n
+      all = rw (← long) (h .all)
 
       self : (a b : ℕ) → Edge p a b → Joined (graphOf n d fwd) f a b
       self a b e = rw (sym (o .own a (rw (o .long) at (e .site))) ∙ e .parent) stay
 
-      up : (a b : ℕ) → Bond (graphOf n d fwd) f a b → Linked (Edge l) a b
+      up : (a b : ℕ) → Bond (graphOf n d fwd) f a b → Linked (Edge s) a b
       up a b e = bind (kl .same .from) (kq .same .from a b (inr (rw (o .long) (of-bond e))))
 
-      root : (a b : ℕ) → Edge l a b → getD l a 0 ≡ getD l b 0
-      root a b e = sym (h .flat a (e .site)) ∙ ap (λ (x : ℕ). getD l x 0) (e .parent)
+      root : (a b : ℕ) → Edge s a b → getD s a 0 ≡ getD s b 0
+      root a b e = sym (h .flat a (e .site)) ∙ ap (λ (x : ℕ). getD s x 0) (e .parent)
+
+      smallest : Smallest (graphOf n d fwd) f s
+      smallest = record {
+        long = long;
+        joined = λ i il. bind (λ a b. ⊎-elim (self a b) (λ e. one (to-bond (rw (o .long) at e))))
+            (bind (kq .same .to) (kl .same .to i (getD s i 0) (record { site = rw long il; parent = refl })));
+        least = λ i j il jl w. le-trans (le-of-eq (alike (λ (x : ℕ). getD s x 0) root (bind up w))) (kl .down j (rw long jl));
+      }
 
 -- what the entry's tests leave
-pub given-by : {n d : ℕ} {fwd holds : List ℕ} {counted labels counts sizes tally : ℕ} → Sizes n d 1
-    → ExactLengths n d (length fwd) (length holds) counted labels counts sizes → Below n fwd → tally ≡ n
+pub given-by : {n d : ℕ} {fwd holds : List ℕ} {counted labels counts sizes found tally : ℕ} → Sizes n d 1
+    → ExactLengths n d (length fwd) (length holds) counted labels counts sizes found → Below n fwd → tally ≡ n
     → Given n d fwd holds labels tally
 given-by {n} {d} {fwd} z x h e = record {
   n-high = z .n-high;

@@ -9,6 +9,7 @@ use Rattle.paper.specs.Panel.Input.{Graph}
 use Rattle.paper.specs.Component.Labels.{Labels}
 use Rattle.paper.specs.Component.Marks.{marked}
 use Rattle.paper.specs.Component.Sizes.{Sized, Counted, Largest}
+use Rattle.laws.specs.Numbering.{Ranked}
 
 abbrev pub graphOf : ℕ → ℕ → List ℕ → Graph
 graphOf n d fwd = record { n = n; d = d; fwd = fwd }
@@ -23,18 +24,19 @@ pub record Given (n d : ℕ) (fwd holds : List ℕ) (labels tally : ℕ) : Type 
   pub labels-long : labels ≡ n
   pub tally-long : tally ≡ n
 
--- the labels of the bonds whose byte is 1, and at each label the number of its sites
-pub record Labelled (n d : ℕ) (fwd holds l tally : List ℕ) : Type 0 where
-  pub labels : Labels (graphOf n d fwd) (marked d holds) l
+-- the labels of the bonds whose byte is 1, how many there are, and at each label the number of its sites
+pub record Labelled (n d : ℕ) (fwd holds l tally : List ℕ) (found : ℕ) : Type 0 where
+  pub labels : Labels (graphOf n d fwd) (marked d holds) l found
   pub sized : Sized l tally
 
 -- the byte at r is 1
 abbrev pub isOne : List ℕ → ℕ → Bool
 isOne marks r = eqb (getD marks r 0) 1
 
--- labels with their tally, a byte for each site, and places for the counts and the four sizes
+-- numbers with their tally, a byte for each site, and places for the counts and the four sizes
 pub record Countable (labels tally marks : List ℕ) (counts sizes : ℕ) : Type 0 where
   pub n-high : length labels ≤ 4096
+  pub ranked : Ranked labels
   pub sized : Sized labels tally
   pub marked : length marks ≡ length labels
   pub counts-long : counts ≡ length labels + 1
@@ -53,7 +55,7 @@ pub record LabelLent (n d : ℕ) (fwd holds marks : List ℕ) (labels counts siz
   pub sizes-long : sizes ≡ 4
   pub tally-fits : n ≤ tally
 
--- the labels, and of the components whose smallest site has the byte 1 the counts and sizes
-pub record Seen (n d : ℕ) (fwd holds marks l counts sizes : List ℕ) : Type 0 where
-  pub labels : Labels (graphOf n d fwd) (marked d holds) l
+-- the labels, how many there are, and of the components whose smallest site has the byte 1 the counts and sizes
+pub record Seen (n d : ℕ) (fwd holds marks l counts sizes : List ℕ) (found : ℕ) : Type 0 where
+  pub labels : Labels (graphOf n d fwd) (marked d holds) l found
   pub reported : Reported (isOne marks) l counts sizes

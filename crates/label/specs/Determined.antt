@@ -7,7 +7,7 @@ use lib.Seq.{ext-getD}
 use Rattle.paper.specs.Component.Marks.{marked}
 use Rattle.paper.specs.Component.Sizes.{Sized}
 use Rattle.paper.specs.Refusal.Rule.{Kept, Broken, broken-unique, broken-not-kept}
-use Rattle.laws.specs.Unique.{labels-unique, counts-unique, sizes-unique}
+use Rattle.laws.specs.Unique.{labels-unique, found-unique, numbered-unique, counts-unique, sizes-unique}
 use Rattle.label.specs.declared.Labelling.{Labelling}
 use Rattle.label.specs.declared.Labelling.the-variants.{Unlabelled, Written}
 use Rattle.label.specs.Contract.{graphOf, Labelled, Reported}
@@ -21,8 +21,12 @@ pub record SameTwo (a a′ b b′ : List ℕ) : Type 0 where
 tally-unique : (l t t′ : List ℕ) → Sized l t → Sized l t′ → t ≡ t′
 tally-unique l t t′ h h′ = ext-getD 0 t t′ (h .long ∙ sym (h′ .long)) (λ i il. h .each i (rw (h .long) at il) ∙ sym (h′ .each i (rw (h .long) at il)))
 
-pub label-determined : (n d : ℕ) (fwd holds l l′ t t′ : List ℕ) → Labelled n d fwd holds l t → Labelled n d fwd holds l′ t′ → SameTwo l l′ t t′
-label-determined n d fwd holds l l′ t t′ h h′ = record { first = same; second = tally-unique l t t′ (h .sized) (rw same (h′ .sized)) }
+pub label-determined : (n d : ℕ) (fwd holds l l′ t t′ : List ℕ) (m m′ : ℕ) → Labelled n d fwd holds l t m → Labelled n d fwd holds l′ t′ m′
+    → SameTwo l l′ t t′ × (m ≡ m′)
+label-determined n d fwd holds l l′ t t′ m m′ h h′ = (
+  record { first = same; second = tally-unique l t t′ (h .sized) (rw same (h′ .sized)) },
+  found-unique (graphOf n d fwd) (marked d holds) l l′ (h .labels) (h′ .labels),
+)
   where
     same : l ≡ l′
     same = labels-unique (graphOf n d fwd) (marked d holds) l l′ (h .labels) (h′ .labels)
@@ -36,10 +40,15 @@ pub record Same (a a′ : Labelling) (b b′ : Lent) : Type 0 where
 
 module _ (r : Request) (b y z : Lent) where
   written-same : Accepts r b y → Accepts r b z → y ≡ z
-  written-same p q = λ i. record { labels = l i; counts = two .first i; sizes = two .second i }
+  written-same p q = λ i. record { labels = l i; counts = two .first i; sizes = two .second i; found = both .1 i }
     where
+      both : (y .labels ≡ z .labels) × (y .found ≡ z .found)
+      both =
+          numbered-unique (graphOf (r .n) (r .d) (r .fwd)) (marked (r .d) (r .holds)) (y .labels) (z .labels) (y .found) (z .found)
+          (record { labels = p .seen .labels; one = p .one }) (record { labels = q .seen .labels; one = q .one })
+
       l : y .labels ≡ z .labels
-      l = labels-unique (graphOf (r .n) (r .d) (r .fwd)) (marked (r .d) (r .holds)) (y .labels) (z .labels) (p .seen .labels) (q .seen .labels)
+      l = both .0
 
       two : SameTwo (y .counts) (z .counts) (y .sizes) (z .sizes)
       two = count-determined (y .labels) (y .counts) (z .counts) (y .sizes) (z .sizes) (p .seen .reported) (rw l (q .seen .reported))

@@ -22,18 +22,21 @@ pub record Lent : Type 0 where
   pub labels : List ℕ
   pub counts : List ℕ
   pub sizes : List ℕ
+  pub found : List ℕ
 
-pub record ExactLengths (n d fwd holds counted labels counts sizes : ℕ) : Type 0 where
+pub record ExactLengths (n d fwd holds counted labels counts sizes found : ℕ) : Type 0 where
   pub fwd-long : fwd ≡ n * d
   pub holds-long : holds ≡ n * d
   pub counted-long : counted ≡ n
   pub labels-long : labels ≡ n
   pub counts-long : counts ≡ n + 1
   pub sizes-long : sizes ≡ 4
+  pub found-long : found ≡ 1
 
 abbrev pub Exact : Request → Lent → Type 0
 Exact r b =
     ExactLengths (r .n) (r .d) (length (r .fwd)) (length (r .holds)) (length (r .counted)) (length (b .labels)) (length (b .counts)) (length (b .sizes))
+    (length (b .found))
 
 abbrev pub Below : ℕ → List ℕ → Type 0
 Below n xs = (k : ℕ) → k < length xs → getD xs k 0 < n
@@ -56,10 +59,11 @@ pub record Refuses (r : Request) (b : Lent) (c : ℕ) (b′ : Lent) : Type 0 whe
   pub why : Broken (rules r b) c
   pub kept : b′ ≡ b
 
--- accepted: the labels of the bonds whose byte is 1, and the counts and sizes of the components whose smallest site's byte is 1
+-- accepted: the labels of the bonds whose byte is 1, how many there are, and the counts and sizes of the components whose smallest site's byte is 1
 pub record Accepts (r : Request) (b b′ : Lent) : Type 0 where
   pub valid : Verdict (rules r b) (labellingNumber Written)
-  pub seen : Seen (r .n) (r .d) (r .fwd) (r .holds) (r .counted) (b′ .labels) (b′ .counts) (b′ .sizes)
+  pub seen : Seen (r .n) (r .d) (r .fwd) (r .holds) (r .counted) (b′ .labels) (b′ .counts) (b′ .sizes) (getD (b′ .found) 0 0)
+  pub one : length (b′ .found) ≡ 1
 
 -- the answer a may be given to the request r with the lent buffers b, which then hold b′
 abbrev pub Answers : Request → Lent → Labelling → Lent → Type 0

@@ -7,27 +7,34 @@ use mathlib.Core.List.{List}
 use lib.Dec.{eqb, leb}
 use lib.ListN.{length, getD}
 use Rattle.lemmas.specs.Counts.{bit, countWhere}
-use Rattle.paper.specs.Component.Sizes.{counted, Sized}
+use Rattle.paper.specs.Component.Sizes.{labelOf, counted, Sized}
+use Rattle.laws.specs.Numbering.{Ranked}
 use Rattle.label.specs.Contract.{isOne}
 
 pub record Picking (l tally marks : List ℕ) (room : ℕ) : Type 0 where
   pub n-high : length l ≤ 4096
+  pub ranked : Ranked l
   pub sized : Sized l tally
   pub marked : length marks ≡ length l
   pub fits : length l ≤ room
 
--- r is the label of a counted component of one site; of another size
+-- what the tally has at the label of the site i
+abbrev pub tallyAt : List ℕ → List ℕ → ℕ → ℕ
+tallyAt l tally i = getD tally (labelOf l i) 0
+
+-- i is the smallest site of a counted component of one site; of another size
 abbrev pub single : List ℕ → List ℕ → List ℕ → ℕ → Bool
-single l tally marks r = counted (isOne marks) l r && eqb (getD tally r 0) 1
+single l tally marks i = counted (isOne marks) l i && eqb (tallyAt l tally i) 1
 
 abbrev pub several : List ℕ → List ℕ → List ℕ → ℕ → Bool
-several l tally marks r = counted (isOne marks) l r && not (eqb (getD tally r 0) 1)
+several l tally marks i = counted (isOne marks) l i && not (eqb (tallyAt l tally i) 1)
 
--- the first m of the list are the tallies of the counted components that have not one site: as many pass each test
-pub record Picked (l tally marks list : List ℕ) (m : ℕ) : Type 0 where
+-- so many counted components have one site, and the first m of the list are the tallies of the others: as many pass each test
+pub record Picked (l tally marks list : List ℕ) (ones m : ℕ) : Type 0 where
+  pub singles : ones ≡ countWhere (single l tally marks) (length l)
   pub short : m ≤ length l
   pub low : (t : ℕ) → t < m → getD list t 0 ≤ length l
-  pub same : (f : ℕ → Bool) → countWhere (λ t. f (getD list t 0)) m ≡ countWhere (λ r. several l tally marks r && f (getD tally r 0)) (length l)
+  pub same : (f : ℕ → Bool) → countWhere (λ t. f (getD list t 0)) m ≡ countWhere (λ i. several l tally marks i && f (tallyAt l tally i)) (length l)
 
 -- how many of so many sizes 1 pass a test
 abbrev pub onesPass : ℕ → (ℕ → Bool) → ℕ

@@ -4,7 +4,9 @@ use mathlib.Core.Path.{_≡_}
 use mathlib.Core.Bool.{Bool, true}
 use mathlib.Core.List.{List}
 use lib.ListN.{length, getD}
+use Rattle.lemmas.specs.Counts.{countWhere}
 use Rattle.paper.specs.Component.Sizes.{Sized}
+use Rattle.laws.specs.Numbering.{own}
 use Rattle.label.specs.Forest.{Edge, Down, Keeps, Flat}
 
 -- each site is its own parent
@@ -94,7 +96,12 @@ pub record Flattening (p : List ℕ) (room : ℕ) : Type 0 where
   pub tally-long : room ≡ length p
   pub down : Down p
 
-pub record Flattened (p q tally : List ℕ) : Type 0 where
+-- a site's number is how many roots stand before its own, in a flat forest q that links what p does; all roots are counted
+pub record Flattened (p l tally : List ℕ) (found : ℕ) : Type 0 where
+  pub q : List ℕ
   pub kept : Keeps p (Edge p) q
   pub flat : Flat q (length q)
-  pub sized : Sized q tally
+  pub long : length l ≡ length q
+  pub number : (x : ℕ) → x < length q → getD l x 0 ≡ countWhere (own q) (getD q x 0)
+  pub all : found ≡ countWhere (own q) (length q)
+  pub sized : Sized l tally

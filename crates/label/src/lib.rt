@@ -1,23 +1,34 @@
-// Components of holding bonds: the label of each site, how many components there are of each size, and the four largest sizes.
+// Components of holding bonds: the number of each site's component, how many components there are in all and of each size, and the four largest sizes.
 ghost use mathlib.Core.Path.{_≡_};
-ghost use Prim.Native.Nat.{ℕ, _+_, _≤_, _<_};
+ghost use Prim.Native.Nat.{_≤_, _<_};
 ghost use lib.ListN.{length};
-ghost use Rattle.lemmas.specs.Counts.{bit, countWhere};
+ghost use mathlib.Core.Bool.{cond};
+ghost use Rattle.lemmas.specs.Counts.{bit};
 ghost use Rattle.paper.specs.Component.Marks.{marked};
 ghost use Rattle.lemmas.specs.Tells.{Tells};
 ghost use Rattle.label.specs.Closure.{Only};
 ghost use Rattle.label.specs.Contract.{isOne, Given, Labelled, Countable, Reported, LabelLent, Seen};
 ghost use Rattle.label.specs.Forest.{Adds};
 ghost use Rattle.label.specs.Entry.{ExactLengths, Below, Answers};
-ghost use Rattle.label.specs.Sizes.{Picking, single, Picked, Started, Histogramming, Histogram, onesOrMore, allOrMore, Top4, with, Falling};
+ghost use Rattle.label.specs.Sizes.{Picking, Picked, Started, Histogramming, Histogram};
 ghost use Rattle.label.specs.Steps.{Own, Climbing, Gathering, Gathered, Listing, Listed, Part, Block, Ends, Bonding, Flattening, Flattened};
+
+mod top;
+
 use lemmas::wide;
 use lemmas::words::clear;
+use top::top4_sizes;
 
 fn one(yes: bool) -> usize
     ensures { λ r. ⌜ r ≡ bit yes ⌝ }
 {
     if yes { 1 } else { 0 }
+}
+
+fn pick(yes: bool, a: u32, b: u32) -> u32
+    ensures { λ r. ⌜ r ≡ cond yes a b ⌝ }
+{
+    if yes { a } else { b }
 }
 
 // Each site its own parent.
@@ -130,63 +141,72 @@ fn uf_bonds(d: usize, fwd: &[u32], holds: &[u8], labels: &mut [u32], list: &mut 
     }
 }
 
-// Makes each site's root its parent, and tallies the sites of each root. A parent comes before its site, so its own parent is its root by then.
-fn uf_flatten_counts(labels: &mut [u32], tally: &mut [u32])
+// Numbers the components in the order of their roots, which are their smallest sites, and tallies the sites of each number. A root takes the next
+// number; any other site takes that of its parent, which comes before it. Returns how many there are.
+fn uf_flatten_counts(labels: &mut [u32], tally: &mut [u32]) -> u32
     requires { ⌜ Flattening (now labels) (length (now tally)) ⌝ }
-    ensures { λ _. ⌜ Flattened (now (labels .entry)) (now (labels .exit)) (now (tally .exit)) ⌝ }
+    ensures { λ r. ⌜ Flattened (now (labels .entry)) (now (labels .exit)) (now (tally .exit)) r ⌝ }
 {
+    let mut next: u32 = 0;
     let mut i = 0;
     while i < labels.len() {
         let p = wide(labels[i]);
-        let r = labels[p];
+        let own = p == i;
+        let r = pick(own, next, labels[p]);
         labels[i] = r;
         tally[i] = 0;
         let at = wide(r);
         tally[at] = tally[at] + 1;
+        next += own as u32;
         i += 1;
     }
+    next
 }
 
-// Writes each site's label, the smallest site that it is joined to, and at each label the number of its sites.
-pub fn label(n: usize, d: usize, fwd: &[u32], holds: &[u8], labels: &mut [u32], tally: &mut [u32])
+// Writes the number of each site's component, and at each number that of its sites. Returns how many components there are.
+pub fn label(
+    n: usize,
+    d: usize,
+    fwd: &[u32],
+    holds: &[u8],
+    labels: &mut [u32],
+    tally: &mut [u32],
+) -> u32
     requires { ⌜ Given n d (now fwd) (now holds) (length (now labels)) (length (now tally)) ⌝ }
-    ensures { λ _. ⌜ Labelled n d (now (fwd .entry)) (now (holds .entry)) (now (labels .exit)) (now (tally .exit)) ⌝ }
+    ensures { λ r. ⌜ Labelled n d (now (fwd .entry)) (now (holds .entry)) (now (labels .exit)) (now (tally .exit)) r ⌝ }
 {
     start(labels);
     uf_bonds(d, fwd, holds, labels, tally);
-    uf_flatten_counts(labels, tally);
+    uf_flatten_counts(labels, tally)
 }
 
-// How many components have one site. Where few sites act these are most, and to count them size by size is a chain of stores to one place.
-fn count_singles(labels: &[u32], tally: &[u32], marks: &[u8]) -> u32
-    requires { ⌜ Picking (now labels) (now tally) (now marks) (length (now labels)) ⌝ }
-    ensures { λ r. ⌜ r ≡ countWhere (single (now (labels .entry)) (now (tally .entry)) (now (marks .entry))) (length (now (labels .entry))) ⌝ }
+// How many of the counted components have one site, and how many others are listed.
+struct Split {
+    ones: u32,
+    len: usize,
+}
+
+// Counts the counted components of one site, and lists the sizes of the others as `gather` lists sites. A site is the first of its component exactly
+// if its number is the next one. Where few sites act most components have one site, and to count them size by size is a chain of stores to one place.
+fn gather_sizes(labels: &[u32], tally: &[u32], marks: &[u8], list: &mut [u32]) -> Split
+    requires { ⌜ Picking (now labels) (now tally) (now marks) (length (now list)) ⌝ }
+    ensures { λ r. ⌜ Picked (now (labels .entry)) (now (tally .entry)) (now (marks .entry)) (now (list .exit)) (r .ones) (r .len) ⌝ }
 {
     let mut ones: u32 = 0;
-    let mut i = 0;
-    while i < labels.len() {
-        let own = (labels[i] == i as u32) & (marks[i] == 1);
-        ones += (own & (tally[i] == 1)) as u32;
-        i += 1;
-    }
-    ones
-}
-
-// Lists the sizes of the other components, as `gather` lists sites.
-fn gather_sizes(labels: &[u32], tally: &[u32], marks: &[u8], list: &mut [u32]) -> usize
-    requires { ⌜ Picking (now labels) (now tally) (now marks) (length (now list)) ⌝ }
-    ensures { λ r. ⌜ Picked (now (labels .entry)) (now (tally .entry)) (now (marks .entry)) (now (list .exit)) r ⌝ }
-{
     let mut len = 0;
+    let mut next = 0;
     let mut i = 0;
     while i < labels.len() {
-        let size = tally[i];
+        let size = tally[next];
         list[len] = size;
-        let own = (wide(labels[i]) == i) & (marks[i] == 1);
+        let first = wide(labels[i]) == next;
+        let own = first & (marks[i] == 1);
+        ones += (own & (size == 1)) as u32;
         len += one(own & (size != 1));
+        next += one(first);
         i += 1;
     }
-    len
+    Split { ones, len }
 }
 
 // Every count is 0 but that of the size 1.
@@ -215,72 +235,15 @@ fn uf_histogram(sizes: &[u32], ones: u32, counts: &mut [u32])
     }
 }
 
-// Four sizes, falling.
-struct Top(u32, u32, u32, u32);
-
-// The four largest of five sizes.
-fn insert(t: Top, x: u32) -> Top
-    ensures { λ r. ⌜ ((g : ℕ → ℕ) → Falling g → Top4 g (t .0) (t .1) (t .2) (t .3) → Top4 (with g x) (r .0) (r .1) (r .2) (r .3)) ⌝ }
-{
-    let a = t.0;
-    let b = t.1;
-    let c = t.2;
-    let d = t.3;
-    if x <= d {
-        return Top(a, b, c, d);
-    }
-    if x <= c {
-        return Top(a, b, c, x);
-    }
-    if x <= b {
-        return Top(a, b, x, c);
-    }
-    if x <= a {
-        return Top(a, x, b, c);
-    }
-    Top(x, a, b, c)
-}
-
-// The four largest of so many sizes 1, zero filled.
-fn top_ones(ones: u32) -> Top
-    ensures { λ r. ⌜ Top4 (onesOrMore ones) (r .0) (r .1) (r .2) (r .3) ⌝ }
-{
-    if ones == 0 {
-        return Top(0, 0, 0, 0);
-    }
-    if ones == 1 {
-        return Top(1, 0, 0, 0);
-    }
-    if ones == 2 {
-        return Top(1, 1, 0, 0);
-    }
-    if ones == 3 {
-        return Top(1, 1, 1, 0);
-    }
-    Top(1, 1, 1, 1)
-}
-
-// The four largest sizes of the list and of so many sizes 1, zero filled.
-fn top4_sizes(sizes: &[u32], ones: u32) -> Top
-    ensures { λ r. ⌜ Top4 (allOrMore ones (now (sizes .entry)) (length (now (sizes .entry)))) (r .0) (r .1) (r .2) (r .3) ⌝ }
-{
-    let mut t = top_ones(ones);
-    let mut i = 0;
-    while i < sizes.len() {
-        t = insert(t, sizes[i]);
-        i += 1;
-    }
-    t
-}
-
 // Writes the number of components of each size and the four largest sizes, of those whose smallest site has the mark 1.
 pub fn count(labels: &[u32], tally: &[u32], marks: &[u8], counts: &mut [u32], sizes: &mut [u32])
     requires { ⌜ Countable (now labels) (now tally) (now marks) (length (now counts)) (length (now sizes)) ⌝ }
     ensures { λ _. ⌜ Reported (isOne (now (marks .entry))) (now (labels .entry)) (now (counts .exit)) (now (sizes .exit)) ⌝ }
 {
     let mut list = [0u32; 4096];
-    let ones = count_singles(labels, tally, marks);
-    let len = gather_sizes(labels, tally, marks, &mut list);
+    let s = gather_sizes(labels, tally, marks, &mut list);
+    let ones = s.ones;
+    let len = s.len;
     uf_histogram(&list[..len], ones, counts);
     let t = top4_sizes(&list[..len], ones);
     sizes[0] = t.0;
@@ -298,9 +261,10 @@ fn exact(
     labels: usize,
     counts: usize,
     sizes: usize,
+    found: usize,
 ) -> bool
     requires { ⌜ (n ≤ 4096) × (d ≤ 4) ⌝ }
-    ensures { λ r. ⌜ Tells r (ExactLengths n d fwd holds counted labels counts sizes) ⌝ }
+    ensures { λ r. ⌜ Tells r (ExactLengths n d fwd holds counted labels counts sizes found) ⌝ }
 {
     let table = n * d;
     (fwd == table)
@@ -309,6 +273,7 @@ fn exact(
         & (labels == n)
         & (counts == n + 1)
         & (sizes == 4)
+        & (found == 1)
 }
 
 // One pass without an exit, which the compiler makes vector code of.
@@ -334,14 +299,15 @@ fn label_and_count(
     counts: &mut [u32],
     sizes: &mut [u32],
     tally: &mut [u32],
-)
+) -> u32
     requires { ⌜ LabelLent n d (now fwd) (now holds) (now counted)
         (length (now labels)) (length (now counts)) (length (now sizes)) (length (now tally)) ⌝ }
-    ensures { λ _. ⌜ Seen n d (now (fwd .entry)) (now (holds .entry)) (now (counted .entry))
-        (now (labels .exit)) (now (counts .exit)) (now (sizes .exit)) ⌝ }
+    ensures { λ r. ⌜ Seen n d (now (fwd .entry)) (now (holds .entry)) (now (counted .entry))
+        (now (labels .exit)) (now (counts .exit)) (now (sizes .exit)) r ⌝ }
 {
-    label(n, d, fwd, holds, labels, &mut tally[..n]);
+    let found = label(n, d, fwd, holds, labels, &mut tally[..n]);
     count(labels, &tally[..n], counted, counts, sizes);
+    found
 }
 
 // A refusal with its number, or all is written.
@@ -350,8 +316,8 @@ pub enum Labelling {
     Written,
 }
 
-// The labels, counts and four largest sizes of any tables: what is no lattice is refused, and nothing is written. A component is counted where the byte
-// of its smallest site is 1.
+// The labels, counts and four largest sizes of any tables, and how many components there are: what is no lattice is refused, and nothing is written.
+// A component is counted where the byte of its smallest site is 1; numbered are all.
 pub fn components(
     n: usize,
     d: usize,
@@ -361,12 +327,13 @@ pub fn components(
     labels: &mut [u32],
     counts: &mut [u32],
     sizes: &mut [u32],
+    found: &mut [u32],
 ) -> Labelling
     ensures { λ r. ⌜ Answers
         (record { n = n; d = d; fwd = now (fwd .entry); holds = now (holds .entry); counted = now (counted .entry) })
-        (record { labels = now (labels .entry); counts = now (counts .entry); sizes = now (sizes .entry) })
+        (record { labels = now (labels .entry); counts = now (counts .entry); sizes = now (sizes .entry); found = now (found .entry) })
         r
-        (record { labels = now (labels .exit); counts = now (counts .exit); sizes = now (sizes .exit) }) ⌝ }
+        (record { labels = now (labels .exit); counts = now (counts .exit); sizes = now (sizes .exit); found = now (found .exit) }) ⌝ }
 {
     if !lattice::sizes_ok(n, d, 1) {
         return Labelling::Unlabelled(1);
@@ -380,6 +347,7 @@ pub fn components(
         labels.len(),
         counts.len(),
         sizes.len(),
+        found.len(),
     ) {
         return Labelling::Unlabelled(2);
     }
@@ -393,6 +361,6 @@ pub fn components(
         return Labelling::Unlabelled(9);
     }
     let mut tally = [0u32; 4096];
-    label_and_count(n, d, fwd, holds, counted, labels, counts, sizes, &mut tally);
+    found[0] = label_and_count(n, d, fwd, holds, counted, labels, counts, sizes, &mut tally);
     Labelling::Written
 }

@@ -55,8 +55,22 @@ fn agrees(
     marks: &mut [u32],
     tally: &mut [u32],
 ) -> bool {
-    let a = label::components(n, d, fwd, holds, counted, labels, counts, sizes);
-    written(a) & right(d, fwd, holds, counted, labels, counts, sizes, marks, tally)
+    let mut found = [0u32; 1];
+    let a = label::components(n, d, fwd, holds, counted, labels, counts, sizes, &mut found);
+    let m = found[0];
+    written(a)
+        & right(
+            d,
+            fwd,
+            holds,
+            counted,
+            labels,
+            counts,
+            sizes,
+            m,
+            marks,
+            tally,
+        )
 }
 
 // One run on a table of n sites with d bonds each. So many sites of eight have the byte 1, by which a component counts.

@@ -1,5 +1,5 @@
-// What labels, counts and sizes must be, found in another way: each end of a bond takes the smaller mark until no mark changes, and the counts and
-// sizes are held against the number of sites of each mark.
+// What labels, counts and sizes must be, found in another way: each end of a bond takes the smaller mark until no mark changes. The labels are held
+// against the marks in their order, and the counts and sizes against the number of sites of each mark.
 use lemmas::wide;
 use lemmas::words::clear;
 use std::num::wrapping_add_u32;
@@ -79,15 +79,23 @@ fn settle(d: usize, fwd: &[u32], holds: &[u8], marks: &mut [u32]) -> bool {
     false
 }
 
-// Whether the numbers of a stand in b.
-fn same(a: &[u32], b: &[u32]) -> bool {
+fn pick(yes: bool, a: u32, b: u32) -> u32 {
+    if yes { a } else { b }
+}
+
+// Whether each site that is its own mark has the next number, any other the number of its mark, and there are as many as were found.
+fn numbered(labels: &[u32], marks: &[u32], found: u32) -> bool {
     let mut ok = true;
+    let mut next: u32 = 0;
     let mut i = 0;
-    while i < a.len() {
-        ok = ok & (a[i] == get(b, i));
+    while i < labels.len() {
+        let m = wide(get(marks, i));
+        let first = m == i;
+        ok = ok & (labels[i] == pick(first, next, get(labels, m)));
+        next = wrapping_add_u32(next, first as u32);
         i += 1;
     }
-    ok
+    ok & (next == found)
 }
 
 // How many sites have each mark.
@@ -169,11 +177,12 @@ pub(crate) fn right(
     labels: &[u32],
     counts: &mut [u32],
     sizes: &[u32],
+    found: u32,
     marks: &mut [u32],
     tally: &mut [u32],
 ) -> bool {
     let settled = settle(d, fwd, holds, marks);
     gather(marks, tally);
     let fine = sizes_right(counts, sizes);
-    settled & fine & same(labels, marks) & counts_right(tally, counted, counts)
+    settled & fine & numbered(labels, marks, found) & counts_right(tally, counted, counts)
 }

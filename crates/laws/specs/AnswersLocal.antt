@@ -20,12 +20,21 @@ use Rattle.paper.specs.Refusal.Rules.{AllSystems, Spins, Exact, Seeded, Permute
 use Rattle.paper.specs.Refusal.Kept.{Valid, valid-of, valid-kept}
 use Rattle.paper.specs.Answer.Move.{SeenAll, SeenOne, Seen, memberBonds, Turns, Answers, Accepted, Accepted.idle, Accepted.moved}
 use Rattle.laws.specs.Forms.{grows-one, grows-moves}
-use Rattle.laws.specs.Unique.{HoldAlike, GroupIs, OthersOf, label-lt, spins-equal, labels-ext, members-ext, counts-ext, sizes-ext}
+use Rattle.laws.specs.Unique.{HoldAlike, GroupIs, OthersOf, label-lt, spins-equal, numbered-ext, members-ext, counts-ext, sizes-ext}
 use Rattle.laws.specs.Entries.{permOf, form-moves, perms-of, perms-grown}
 use Rattle.laws.specs.Local.{Agree, Alike, acts-local, holds-local, grey-local, final-local}
 
 abbrev pub withSpins : Buffers → List ℤ → Buffers
-withSpins b xs = record { spins = xs; labels = b .labels; greyLabels = b .greyLabels; counts = b .counts; sizes = b .sizes; members = b .members }
+withSpins b xs = record {
+  spins = xs;
+  labels = b .labels;
+  greyLabels = b .greyLabels;
+  counts = b .counts;
+  sizes = b .sizes;
+  members = b .members;
+  found = b .found;
+  greyFound = b .greyFound;
+}
 
 -- ys has the group's rows of `to` and the other rows of xs
 pub record Rows (c : Call) (xs to ys : List ℤ) : Type 0 where
@@ -72,6 +81,8 @@ module _ {c : Call} {p : Choices} {b : Buffers} {xs : List ℤ} (s : Instead c b
     counts = e .counts;
     sizes = e .sizes;
     members = e .members;
+    found = e .found;
+    grey-found = e .grey-found;
   }
 
   seeded-there : Seeded c xs
@@ -110,17 +121,19 @@ module _ {c : Call} {p : Choices} {b : Buffers} {xs : List ℤ} (s : Instead c b
 
   all-there : {b′ : Buffers} → SeenAll c b b′ → (ys : List ℤ) → SeenAll c (withSpins b xs) (withSpins b′ ys)
   all-there {b′} w ys = record {
-    labels = labels-ext (graph c) (holds c (b .spins)) (holds c xs) (b′ .labels) blue (w .labels);
+    labels = numbered-ext (graph c) (holds c (b .spins)) (holds c xs) (b′ .labels) (b′ .found) blue (w .labels);
     grey-labels = λ t.
-        labels-ext (graph c) (holdsGrey c (b .spins)) (holdsGrey c xs) (b′ .greyLabels) (grey (and-right (moves (c .form)) _ t)) (w .grey-labels t);
+        numbered-ext (graph c) (holdsGrey c (b .spins)) (holdsGrey c xs) (b′ .greyLabels) (b′ .greyFound) (grey (and-right (moves (c .form)) _ t))
+        (w .grey-labels t);
     grey-kept = w .grey-kept;
+    grey-found-kept = w .grey-found-kept;
     counts = counts-ext (b′ .labels) marks (w .counts);
     sizes = sizes-ext (b′ .labels) marks (w .sizes);
     members-kept = w .members-kept;
   }
     where
       marks : (i : ℕ) → i < length (b′ .labels) → acts c (b .spins) i ≡ acts c xs i
-      marks i h = sym (acts-same i (rw (w .labels .long) at h))
+      marks i h = sym (acts-same i (rw (w .labels .labels .long) at h))
 
   one-there : {b′ : Buffers} → growsBy (c .form) ≡ true → SeenOne c b b′ → (ys : List ℤ) → SeenOne c (withSpins b xs) (withSpins b′ ys)
   one-there {b′} g w ys = record {
@@ -130,6 +143,8 @@ module _ {c : Call} {p : Choices} {b : Buffers} {xs : List ℤ} (s : Instead c b
     grey-kept = w .grey-kept;
     counts-kept = w .counts-kept;
     sizes-kept = w .sizes-kept;
+    found-kept = w .found-kept;
+    grey-found-kept = w .grey-found-kept;
   }
     where
       seed : acts c xs (c .seed) ≡ acts c (b .spins) (c .seed)
@@ -139,8 +154,8 @@ module _ {c : Call} {p : Choices} {b : Buffers} {xs : List ℤ} (s : Instead c b
   seen-there w ys = record { all = λ t. all-there (w .all t) ys; one = λ t. one-there t (w .one t) ys }
 
   perms-at :
-      (l : List ℕ)
-      → Labels (graph c) (holds c (b .spins)) l
+      {found : ℕ} (l : List ℕ)
+      → Labels (graph c) (holds c (b .spins)) l found
       → (i : ℕ)
       → i < c .lattice .n
       → reached c xs l i ≡ true
@@ -191,7 +206,7 @@ module _
     local Moved moved w ys r = let v = valid-of c p b (w .valid) in record {
       valid = valid-kept c p (withSpins b xs) (valid-there s v);
       some = some-back s v (w .some);
-      moved = λ t. moves-there s v (b′ .labels) (b′ .greyLabels) (perms-at s v (b′ .labels) (w .seen .all t .labels)) (w .moved t) ys r;
+      moved = λ t. moves-there s v (b′ .labels) (b′ .greyLabels) (perms-at s v (b′ .labels) (w .seen .all t .labels .labels)) (w .moved t) ys r;
       turned = λ t. turned-there s v t (w .turned t) ys r;
       seen = seen-there s v (w .seen) ys;
     }

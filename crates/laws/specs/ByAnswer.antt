@@ -15,9 +15,11 @@ use Rattle.paper.specs.Panel.Input.{Graph, leadsTo, graph, Call, Choices, Buffe
 use Rattle.paper.specs.Panel.Takes.{labelsBy, takesGreys}
 use Rattle.paper.specs.Site.Acting.{acts, NoneActs}
 use Rattle.paper.specs.Site.Bonds.{holds, holdsGrey}
-use Rattle.paper.specs.Component.Links.{Linked.stay, Linked.along, Linked.against}
-use Rattle.paper.specs.Component.Labels.{Bond, Joined, Labels}
-use Rattle.paper.specs.Component.Sizes.{labelOf, ofSize, atLeast, Counted, Rank, Largest}
+use Rattle.lemmas.specs.Counts.{countWhere}
+use Rattle.lemmas.specs.Places.{Placed}
+use Rattle.paper.specs.Component.Links.{Linked.stay, Linked.along, Linked.against, trans, back}
+use Rattle.paper.specs.Component.Labels.{Bond, Joined, Numbered}
+use Rattle.paper.specs.Component.Sizes.{labelOf, isFirst, ofSize, atLeast, Counted, Rank, Largest}
 use Rattle.paper.specs.Move.Moving.{final}
 use Rattle.paper.specs.Refusal.Rule.{Kept}
 use Rattle.paper.specs.Refusal.Rules.{When, rules}
@@ -25,48 +27,60 @@ use Rattle.paper.specs.Refusal.Kept.{valid-of}
 use Rattle.paper.specs.Refusal.Verdict.{Verdict}
 use Rattle.paper.specs.Answer.Move.{Seen, Answers}
 use Rattle.laws.specs.Forms.{forms-apart}
+use Rattle.laws.specs.Numbering.{first-one, first-of, count-rises, nth}
 use Rattle.laws.specs.Unique.{OthersOf}
 use Rattle.laws.specs.Decided.{Decided, denies, le, lt, eq, same, is, iff, both, either, implies, when, all, some}
 use Rattle.laws.specs.Verdicts.{someActs, refusalOf, verdict}
 
--- ---- labels, by a parent for each site: itself, or a smaller site with the same label and a bond between the two
+-- ---- labels, by a parent for each site: itself where the site is the first with its label, or a smaller site with the same label and a bond between
+-- the two
 abbrev pub HopsTo : Graph → (ℕ → ℕ → Bool) → ℕ → ℕ → Type 0
 HopsTo t holding i j = (e : ℕ) × (e < t .d) × ((holding i e ≡ true) × (leadsTo t i e ≡ j))
 
 abbrev pub Rooted : Graph → (ℕ → ℕ → Bool) → List ℕ → ℕ → ℕ → Type 0
-Rooted t holding l i j = (labelOf l i ≡ i) ⊎ ((j < i) × ((labelOf l j ≡ labelOf l i) × (HopsTo t holding i j ⊎ HopsTo t holding j i)))
+Rooted t holding l i j = (isFirst l i ≡ true) ⊎ ((j < i) × ((labelOf l j ≡ labelOf l i) × (HopsTo t holding i j ⊎ HopsTo t holding j i)))
 
-pub record Forest (t : Graph) (holding : ℕ → ℕ → Bool) (parents l : List ℕ) : Type 0 where
+-- firsts have the numbers from 0 up, in their order
+pub record Forest (t : Graph) (holding : ℕ → ℕ → Bool) (parents l found : List ℕ) : Type 0 where
   pub long : length l ≡ t .n
-  pub low : (i : ℕ) → i < t .n → labelOf l i ≤ i
+  pub one : length found ≡ 1
+  pub rank : (i : ℕ) → i < t .n → isFirst l i ≡ true → labelOf l i ≡ countWhere (isFirst l) i
+  pub all : getD found 0 0 ≡ countWhere (isFirst l) (t .n)
   pub alike : (i : ℕ) → i < t .n → (e : ℕ) → e < t .d → holding i e ≡ true → labelOf l i ≡ labelOf l (leadsTo t i e)
   pub rooted : (i : ℕ) → i < t .n → Rooted t holding l i (getD parents i 0)
 
 abbrev pub hops : (t : Graph) (holding : ℕ → ℕ → Bool) (i j : ℕ) → Decided (HopsTo t holding i j)
 hops t holding i j = some (t .d) (λ e. both (is (holding i e)) (eq (leadsTo t i e) j))
 
-abbrev pub forest : (t : Graph) (holding : ℕ → ℕ → Bool) (parents l : List ℕ) → Decided (Forest t holding parents l)
-forest t holding parents l =
-    iff (λ (a, (b, (c, d))). record { long = a; low = b; alike = c; rooted = d }) (λ r. (r .long, (r .low, (r .alike, r .rooted))))
+abbrev pub forest : (t : Graph) (holding : ℕ → ℕ → Bool) (parents l found : List ℕ) → Decided (Forest t holding parents l found)
+forest t holding parents l found =
+    iff (λ (a, (b, (c, (d, (e, f))))). record { long = a; one = b; rank = c; all = d; alike = e; rooted = f })
+    (λ r. (r .long, (r .one, (r .rank, (r .all, (r .alike, r .rooted))))))
     (both (eq (length l) (t .n))
-    (both (all (t .n) (λ i. le (labelOf l i) i))
+    (both (eq (length found) 1)
+    (both (all (t .n) (λ i. implies (is (isFirst l i)) (eq (labelOf l i) (countWhere (isFirst l) i))))
+    (both (eq (getD found 0 0) (countWhere (isFirst l) (t .n)))
     (both (all (t .n) (λ i. all (t .d) (λ e. implies (is (holding i e)) (eq (labelOf l i) (labelOf l (leadsTo t i e))))))
     (all (t .n) (λ i. let j = getD parents i 0 in
-    either (eq (labelOf l i) i)
-    (both (lt j i) (both (eq (labelOf l j) (labelOf l i)) (either (hops t holding i j) (hops t holding j i)))))))))
+    either (is (isFirst l i))
+    (both (lt j i) (both (eq (labelOf l j) (labelOf l i)) (either (hops t holding i j) (hops t holding j i)))))))))))
 
-module _ {t : Graph} {holding : ℕ → ℕ → Bool} {parents l : List ℕ} (f : Forest t holding parents l) where
+module _ {t : Graph} {holding : ℕ → ℕ → Bool} {parents l found : List ℕ} (f : Forest t holding parents l found) where
   bond : {i j : ℕ} → i < t .n → HopsTo t holding i j → Bond t holding i j
   bond h e = record { site = h; dir = e .0; dir-lt = e .1; on = e .2 .0; leads = e .2 .1 }
 
-  up : (i j : ℕ) → i < t .n → (j < i → Joined t holding j (labelOf l j)) → Rooted t holding l i j → Joined t holding i (labelOf l i)
-  up i j h ih (inl e) = rw e stay
-  up i j h ih (inr (less, (alike, inl e))) = along (bond h e) (rw alike at (ih less))
-  up i j h ih (inr (less, (alike, inr e))) = against (bond (omega arith) e) (rw alike at (ih less))
+  -- each site is joined to the first with its label
+  abbrev ToFirst : ℕ → Type 0
+  ToFirst i = (r : ℕ) → isFirst l r ≡ true → labelOf l r ≡ labelOf l i → Joined t holding i r
 
-  joined : (m i : ℕ) → i < m → i < t .n → Joined t holding i (labelOf l i)
-  joined zero i h hi = absurd (omega arith)
-  joined (suc m) i h hi = up i (getD parents i 0) hi (λ less. joined m (getD parents i 0) (omega arith) (omega arith)) (f .rooted i hi)
+  up : (i j : ℕ) → i < t .n → (j < i → ToFirst j) → Rooted t holding l i j → ToFirst i
+  up i j h ih (inl e) r first same = rw (first-one l r i first e same) stay
+  up i j h ih (inr (less, (alike, inl e))) r first same = along (bond h e) (ih less r first (same ∙ sym alike))
+  up i j h ih (inr (less, (alike, inr e))) r first same = against (bond (omega arith) e) (ih less r first (same ∙ sym alike))
+
+  to-first : (m i : ℕ) → i < m → i < t .n → ToFirst i
+  to-first zero i h hi = absurd (omega arith)
+  to-first (suc m) i h hi = up i (getD parents i 0) hi (λ less. to-first m (getD parents i 0) (omega arith) (omega arith)) (f .rooted i hi)
 
   step : {i j : ℕ} → Bond t holding i j → labelOf l i ≡ labelOf l j
   step {i} e = f .alike i (e .site) (e .dir) (e .dir-lt) (e .on) ∙ ap (labelOf l) (e .leads)
@@ -76,11 +90,30 @@ module _ {t : Graph} {holding : ℕ → ℕ → Bool} {parents l : List ℕ} (f 
   one (along e r) = step e ∙ one r
   one (against e r) = sym (step e) ∙ one r
 
-  pub labels-by : Labels t holding l
+  joined : (i j : ℕ) → i < t .n → j < t .n → labelOf l i ≡ labelOf l j → Joined t holding i j
+  joined i j hi hj e =
+      let r = first-of l i in
+      trans (to-first (suc i) i (omega arith) hi (r .at) (r .is) (r .same))
+      (back (to-first (suc j) j (omega arith) hj (r .at) (r .is) (r .same ∙ e)))
+
+  below : (i : ℕ) → i < t .n → labelOf l i < getD found 0 0
+  below i hi =
+      let r = first-of l i in
+      let h : r .at < t .n = omega (arith, r .low) in
+      omega (arith, r .same, f .rank (r .at) h (r .is), count-rises (isFirst l) (r .at) (t .n) h (r .is), f .all)
+
+  used : (r : ℕ) → r < getD found 0 0 → Placed (t .n) (labelOf l) r
+  used r h =
+      let w = nth (isFirst l) (t .n) r (rw (f .all) at h) in
+      (w .at, w .below, sym (f .rank (w .at) (w .below) (w .passes) ∙ w .before))
+
+  rising : (i j : ℕ) → i < j → j < t .n → isFirst l i ≡ true → isFirst l j ≡ true → labelOf l i < labelOf l j
+  rising i j less hj a b = rw (f .rank i (omega arith) a, f .rank j hj b) (count-rises (isFirst l) i j less a)
+
+  pub labels-by : Numbered t holding l found
   labels-by = record {
-    long = f .long;
-    joined = λ i h. joined (suc i) i (omega arith) h;
-    least = λ i j hi hj w. rw (one w) (f .low j hj);
+    labels = record { long = f .long; joined = joined; same = λ i j hi hj w. one w; below = below; used = used; rising = rising };
+    one = f .one;
   }
 
 -- ---- counts and sizes
@@ -122,8 +155,8 @@ pub record Worked (c : Call) (p : Choices) (b b′ : Buffers) (blue grey : List 
       → k < size c
       → pattern c (b′ .spins) i k ≡ final c p (b .spins) (b′ .labels) (b′ .greyLabels) i k
   pub others : (t : ℕ) → t < c .lattice .s → InGroup c t ⊎ Untouched c (b .spins) (b′ .spins) t
-  pub labels : Forest (graph c) (holds c (b .spins)) blue (b′ .labels)
-  pub grey-labels : When (takesGreys c) (Forest (graph c) (holdsGrey c (b .spins)) grey (b′ .greyLabels))
+  pub labels : Forest (graph c) (holds c (b .spins)) blue (b′ .labels) (b′ .found)
+  pub grey-labels : When (takesGreys c) (Forest (graph c) (holdsGrey c (b .spins)) grey (b′ .greyLabels) (b′ .greyFound))
   pub counts : Counted (acts c (b .spins)) (b′ .labels) (b′ .counts)
   pub sizes : Largest (acts c (b .spins)) (b′ .labels) (b′ .sizes)
   pub members : b′ .members ≡ b .members
@@ -154,15 +187,16 @@ worked c p b b′ blue grey =
     (both (all (c .lattice .s) (λ t.
     either (some (size c) (λ k. eq t (system c k)))
     (all (c .lattice .n) (λ i. same (spin (c .lattice .n) (b′ .spins) t i) (spin (c .lattice .n) (b .spins) t i)))))
-    (both (forest (graph c) (holds c (b .spins)) blue (b′ .labels))
-    (both (when (takesGreys c) (forest (graph c) (holdsGrey c (b .spins)) grey (b′ .greyLabels)))
+    (both (forest (graph c) (holds c (b .spins)) blue (b′ .labels) (b′ .found))
+    (both (when (takesGreys c) (forest (graph c) (holdsGrey c (b .spins)) grey (b′ .greyLabels) (b′ .greyFound)))
     (both (counted (acts c (b .spins)) (b′ .labels) (b′ .counts))
     (both (largest (acts c (b .spins)) (b′ .labels) (b′ .sizes))
     (alike (b′ .members) (b .members)))))))))))
 
 module _
     (c : Call) (p : Choices) (b b′ : Buffers) (blue grey : List ℕ)
-    (test : worked c p b b′ blue grey .test ≡ true) (grey-kept : takesGreys c ≡ false → b′ .greyLabels ≡ b .greyLabels)
+    (test : worked c p b b′ blue grey .test ≡ true)
+    (grey-kept : takesGreys c ≡ false → (b′ .greyLabels ≡ b .greyLabels) × (b′ .greyFound ≡ b .greyFound))
   where
     w : Worked c p b b′ blue grey
     w = worked c p b b′ blue grey .holds test
@@ -175,7 +209,8 @@ module _
       all = λ _. record {
         labels = labels-by (w .labels);
         grey-labels = λ t. labels-by (w .grey-labels t);
-        grey-kept = grey-kept;
+        grey-kept = λ t. grey-kept t .0;
+        grey-found-kept = λ t. grey-kept t .1;
         counts = w .counts;
         sizes = w .sizes;
         members-kept = w .members;

@@ -20,7 +20,7 @@ use Rattle.paper.specs.Site.Acting.{acts}
 use Rattle.paper.specs.Site.Bonds.{bothAct, holdsBy, holds}
 use Rattle.paper.specs.Component.Links.{Linked.stay, Linked.along, Linked.against}
 use Rattle.paper.specs.Component.Labels.{Bond, Joined}
-use Rattle.paper.specs.Component.Sizes.{labelOf, counted, sizeOf, atLeast}
+use Rattle.paper.specs.Component.Sizes.{labelOf, isFirst, counted, sizeOf, atLeast}
 use Rattle.paper.specs.Refusal.Kept.{valid-of}
 use Rattle.paper.specs.Answer.Move.{SeenAll, Answers}
 use Rattle.laws.specs.Forms.{grows-one}
@@ -68,17 +68,18 @@ module _ (c : Call) (p : Choices) (b b′ : Buffers) (w : Answers c p b Idle b�
   seen : SeenAll c b b′
   seen = w .seen .all labelled
 
-  none : (test : ℕ → Bool) → countWhere (λ r. counted (acts c (b .spins)) (b′ .labels) r && test (sizeOf (b′ .labels) r)) (length (b′ .labels)) ≡ 0
+  none : (test : ℕ → Bool)
+      → countWhere (λ i. counted (acts c (b .spins)) (b′ .labels) i && test (sizeOf (b′ .labels) (labelOf (b′ .labels) i))) (length (b′ .labels)) ≡ 0
   none test =
-      count-zero (λ r. counted (acts c (b .spins)) (b′ .labels) r && test (sizeOf (b′ .labels) r)) (length (b′ .labels))
-      (λ r h. off (eqb (labelOf (b′ .labels) r) r) _ _ (w .none r (rw (seen .labels .long) at h)))
+      count-zero (λ i. counted (acts c (b .spins)) (b′ .labels) i && test (sizeOf (b′ .labels) (labelOf (b′ .labels) i))) (length (b′ .labels))
+      (λ i h. off (isFirst (b′ .labels) i) _ _ (w .none i (rw (seen .labels .labels .long) at h)))
     where
       off : (own mark tested : Bool) → mark ≡ false → ((own && mark) && tested) ≡ false
       off true mark tested e = rw e refl
       off false mark tested e = refl
 
   pub idle-counts : (s : ℕ) → s ≤ c .lattice .n → getD (b′ .counts) s 0 ≡ 0
-  idle-counts s h = seen .counts .each s (rw (seen .labels .long) h) ∙ none (λ x. eqb x s)
+  idle-counts s h = seen .counts .each s (rw (seen .labels .labels .long) h) ∙ none (λ x. eqb x s)
 
   pub idle-sizes : (t : ℕ) → t < 4 → getD (b′ .sizes) t 0 ≡ 0
   idle-sizes t h = go (getD (b′ .sizes) t 0) (seen .sizes .each t h .reached)

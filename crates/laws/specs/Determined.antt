@@ -19,7 +19,7 @@ use Rattle.paper.specs.Refusal.Rules.{rules}
 use Rattle.paper.specs.Refusal.Kept.{valid-of}
 use Rattle.paper.specs.Answer.Move.{SeenAll, SeenOne, Seen, memberBonds, Turns, Goes, Answers}
 use Rattle.laws.specs.Forms.{by-form}
-use Rattle.laws.specs.Unique.{labels-unique, members-unique, counts-unique, sizes-unique, moves-unique}
+use Rattle.laws.specs.Unique.{numbered-unique, members-unique, counts-unique, sizes-unique, moves-unique}
 
 pub record Same (a₁ : Answer) (b₁ : Buffers) (a₂ : Answer) (b₂ : Buffers) : Type 0 where
   pub answer : a₁ ≡ a₂
@@ -33,29 +33,44 @@ pub buffers-equal :
     → y .counts ≡ z .counts
     → y .sizes ≡ z .sizes
     → y .members ≡ z .members
+    → y .found ≡ z .found
+    → y .greyFound ≡ z .greyFound
     → y ≡ z
-buffers-equal y z a b c d e f = λ i. record { spins = a i; labels = b i; greyLabels = c i; counts = d i; sizes = e i; members = f i }
+buffers-equal y z a b c d e f g h = λ i. record {
+  spins = a i;
+  labels = b i;
+  greyLabels = c i;
+  counts = d i;
+  sizes = e i;
+  members = f i;
+  found = g i;
+  greyFound = h i;
+}
 
 pub not-both : (c : Call) (xs : List ℤ) → SomeActs c xs → NoneActs c xs → ⊥
 not-both c xs s h = let e = h (s .site) (s .below) in let z : _≡_ {A = ℕ} 0 1 = cc (e, s .does) in omega arith
 
 module _ (c : Call) (p : Choices) (b : Buffers) (y z : Buffers) where
-  grey-same : (t : Bool) → takesGreys c ≡ t → SeenAll c b y → SeenAll c b z → y .greyLabels ≡ z .greyLabels
-  grey-same true e p q = labels-unique (graph c) (holdsGrey c (b .spins)) (y .greyLabels) (z .greyLabels) (p .grey-labels e) (q .grey-labels e)
-  grey-same false e p q = p .grey-kept e ∙ sym (q .grey-kept e)
+  grey-same : (t : Bool) → takesGreys c ≡ t → SeenAll c b y → SeenAll c b z → (y .greyLabels ≡ z .greyLabels) × (y .greyFound ≡ z .greyFound)
+  grey-same true e p q =
+      numbered-unique (graph c) (holdsGrey c (b .spins)) (y .greyLabels) (z .greyLabels) (y .greyFound) (z .greyFound) (p .grey-labels e) (q .grey-labels e)
+  grey-same false e p q = (p .grey-kept e ∙ sym (q .grey-kept e), p .grey-found-kept e ∙ sym (q .grey-found-kept e))
 
-  labels-same : SeenAll c b y → SeenAll c b z → y .labels ≡ z .labels
-  labels-same s t = labels-unique (graph c) (holds c (b .spins)) (y .labels) (z .labels) (s .labels) (t .labels)
+  labels-same : SeenAll c b y → SeenAll c b z → (y .labels ≡ z .labels) × (y .found ≡ z .found)
+  labels-same s t = numbered-unique (graph c) (holds c (b .spins)) (y .labels) (z .labels) (y .found) (z .found) (s .labels) (t .labels)
 
   all-same : y .spins ≡ z .spins → SeenAll c b y → SeenAll c b z → y ≡ z
   all-same e s t =
-      buffers-equal y z e l (grey-same (takesGreys c) refl s t)
+      buffers-equal y z e l (grey .0)
       (counts-unique (y .labels) (y .counts) (z .counts) (s .counts) (rw l (t .counts)))
       (sizes-unique (y .labels) (y .sizes) (z .sizes) (s .sizes) (rw l (t .sizes)))
-      (s .members-kept ∙ sym (t .members-kept))
+      (s .members-kept ∙ sym (t .members-kept)) (labels-same s t .1) (grey .1)
     where
       l : y .labels ≡ z .labels
-      l = labels-same s t
+      l = labels-same s t .0
+
+      grey : (y .greyLabels ≡ z .greyLabels) × (y .greyFound ≡ z .greyFound)
+      grey = grey-same (takesGreys c) refl s t
 
   members-same : (t : Bool) → acts c (b .spins) (c .seed) ≡ t → SeenOne c b y → SeenOne c b z → y .members ≡ z .members
   members-same true e p q =
@@ -65,7 +80,8 @@ module _ (c : Call) (p : Choices) (b : Buffers) (y z : Buffers) where
   one-same : y .spins ≡ z .spins → SeenOne c b y → SeenOne c b z → y ≡ z
   one-same e s t =
       buffers-equal y z e (s .labels-kept ∙ sym (t .labels-kept)) (s .grey-kept ∙ sym (t .grey-kept)) (s .counts-kept ∙ sym (t .counts-kept))
-      (s .sizes-kept ∙ sym (t .sizes-kept)) (members-same (acts c (b .spins) (c .seed)) refl s t)
+      (s .sizes-kept ∙ sym (t .sizes-kept)) (members-same (acts c (b .spins) (c .seed)) refl s t) (s .found-kept ∙ sym (t .found-kept))
+      (s .grey-found-kept ∙ sym (t .grey-found-kept))
 
   seen-same : y .spins ≡ z .spins → Seen c b y → Seen c b z → y ≡ z
   seen-same e s t = go (by-form (c .form))
@@ -85,7 +101,7 @@ module _ (c : Call) (p : Choices) (b : Buffers) (y z : Buffers) where
       again q =
           let s = g .seen .all q in
           let t = h .seen .all q in
-          rw (labels-same s t, grey-same (takesGreys c) refl s t) (h .moved q)
+          rw (labels-same s t .0, grey-same (takesGreys c) refl s t .0) (h .moved q)
 
       turned : Turns c p (b .spins) (y .members) (y .spins) → Turns c p (b .spins) (z .members) (z .spins) → y .members ≡ z .members → y .spins ≡ z .spins
       turned s t e =

@@ -56,6 +56,8 @@ pub record OwnOutputs (c : Call) (b d : Buffers) : Type 0 where
   pub counts : length (b .counts) ≡ c .lattice .n + 1
   pub sizes : length (b .sizes) ≡ 4
   pub members : length (d .members) ≡ c .lattice .n
+  pub found : length (b .found) ≡ 1
+  pub grey-found : When (isCmr (c .mode)) (length (b .greyFound) ≡ 1)
 
 -- the labels that tell the members
 abbrev pub memberLabels : Call → Buffers → List ℕ
@@ -76,9 +78,9 @@ pub record GrowsAs (c : Call) (a : Answer) (b′ : Buffers) (a′ : Answer) (d�
 
 -- ---- labels and members of one component
 member-label :
-    (t : Graph) (holding : ℕ → ℕ → Bool) (seed : ℕ) (l m : List ℕ)
+    (t : Graph) (holding : ℕ → ℕ → Bool) (seed : ℕ) {found : ℕ} (l m : List ℕ)
     → seed < t .n
-    → Labels t holding l
+    → Labels t holding l found
     → Members t holding seed m
     → (i : ℕ)
     → i < t .n
@@ -155,6 +157,8 @@ module _ (c : Call) where
         counts = λ t. never t;
         sizes = λ t. never t;
         members = λ _. own .members;
+        found = λ t. never t;
+        grey-found = λ t. never t;
       }),
       (λ h. record {
         spins = h .spins;
@@ -169,6 +173,8 @@ module _ (c : Call) where
         counts = λ _. own .counts;
         sizes = λ _. own .sizes;
         members = λ t. never t;
+        found = λ _. own .found;
+        grey-found = own .grey-found;
       }),
     )
 
@@ -224,7 +230,7 @@ module _ (c : Call) where
       -- the seed's component, by the bonds that hold and in CMR by the grey ones
       blue-label : (i : ℕ) → i < c .lattice .n → (getD (turned .blue) i 0 ≡ 1) ↔ (labelOf (b′ .labels) i ≡ labelOf (b′ .labels) (c .seed))
       blue-label =
-          member-label (graph c) (holds wolff xs) (c .seed) (b′ .labels) (turned .blue) seed-lt (all .labels)
+          member-label (graph c) (holds wolff xs) (c .seed) (b′ .labels) (turned .blue) seed-lt (all .labels .labels)
           (members-ext (graph c) (holds grow xs) (holds wolff xs) (c .seed) (turned .blue) (holds-same xs) (turned .joined))
 
       members : Members (graph c) (memberBonds grow xs) (c .seed) (d′ .members)
@@ -236,7 +242,7 @@ module _ (c : Call) where
           → i < c .lattice .n
           → (getD (d′ .members) i 0 ≡ 1) ↔ (labelOf (b′ .greyLabels) i ≡ labelOf (b′ .greyLabels) (c .seed))
       grey-label q =
-          member-label (graph c) (holdsGrey wolff xs) (c .seed) (b′ .greyLabels) (d′ .members) seed-lt (all .grey-labels q)
+          member-label (graph c) (holdsGrey wolff xs) (c .seed) (b′ .greyLabels) (d′ .members) seed-lt (all .grey-labels q .labels)
           (members-ext (graph c) (holdsGrey grow xs) (holdsGrey wolff xs) (c .seed) (d′ .members) (grey-same xs) (rw q at members))
 
       plain-label :
@@ -245,7 +251,7 @@ module _ (c : Call) where
           → i < c .lattice .n
           → (getD (d′ .members) i 0 ≡ 1) ↔ (labelOf (b′ .labels) i ≡ labelOf (b′ .labels) (c .seed))
       plain-label q =
-          member-label (graph c) (holds wolff xs) (c .seed) (b′ .labels) (d′ .members) seed-lt (all .labels)
+          member-label (graph c) (holds wolff xs) (c .seed) (b′ .labels) (d′ .members) seed-lt (all .labels .labels)
           (members-ext (graph c) (holds grow xs) (holds wolff xs) (c .seed) (d′ .members) (holds-same xs) (rw q at members))
 
       members-are : MembersBy Moved c b′ d′
@@ -321,4 +327,4 @@ module _ (c : Call) where
     grows-as-wolff a b′ a′ d′ f g = there a b′ a′ d′ f (subst (λ (z : Buffers). Answers grow p z a′ d′) is-onto g)
       where
         is-onto : d ≡ onto b d
-        is-onto = buffers-equal d (onto b d) (own .spins) refl refl refl refl refl
+        is-onto = buffers-equal d (onto b d) (own .spins) refl refl refl refl refl refl refl

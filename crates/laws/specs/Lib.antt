@@ -4,7 +4,9 @@ pub mod Choices
 pub mod Patterns
 pub mod Partners
 pub mod Permuted
+pub mod Numbering
 pub mod Unique
+pub mod Renumbered
 pub mod Decided
 pub mod Verdicts
 pub mod ByAnswer

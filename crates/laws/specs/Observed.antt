@@ -71,6 +71,8 @@ module _ (w : Sweep) (still : moves (w .form) ≡ false) (b b′ : Buffers) (i m
     counts = b′ .counts;
     sizes = b′ .sizes;
     members = b′ .members;
+    found = b′ .found;
+    greyFound = b′ .greyFound;
   }
 
   done : (k : ℕ) → k < tasks w → masked w k ≡ false → Done w b unmoved k
@@ -92,6 +94,8 @@ module _ (w : Sweep) (still : moves (w .form) ≡ false) (b b′ : Buffers) (i m
       sizes = s .lengths .sizes;
       grey-labels = s .lengths .grey-labels;
       members = s .lengths .members;
+      found = s .lengths .found;
+      grey-found = s .lengths .grey-found;
     };
     each = done;
     skipped = s .skipped;
@@ -102,6 +106,8 @@ module _ (w : Sweep) (still : moves (w .form) ≡ false) (b b′ : Buffers) (i m
       counts = s .kept .counts;
       sizes = s .kept .sizes;
       members = s .kept .members;
+      found = s .kept .found;
+      grey-found = s .kept .grey-found;
     };
   }
 

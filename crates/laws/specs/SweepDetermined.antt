@@ -167,8 +167,20 @@ module _ (w : Sweep) (b y z : Buffers) (i₁ m₁ i₂ m₂ : ℕ) (p : Sweeps w
       part-same (growsBy (w .form)) (w .lattice .n) (λ v. v .members) some (valid .exact .members) (p .lengths .members) (q .lengths .members)
       (areas-same (λ v. v .members) (λ v xs xs′ k. refl)) (p .kept .members) (q .kept .members)
 
+  -- of one number a task
+  found-same : y .found ≡ z .found
+  found-same =
+      part-same (labelsBy (w .form)) 1 (λ v. v .found) (omega arith) (λ t. omega (arith, valid .exact .found t)) (p .lengths .found) (q .lengths .found)
+      (areas-same (λ v. v .found) (λ v xs xs′ k. refl)) (p .kept .found) (q .kept .found)
+
+  grey-found-same : y .greyFound ≡ z .greyFound
+  grey-found-same =
+      part-same (takesGreyLabels (common w)) 1 (λ v. v .greyFound) (omega arith) (λ t. omega (arith, valid .exact .grey-found t))
+      (p .lengths .grey-found) (q .lengths .grey-found) (areas-same (λ v. v .greyFound) (λ v xs xs′ k. refl)) (p .kept .grey-found)
+      (q .kept .grey-found)
+
   buffers-same : y ≡ z
-  buffers-same = buffers-equal y z spins-same labels-same grey-same counts-same sizes-same members-same
+  buffers-same = buffers-equal y z spins-same labels-same grey-same counts-same sizes-same members-same found-same grey-found-same
 
 pub record SameSweep (a₁ : SweepAnswer) (b₁ : Buffers) (a₂ : SweepAnswer) (b₂ : Buffers) : Type 0 where
   pub answer : a₁ ≡ a₂

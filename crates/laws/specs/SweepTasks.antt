@@ -68,6 +68,8 @@ module _ (w : Sweep) (b : Buffers) (v : Kept (sweepRules w b)) (k : ℕ) (below 
     counts = λ t. part-length (tasks w) (w .lattice .n + 1) k (b .counts) below (e .counts t);
     sizes = λ t. part-length (tasks w) 4 k (b .sizes) below (e .sizes t);
     members = λ t. part-length (tasks w) (w .lattice .n) k (b .members) below (e .members t);
+    found = λ t. part-length (tasks w) 1 k (b .found) below (omega (arith, e .found t));
+    grey-found = λ t. part-length (tasks w) 1 k (b .greyFound) below (omega (arith, e .grey-found t));
   }
 
   pub task-valid : masked w k ≡ false → Kept (rules (taskCall w k) (taskChoices w k) (areas w b (b .spins) k))

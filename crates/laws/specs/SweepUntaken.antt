@@ -121,6 +121,8 @@ module _ {w v : Sweep} (same : SameSwept w v) where
             counts = h .counts;
             sizes = h .sizes;
             members = h .members;
+            found = h .found;
+            grey-found = h .grey-found;
           }),
           (λ h. record {
             spins = h .spins;
@@ -140,6 +142,8 @@ module _ {w v : Sweep} (same : SameSwept w v) where
             counts = h .counts;
             sizes = h .sizes;
             members = h .members;
+            found = h .found;
+            grey-found = h .grey-found;
           }),
         )
 
@@ -215,6 +219,8 @@ module _ {w v : Sweep} (same : SameSwept w v) where
       counts = q .kept .counts;
       sizes = q .kept .sizes;
       members = q .kept .members;
+      found = q .kept .found;
+      grey-found = q .kept .grey-found;
     };
   }
 

@@ -27,7 +27,7 @@ sweepRanged w =
 abbrev pub sweepExact : (w : Sweep) (b : Buffers) → Decided (SweepExact w b)
 sweepExact w b =
     iff
-    (λ (x1, (x2, (x3, (x4, (x5, (x6, (x7, (x8, (x9, (x10, (x11, (x12, (x13, (x14, (x15, (x16, x17)))))))))))))))). record {
+    (λ (x1, (x2, (x3, (x4, (x5, (x6, (x7, (x8, (x9, (x10, (x11, (x12, (x13, (x14, (x15, (x16, (x17, (x18, x19)))))))))))))))))). record {
       spins = x1;
       fwd = x2;
       bwd = x3;
@@ -45,6 +45,8 @@ sweepExact w b =
       counts = x15;
       sizes = x16;
       members = x17;
+      found = x18;
+      grey-found = x19;
     })
     (λ r. (
       r .spins,
@@ -60,7 +62,22 @@ sweepExact w b =
                 r .couplings,
                 (
                   r .temperatures,
-                  (r .cuts, (r .choices, (r .greys, (r .references, (r .seeds, (r .labels, (r .grey-labels, (r .counts, (r .sizes, r .members))))))))),
+                  (
+                    r .cuts,
+                    (
+                      r .choices,
+                      (
+                        r .greys,
+                        (
+                          r .references,
+                          (
+                            r .seeds,
+                            (r .labels, (r .grey-labels, (r .counts, (r .sizes, (r .members, (r .found, r .grey-found)))))),
+                          ),
+                        ),
+                      ),
+                    ),
+                  ),
                 ),
               ),
             ),
@@ -84,7 +101,9 @@ sweepExact w b =
     (both (when (takesGreyLabels (common w)) (eq (length (b .greyLabels)) (tasks w * w .lattice .n)))
     (both (when (labelsBy (w .form)) (eq (length (b .counts)) (tasks w * (w .lattice .n + 1))))
     (both (when (labelsBy (w .form)) (eq (length (b .sizes)) (tasks w * 4)))
-    (when (growsBy (w .form)) (eq (length (b .members)) (tasks w * w .lattice .n)))))))))))))))))))
+    (both (when (growsBy (w .form)) (eq (length (b .members)) (tasks w * w .lattice .n)))
+    (both (when (labelsBy (w .form)) (eq (length (b .found)) (tasks w)))
+    (when (takesGreyLabels (common w)) (eq (length (b .greyFound)) (tasks w)))))))))))))))))))))
 
 -- unmasked tasks in ascending order
 abbrev pub inTurn : (t : Bool) (rs : List Rule) → DecidedAll rs → DecidedAll (cond t [] rs)

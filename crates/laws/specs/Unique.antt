@@ -4,7 +4,7 @@ use mathlib.Core.Path.{_≡_, refl, sym, _∙_, ap}
 use mathlib.Core.Logic.{_⊎_, inl, inr, _↔_}
 use mathlib.Core.Bool.{Bool, true, false, _&&_}
 use mathlib.Core.List.{List}
-use native.Mathlib.Nat.{le-antisymm, lt-of-le-of-lt, lt-of-not-le, div-add-mod', mod-lt}
+use native.Mathlib.Nat.{le-antisymm, lt-of-not-le, div-add-mod', mod-lt}
 use native.Mathlib.Decide.{decLe}
 use native.Mathlib.Numerals.{add-one-le}
 use native.Mathlib.Omega.{arith}
@@ -15,35 +15,67 @@ use lib.Seq.{ext-getD}
 use lib.IntN.{ℤ, pos}
 use Rattle.lemmas.specs.Counts.{countWhere, count-ext, count-le}
 use Rattle.lemmas.specs.Places.{Placed, Unplaced, place}
-use Rattle.paper.specs.Component.Links.{Linked.stay, trans, back, Linked.along, Within, bind}
+use Rattle.paper.specs.Component.Links.{Linked.stay, Linked.along, Within, bind}
 use Rattle.paper.specs.Panel.Input.{Graph, Call, Choices, Pattern, spin, pattern, size, system}
-use Rattle.paper.specs.Component.Labels.{Joined, Labels, Bond}
+use Rattle.paper.specs.Component.Labels.{Joined, Labels, Numbered, Bond}
 use Rattle.paper.specs.Component.Members.{Members}
-use Rattle.paper.specs.Component.Sizes.{labelOf, counted, sizeOf, atLeast, Counted, Rank, Largest}
+use Rattle.paper.specs.Component.Sizes.{labelOf, isFirst, counted, sizeOf, atLeast, Counted, Rank, Largest}
 use Rattle.paper.specs.Move.Moving.{Moves}
+use Rattle.laws.specs.Numbering.{FirstOf, first-of, first-only, first-when, first-label, found-firsts, found-le}
 
 -- ---- labels
 module _ (t : Graph) (holding : ℕ → ℕ → Bool) where
-  at-most : (l m : List ℕ) → Labels t holding l → Labels t holding m → (i : ℕ) → i < t .n → getD l i 0 ≤ getD m i 0
-  at-most l m hl hm i il = hl .least i (getD m i 0) il (lt-of-le-of-lt (hm .least i i il il stay) il) (hm .joined i il)
-
-  pub labels-unique : (l m : List ℕ) → Labels t holding l → Labels t holding m → l ≡ m
-  labels-unique l m hl hm =
-      ext-getD 0 l m (hl .long ∙ sym (hm .long))
-      (λ i il. let k : i < t .n = rw (hl .long) at il in le-antisymm (at-most l m hl hm i k) (at-most m l hm hl i k))
-
   -- two sites have one label just if they are joined
-  pub same-label : (l : List ℕ) → Labels t holding l → (i j : ℕ) → i < t .n → j < t .n → (getD l i 0 ≡ getD l j 0) ↔ Joined t holding i j
-  same-label l h i j il jl = (
-    (λ e. trans (h .joined i il) (back (rw (← e) at (h .joined j jl)))),
-    (λ w. le-antisymm (least i j il jl w) (least j i jl il (back w))),
-  )
-    where
-      least : (a b : ℕ) → a < t .n → b < t .n → Joined t holding a b → getD l a 0 ≤ getD l b 0
-      least a b al bl w = h .least a (getD l b 0) al (lt-of-le-of-lt (h .least b b bl bl stay) bl) (trans w (h .joined b bl))
+  pub same-label : {found : ℕ} (l : List ℕ) → Labels t holding l found → (i j : ℕ) → i < t .n → j < t .n
+      → (getD l i 0 ≡ getD l j 0) ↔ Joined t holding i j
+  same-label l h i j il jl = (h .joined i j il jl, h .same i j il jl)
 
-  pub label-lt : (l : List ℕ) → Labels t holding l → (i : ℕ) → i < t .n → getD l i 0 < t .n
-  label-lt l h i il = lt-of-le-of-lt (h .least i i il il stay) il
+  pub label-lt : {found : ℕ} (l : List ℕ) → Labels t holding l found → (i : ℕ) → i < t .n → getD l i 0 < t .n
+  label-lt l h i il = omega (arith, h .below i il, found-le h)
+
+  module _ {f g : ℕ} (l m : List ℕ) (hl : Labels t holding l f) (hm : Labels t holding m g) where
+    -- a site that is first with its label in one is first in the other
+    firsts-same : (i : ℕ) → i < t .n → isFirst l i ≡ isFirst m i
+    firsts-same i il = both (isFirst l i) (isFirst m i) refl refl
+      where
+        over : {a b : ℕ} (x y : List ℕ) → Labels t holding x a → Labels t holding y b → isFirst x i ≡ true → isFirst y i ≡ true
+        over x y hx hy e =
+            first-when y i (λ j jl q. first-only x i j e jl (hx .same j i (omega arith) il (hy .joined j i (omega arith) il q)))
+
+        both : (a b : Bool) → isFirst l i ≡ a → isFirst m i ≡ b → a ≡ b
+        both true b p q = sym (over l m hl hm p) ∙ q
+        both false true p q = sym p ∙ over m l hm hl q
+        both false false p q = refl
+
+    count-same : (i : ℕ) → i ≤ t .n → countWhere (isFirst l) i ≡ countWhere (isFirst m) i
+    count-same i il = count-ext (isFirst l) (isFirst m) i (λ j jl. firsts-same j (omega arith))
+
+    pub labels-unique : l ≡ m
+    labels-unique = ext-getD 0 l m (hl .long ∙ sym (hm .long)) (λ i il. at i (rw (hl .long) at il))
+      where
+        at : (i : ℕ) → i < t .n → getD l i 0 ≡ getD m i 0
+        at i il =
+            sym (r .same)
+            ∙ (first-label hl (r .at) low (r .is)
+            ∙ (count-same (r .at) (omega (arith, low))
+            ∙ (sym (first-label hm (r .at) low (sym (firsts-same (r .at) low) ∙ r .is))
+            ∙ hm .same (r .at) i low il (hl .joined (r .at) i low il (r .same)))))
+          where
+            r : FirstOf l i
+            r = first-of l i
+
+            low : r .at < t .n
+            low = omega (arith, r .low)
+
+    pub found-unique : f ≡ g
+    found-unique = found-firsts hl ∙ (count-same (t .n) (omega arith) ∙ sym (found-firsts hm))
+
+  -- with how many there are, as a list of one number
+  pub numbered-unique : (l m f g : List ℕ) → Numbered t holding l f → Numbered t holding m g → (l ≡ m) × (f ≡ g)
+  numbered-unique l m f g hl hm = (
+    labels-unique l m (hl .labels) (hm .labels),
+    ext-getD 0 f g (hl .one ∙ sym (hm .one)) (λ i il. let e : i ≡ 0 = omega (arith, hl .one) in rw e (found-unique l m (hl .labels) (hm .labels))),
+  )
 
 -- ---- members
 -- two bytes that are 1 together
@@ -73,8 +105,8 @@ counts-unique l c₁ c₂ h₁ h₂ =
 
 falls : (mark : ℕ → Bool) (l : List ℕ) (v w : ℕ) → v ≤ w → atLeast mark l w ≤ atLeast mark l v
 falls mark l v w h =
-    count-le (λ r. counted mark l r && leb w (sizeOf l r)) (λ r. counted mark l r && leb v (sizeOf l r)) (length l)
-    (λ r. weaken (counted mark l r) (sizeOf l r))
+    count-le (λ i. counted mark l i && leb w (sizeOf l (labelOf l i))) (λ i. counted mark l i && leb v (sizeOf l (labelOf l i))) (length l)
+    (λ i. weaken (counted mark l i) (sizeOf l (labelOf l i)))
   where
     weaken : (b : Bool) (s : ℕ) → (b && leb w s) ≡ true → (b && leb v s) ≡ true
     weaken true s e = le-leb v s (omega (arith, leb-true w s e))
@@ -99,11 +131,11 @@ sizes-unique {mark} l s₁ s₂ h₁ h₂ = ext-getD 0 s₁ s₂ (h₁ .long ∙
 
 -- counts and sizes depend on the marks of the sites alone
 module _ {f g : ℕ → Bool} (l : List ℕ) (same : (r : ℕ) → r < length l → f r ≡ g r) where
-  passing : (test : ℕ → Bool)
-      → countWhere (λ r. counted f l r && test (sizeOf l r)) (length l) ≡ countWhere (λ r. counted g l r && test (sizeOf l r)) (length l)
+  passing : (test : ℕ → Bool) → countWhere (λ i. counted f l i && test (sizeOf l (labelOf l i))) (length l)
+      ≡ countWhere (λ i. counted g l i && test (sizeOf l (labelOf l i))) (length l)
   passing test =
-      count-ext (λ r. counted f l r && test (sizeOf l r)) (λ r. counted g l r && test (sizeOf l r)) (length l)
-      (λ r rl. ap (λ (b : Bool). (eqb (labelOf l r) r && b) && test (sizeOf l r)) (same r rl))
+      count-ext (λ i. counted f l i && test (sizeOf l (labelOf l i))) (λ i. counted g l i && test (sizeOf l (labelOf l i))) (length l)
+      (λ i il. ap (λ (b : Bool). (isFirst l i && b) && test (sizeOf l (labelOf l i))) (same i il))
 
   pub counts-ext : {counts : List ℕ} → Counted f l counts → Counted g l counts
   counts-ext h = record { long = h .long; zeroth = h .zeroth; each = λ s sl. h .each s sl ∙ passing (λ x. eqb x s) }
@@ -165,12 +197,19 @@ carry t g h q a b e = along (record { site = e .site; dir = e .dir; dir-lt = e .
     on : h a (e .dir) ≡ true
     on = sym (q a (e .dir) (e .site) (e .dir-lt)) ∙ e .on
 
-pub labels-ext : (t : Graph) (h₁ h₂ : ℕ → ℕ → Bool) (l : List ℕ) → HoldAlike t h₁ h₂ → Labels t h₁ l → Labels t h₂ l
-labels-ext t h₁ h₂ l same w = record {
-  long = w .long;
-  joined = λ i hi. bind (carry t h₁ h₂ same) (w .joined i hi);
-  least = λ i j hi hj q. w .least i j hi hj (bind (carry t h₂ h₁ (λ i e hi he. sym (same i e hi he))) q);
-}
+module _ (t : Graph) (h₁ h₂ : ℕ → ℕ → Bool) where
+  pub labels-ext : {found : ℕ} (l : List ℕ) → HoldAlike t h₁ h₂ → Labels t h₁ l found → Labels t h₂ l found
+  labels-ext l same w = record {
+    long = w .long;
+    joined = λ i j hi hj e. bind (carry t h₁ h₂ same) (w .joined i j hi hj e);
+    same = λ i j hi hj q. w .same i j hi hj (bind (carry t h₂ h₁ (λ i e hi he. sym (same i e hi he))) q);
+    below = w .below;
+    used = w .used;
+    rising = w .rising;
+  }
+
+  pub numbered-ext : (l found : List ℕ) → HoldAlike t h₁ h₂ → Numbered t h₁ l found → Numbered t h₂ l found
+  numbered-ext l found same w = record { labels = labels-ext l same (w .labels); one = w .one }
 
 pub members-ext :
     (t : Graph) (h₁ h₂ : ℕ → ℕ → Bool) (seed : ℕ) (l : List ℕ)

@@ -64,7 +64,16 @@ is-over {c} {a} h = λ i. record {
 }
 
 abbrev pub onto : Buffers → Buffers → Buffers
-onto b d = record { spins = b .spins; labels = d .labels; greyLabels = d .greyLabels; counts = d .counts; sizes = d .sizes; members = d .members }
+onto b d = record {
+  spins = b .spins;
+  labels = d .labels;
+  greyLabels = d .greyLabels;
+  counts = d .counts;
+  sizes = d .sizes;
+  members = d .members;
+  found = d .found;
+  greyFound = d .greyFound;
+}
 
 -- ---- by cases of the mode or the form
 none-told : (m : Mode) (u w : Pattern) → testBy m 0 u ≡ testBy m 0 w

@@ -24,7 +24,7 @@ use Rattle.paper.specs.Refusal.Kept.{Valid, valid-of}
 use Rattle.paper.specs.Answer.Move.{SeenAll, SeenOne, Seen, memberBonds, Turns, Answers}
 use Rattle.paper.specs.Answer.Same.{SameCall, SameTaken, SameLent, written, left}
 use Rattle.laws.specs.Forms.{by-form, not-grows, grows-one, grows-moves}
-use Rattle.laws.specs.Unique.{HoldAlike, label-lt, labels-ext, members-ext, counts-ext, sizes-ext}
+use Rattle.laws.specs.Unique.{HoldAlike, label-lt, numbered-ext, members-ext, counts-ext, sizes-ext}
 use Rattle.laws.specs.Determined.{buffers-equal}
 use Rattle.laws.specs.Matched.{matched-kept, matched-broken}
 use Rattle.laws.specs.Untaken.{over, is-over, onto, acts-same, holds-same, grey-same, final-same, pattern-same}
@@ -60,12 +60,13 @@ module _ {c a : Call} {p o : Choices} (same : SameTaken c p a o) {b d : Buffers}
 
     all-there : labelsBy (c .form) ≡ true → SeenAll c b b′ → SeenAll (over c a) (onto b d) (written c (onto b d) b′)
     all-there l w = record {
-      labels = rw l (labels-ext (graph c) (holds c (b .spins)) (holds (over c a) (b .spins)) (b′ .labels) blue (w .labels));
+      labels = rw l (numbered-ext (graph c) (holds c (b .spins)) (holds (over c a) (b .spins)) (b′ .labels) (b′ .found) blue (w .labels));
       grey-labels = λ t.
           rw (l, t)
-          (labels-ext (graph c) (holdsGrey c (b .spins)) (holdsGrey (over c a) (b .spins)) (b′ .greyLabels) (grey (and-right (moves (c .form)) _ t))
-          (w .grey-labels t));
+          (numbered-ext (graph c) (holdsGrey c (b .spins)) (holdsGrey (over c a) (b .spins)) (b′ .greyLabels) (b′ .greyFound)
+          (grey (and-right (moves (c .form)) _ t)) (w .grey-labels t));
       grey-kept = λ t. rw (l, t) refl;
+      grey-found-kept = λ t. rw (l, t) refl;
       counts = rw l (counts-ext (b′ .labels) marks (w .counts));
       sizes = rw l (sizes-ext (b′ .labels) marks (w .sizes));
       members-kept = rw (not-grows (c .form) l) refl;
@@ -92,6 +93,8 @@ module _ {c a : Call} {p o : Choices} (same : SameTaken c p a o) {b d : Buffers}
       grey-kept = rw g refl;
       counts-kept = rw g refl;
       sizes-kept = rw g refl;
+      found-kept = rw g refl;
+      grey-found-kept = rw g refl;
     }
       where
         seed : acts (over c a) (b .spins) (a .seed) ≡ acts c (b .spins) (c .seed)
@@ -109,7 +112,7 @@ module _ {c a : Call} {p o : Choices} (same : SameTaken c p a o) {b d : Buffers}
         → isPerm (c .mode) ≡ true
         → Permutes (size c) (permOf c p (labelOf l i))
 
-    perms-at : Labels (graph c) (holds c (b .spins)) (b′ .labels) → PermsAt (b′ .labels)
+    perms-at : {found : ℕ} → Labels (graph c) (holds c (b .spins)) (b′ .labels) found → PermsAt (b′ .labels)
     unfolding reached
     perms-at w i hi e q =
         perms-of v (rw (form-moves (c .form) c (b′ .labels) i (and-right (acts c (b .spins) i) _ e), q)) (labelOf (b′ .labels) i)
@@ -130,8 +133,8 @@ module _ {c a : Call} {p o : Choices} (same : SameTaken c p a o) {b d : Buffers}
     }
 
     moved-there :
-        labelsBy (c .form) ≡ true
-        → Labels (graph c) (holds c (b .spins)) (b′ .labels)
+        {found : ℕ} → labelsBy (c .form) ≡ true
+        → Labels (graph c) (holds c (b .spins)) (b′ .labels) found
         → Moves c p (b .spins) (b′ .labels) (b′ .greyLabels) (b′ .spins)
         → Moves (over c a) o (b .spins) (written c (onto b d) b′ .labels) (written c (onto b d) b′ .greyLabels) (b′ .spins)
     moved-there l w m =
@@ -164,7 +167,7 @@ module _ {c a : Call} {p o : Choices} (same : SameTaken c p a o) {b d : Buffers}
   there Moved b′ w = let v = valid-of c p b (w .valid) in record {
     valid = kept-there (w .valid);
     some = some-there same (b .spins) (w .some);
-    moved = λ t. moved-there v b′ t (w .seen .all t .labels) (w .moved t);
+    moved = λ t. moved-there v b′ t (w .seen .all t .labels .labels) (w .moved t);
     turned = λ t. turned-there v b′ t (w .turned t);
     seen = seen-there v b′ (w .seen);
   }
@@ -176,7 +179,7 @@ module _ {c a : Call} {p o : Choices} (same : SameTaken c p a o) {b d : Buffers}
       (subst (λ (z : Buffers). Answers (over c a) o z r (left c r z b′)) (sym is-onto) (there r b′ w))
     where
       is-onto : d ≡ onto b d
-      is-onto = buffers-equal d (onto b d) (lent .spins) refl refl refl refl refl
+      is-onto = buffers-equal d (onto b d) (lent .spins) refl refl refl refl refl refl refl
 
 -- ---- to agree is mutual
 module _ {c a : Call} (h : SameCall c a) where
@@ -214,7 +217,16 @@ taken-back h = record {
 
 -- ---- on the same buffers
 lent-itself : (c : Call) (b : Buffers) → SameLent c b b
-lent-itself c b = record { spins = refl; labels = λ _. refl; grey-labels = λ _. refl; counts = λ _. refl; sizes = λ _. refl; members = λ _. refl }
+lent-itself c b = record {
+  spins = refl;
+  labels = λ _. refl;
+  grey-labels = λ _. refl;
+  counts = λ _. refl;
+  sizes = λ _. refl;
+  members = λ _. refl;
+  found = λ _. refl;
+  grey-found = λ _. refl;
+}
 
 written-itself : (c : Call) (b b′ : Buffers) → Seen c b b′ → written c b b′ ≡ b′
 written-itself c b b′ w = go (by-form (c .form))
@@ -223,13 +235,17 @@ written-itself c b b′ w = go (by-form (c .form))
     greys l true e = rw (l, e) refl
     greys l false e = rw (l, e) (sym (w .all l .grey-kept e))
 
+    grey-found : labelsBy (c .form) ≡ true → (t : Bool) → takesGreys c ≡ t → cond (takesGreyLabels c) (b′ .greyFound) (b .greyFound) ≡ b′ .greyFound
+    grey-found l true e = rw (l, e) refl
+    grey-found l false e = rw (l, e) (sym (w .all l .grey-found-kept e))
+
     go : (labelsBy (c .form) ≡ true) ⊎ (growsBy (c .form) ≡ true) → written c b b′ ≡ b′
     go (inl l) =
         buffers-equal (written c b b′) b′ refl (rw l refl) (greys l (takesGreys c) refl) (rw l refl) (rw l refl)
-        (rw (not-grows (c .form) l) (sym (w .all l .members-kept)))
+        (rw (not-grows (c .form) l) (sym (w .all l .members-kept))) (rw l refl) (grey-found l (takesGreys c) refl)
     go (inr g) = let k = w .one g in
         buffers-equal (written c b b′) b′ refl (rw g (sym (k .labels-kept))) (rw g (sym (k .grey-kept))) (rw g (sym (k .counts-kept)))
-        (rw g (sym (k .sizes-kept))) (rw g refl)
+        (rw g (sym (k .sizes-kept))) (rw g refl) (rw g (sym (k .found-kept))) (rw g (sym (k .grey-found-kept)))
 
 left-itself : (c : Call) (p : Choices) (b : Buffers) (r : Answer) (b′ : Buffers) → Answers c p b r b′ → left c r b b′ ≡ b′
 left-itself c p b (Refused r) b′ w = sym (w .kept)

@@ -123,6 +123,8 @@ module _ {c a : Call} {p o : Choices} (same : SameTaken c p a o) where
             counts = λ t. lent .counts t ∙ h .counts t;
             sizes = λ t. lent .sizes t ∙ h .sizes t;
             members = λ t. lent .members t ∙ h .members t;
+            found = λ t. lent .found t ∙ h .found t;
+            grey-found = λ t. lent .grey-found t ∙ h .grey-found t;
           }),
           (λ h. record {
             spins = h .spins;
@@ -137,6 +139,8 @@ module _ {c a : Call} {p o : Choices} (same : SameTaken c p a o) where
             counts = λ t. sym (lent .counts t) ∙ h .counts t;
             sizes = λ t. sym (lent .sizes t) ∙ h .sizes t;
             members = λ t. sym (lent .members t) ∙ h .members t;
+            found = λ t. sym (lent .found t) ∙ h .found t;
+            grey-found = λ t. sym (lent .grey-found t) ∙ h .grey-found t;
           }),
         )
 

@@ -39,7 +39,7 @@ ranged n d s mode m =
 abbrev pub fits : (mode : Mode) (form : Form) (n d s m : ℕ) (l : Lengths) → Decided (Fits mode form n d s m l)
 fits mode form n d s m l =
     iff
-    (λ (a, (b, (c, (e, (f, (g, (i, (j, (k, (o, (p, q))))))))))). record {
+    (λ (a, (b, (c, (e, (f, (g, (i, (j, (k, (o, (p, (q, (t, u))))))))))))). record {
       spins = a;
       fwd = b;
       bwd = c;
@@ -52,6 +52,8 @@ fits mode form n d s m l =
       counts = o;
       sizes = p;
       members = q;
+      found = t;
+      grey-found = u;
     })
     (λ r. (
       r .spins,
@@ -59,7 +61,10 @@ fits mode form n d s m l =
         r .fwd,
         (
           r .bwd,
-          (r .couplings, (r .cuts, (r .choices, (r .greys, (r .labels, (r .grey-labels, (r .counts, (r .sizes, r .members)))))))),
+          (
+            r .couplings,
+            (r .cuts, (r .choices, (r .greys, (r .labels, (r .grey-labels, (r .counts, (r .sizes, (r .members, (r .found, r .grey-found))))))))),
+          ),
         ),
       ),
     ))
@@ -74,7 +79,9 @@ fits mode form n d s m l =
     (both (when (greyLabelsBy mode form) (eq (l .«grey_labels») n))
     (both (when (labelsBy form) (eq (l .counts) (n + 1)))
     (both (when (labelsBy form) (eq (l .sizes) 4))
-    (when (growsBy form) (eq (l .members) n)))))))))))))
+    (both (when (growsBy form) (eq (l .members) n))
+    (both (when (labelsBy form) (eq (l .found) 1))
+    (when (greyLabelsBy mode form) (eq (l .«grey_found») 1)))))))))))))))
 
 -- ---- 3 to 7
 abbrev pub spins : (n s : ℕ) (xs : List ℤ) → Decided (Spins n (AllSystems s) xs)

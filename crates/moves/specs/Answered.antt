@@ -35,14 +35,14 @@ use Rattle.moves.specs.Choices.{places-of, rows-of, columns-narrow}
 use Rattle.moves.specs.Finish.{no-move, observed, spins-back, final-columns}
 
 -- what a task asks. A form that labels takes no members, so these may be any
-pub record RunAsks (c : Call) (p : Choices) (xs : List ℤ) (labels greyLabels counts sizes : List ℕ) : Type 0 where
+pub record RunAsks (c : Call) (p : Choices) (xs : List ℤ) (labels greyLabels counts sizes found greyFound : List ℕ) : Type 0 where
   pub labelled : labelsBy (c .form) ≡ true
-  pub valid : Valid c p (buffersOf xs labels greyLabels counts sizes [])
+  pub valid : Valid c p (buffersOf xs labels greyLabels counts sizes [] found greyFound)
 
 pub valid-with :
-    {c : Call} {p : Choices} {xs : List ℤ} {labels greyLabels counts sizes members : List ℕ} → labelsBy (c .form) ≡ true
-    → Valid c p (buffersOf xs labels greyLabels counts sizes members) → (others : List ℕ)
-    → Valid c p (buffersOf xs labels greyLabels counts sizes others)
+    {c : Call} {p : Choices} {xs : List ℤ} {labels greyLabels counts sizes members found greyFound : List ℕ} → labelsBy (c .form) ≡ true
+    → Valid c p (buffersOf xs labels greyLabels counts sizes members found greyFound) → (others : List ℕ)
+    → Valid c p (buffersOf xs labels greyLabels counts sizes others found greyFound)
 valid-with {c} f v others = let s = v .sound in let e = s .exact in record {
   sound = record {
     ranged = s .ranged;
@@ -59,6 +59,8 @@ valid-with {c} f v others = let s = v .sound in let e = s .exact in record {
       counts = e .counts;
       sizes = e .sizes;
       members = forms-apart (c .form) f;
+      found = e .found;
+      grey-found = e .grey-found;
     };
     spins = s .spins;
     inverse = s .inverse;
@@ -102,7 +104,7 @@ module _
     -- ---- label
     pub label-asks :
         LabelAsks t fwd couplings cuts (b .spins) (area 4096 (t .n)) (area 4096 (t .n)) (area 16384 (t .n * t .d)) (area 16384 (t .n * t .d))
-        (area 4096 (t .n)) (b .labels) (b .counts) (b .sizes)
+        (area 4096 (t .n)) (b .labels) (b .counts) (b .sizes) (b .found)
     label-asks = record {
       tested = tested;
       reference = v .fit .chosen .reference;
@@ -116,27 +118,38 @@ module _
         labels-long = v .sound .exact .labels f;
         counts-long = v .sound .exact .counts f;
         sizes-long = v .sound .exact .sizes f;
+        found-long = v .sound .exact .found f;
       };
     }
 
-    module _ {cols flags grey tally l counts sizes : List ℕ} {r : Bool} (d : LabelLeaves c (b .spins) cols flags grey tally l counts sizes r) where
+    module _ {cols flags grey tally l counts sizes found : List ℕ} {r : Bool}
+        (d : LabelLeaves c (b .spins) cols flags grey tally l counts sizes found r) where
       long : length cols ≡ t .n
       long = d .columns .long
 
       pub labels-kept : length l ≡ length (b .labels)
-      labels-kept = d .labelled .long ∙ sym (v .sound .exact .labels f)
+      labels-kept = d .labelled .labels .long ∙ sym (v .sound .exact .labels f)
+
+      pub counts-kept : length counts ≡ length (b .counts)
+      counts-kept = omega (arith, d .counted .long, d .labelled .labels .long, v .sound .exact .counts f)
+
+      pub sizes-kept : length sizes ≡ length (b .sizes)
+      sizes-kept = d .largest .long ∙ sym (v .sound .exact .sizes f)
+
+      pub found-kept : length found ≡ length (b .found)
+      found-kept = d .labelled .one ∙ sym (v .sound .exact .found f)
 
       -- ---- choose and write
       pub choose-asks :
           moves (t .form) ≡ true
-          → ChooseAsks t fwd (p .choices) (p .greys) flags grey l tally (area 4096 (t .n)) cols (b .greyLabels)
+          → ChooseAsks t fwd (p .choices) (p .greys) flags grey l tally (area 4096 (t .n)) cols (b .greyLabels) (b .greyFound)
       choose-asks moving = record {
         choosable = record {
           few = omega (arith, long, n-high);
           flags-long = d .acting .long ∙ sym long;
-          labels-long = d .labelled .long ∙ sym long;
+          labels-long = d .labelled .labels .long ∙ sym long;
           reached-long = length-take-le (t .n) _ n-high ∙ sym long;
-          below = λ i h. rw long (label-lt (graph c) (holds c (b .spins)) l (d .labelled) i (rw long at h));
+          below = λ i h. rw long (label-lt (graph c) (holds c (b .spins)) l (d .labelled .labels) i (rw long at h));
           tallied = d .tallied;
           seeded = λ e. rw long (v .fit .seeded .below e);
           reference = λ e. rw long (v .fit .chosen .reference e);
@@ -160,6 +173,7 @@ module _
           greys-long = v .sound .exact .greys (greying e);
           small = λ x h. v .fit .chosen .greys (greying e) x (rw (v .sound .exact .greys (greying e)) at h);
           labels-long = v .sound .exact .grey-labels (rw f (greying e));
+          found-long = v .sound .exact .grey-found (rw f (greying e));
           two = tested .two e;
         };
       }
@@ -175,7 +189,8 @@ module _
           greying e = rw (moving, e) refl
 
       module _
-          {new greyLabels : List ℕ} (w : ChooseLeaves t fwd (p .choices) (p .greys) flags grey l cols (b .greyLabels) new greyLabels)
+          {new greyLabels greyFound : List ℕ}
+          (w : ChooseLeaves t fwd (p .choices) (p .greys) flags grey l cols (b .greyLabels) (b .greyFound) new greyLabels greyFound)
         where
           pub new-long : length new ≡ t .n
           new-long = w .columns .long ∙ long
@@ -202,11 +217,11 @@ module _
           }
             where
               rows : Rows c p l
-              rows = rows-of c p (b .spins) l moving (d .labelled) (v .fit .chosen .perms)
+              rows = rows-of c p (b .spins) l moving (d .labelled .labels) (v .fit .chosen .perms)
 
           pub moved-answers :
               {ys : List ℤ} → not r ≡ false → moves (t .form) ≡ true → WriteLeaves t new (b .spins) ys
-              → Answers c p b Moved (buffersOf ys l greyLabels counts sizes (b .members))
+              → Answers c p b Moved (buffersOf ys l greyLabels counts sizes (b .members) found greyFound)
           moved-answers e moving o = record {
             valid = valid-kept c p b v;
             some = passed r e (d .some);
@@ -219,6 +234,7 @@ module _
                     let cmr = and-right (moves (t .form)) (isCmr (t .mode)) q in
                     grey-labels c (b .spins) grey greyLabels (d .grey-held cmr moving) (w .grey-labels cmr);
                 grey-kept = λ q. w .grey-kept (rw moving at q);
+                grey-found-kept = λ q. w .grey-found-kept (rw moving at q);
                 counts = d .counted;
                 sizes = d .largest;
                 members-kept = refl;
@@ -228,7 +244,8 @@ module _
           }
 
       pub observe-answers :
-          not r ≡ false → moves (t .form) ≡ false → Answers c p b Moved (buffersOf (b .spins) l (b .greyLabels) counts sizes (b .members))
+          not r ≡ false → moves (t .form) ≡ false
+          → Answers c p b Moved (buffersOf (b .spins) l (b .greyLabels) counts sizes (b .members) found (b .greyFound))
       observe-answers e resting = record {
         valid = valid-kept c p b v;
         some = passed r e (d .some);
@@ -239,6 +256,7 @@ module _
             labels = d .labelled;
             grey-labels = λ q. never (sym resting ∙ and-left (moves (t .form)) (isCmr (t .mode)) q);
             grey-kept = λ _. refl;
+            grey-found-kept = λ _. refl;
             counts = d .counted;
             sizes = d .largest;
             members-kept = refl;
@@ -247,7 +265,7 @@ module _
         };
       }
 
-      pub idle-answers : not r ≡ true → Answers c p b Idle (buffersOf (b .spins) l (b .greyLabels) counts sizes (b .members))
+      pub idle-answers : not r ≡ true → Answers c p b Idle (buffersOf (b .spins) l (b .greyLabels) counts sizes (b .members) found (b .greyFound))
       idle-answers e = record {
         valid = valid-kept c p b v;
         none = none-acts c (b .spins) (refused r e (d .some));
@@ -257,6 +275,7 @@ module _
             labels = d .labelled;
             grey-labels = λ q. absurd (refused r e (d .some) (one-acts (and-right (moves (t .form)) (isCmr (t .mode)) q)));
             grey-kept = λ _. refl;
+            grey-found-kept = λ _. refl;
             counts = d .counted;
             sizes = d .largest;
             members-kept = refl;

@@ -32,7 +32,7 @@ places-of rows m perms some long each x h =
 
 -- the permutation of every label
 pub rows-of :
-    (c : Call) (p : Choices) (xs : List ℤ) (l : List ℕ) → moves (c .form) ≡ true → Labels (graph c) (holds c xs) l
+    (c : Call) (p : Choices) (xs : List ℤ) (l : List ℕ) {found : ℕ} → moves (c .form) ≡ true → Labels (graph c) (holds c xs) l found
     → (permsBy (c .mode) (c .form) ≡ true → (r : ℕ) → r < entries (c .form) (c .lattice .n) → Permutes (size c) (λ k. getD (p .choices) (r * size c + k) 0))
     → Rows c p l
 rows-of c p xs l m h each e i hi =

@@ -4,7 +4,8 @@ use mathlib.Core.Path.{_≡_, refl, sym, _∙_, ap}
 use mathlib.Core.Bool.{Bool, true, false}
 use mathlib.Core.List.{List}
 use native.Mathlib.Omega.{arith}
-use lib.ListN.{length, getD}
+use lib.ListN.{length, getD, set, length-set}
+use lib.Seq.{getD-set-same}
 use lib.IntN.{ℤ}
 use lib.Ieee.{Float}
 use Rattle.lemmas.specs.Counts.{bit}
@@ -13,12 +14,12 @@ use Rattle.paper.specs.declared.Task.{Task}
 use Rattle.paper.specs.declared.Mode.{Mode}
 use Rattle.paper.specs.declared.Mode.the-variants.{Houd, Pair, Perm, Gperm, Jorg, Cmr}
 use Rattle.paper.specs.declared.Sampler.{Sampler}
-use Rattle.paper.specs.Panel.Input.{Call, pattern, size, ahead, graph}
+use Rattle.paper.specs.Panel.Input.{Graph, Call, pattern, size, ahead, graph}
 use Rattle.paper.specs.Panel.Made.{callOf}
 use Rattle.paper.specs.Panel.Takes.{isDrawn, isCmr, moves}
 use Rattle.paper.specs.Site.Acting.{acts}
 use Rattle.paper.specs.Site.Bonds.{samplerOf, jorgHolds, kindOf, blueHolds, greyHolds, bothAct, couplingAt, cutAt, kindAt, holdsBy, holds, holdsGrey}
-use Rattle.paper.specs.Component.Labels.{Labels}
+use Rattle.paper.specs.Component.Labels.{Labels, Numbered}
 use Rattle.paper.specs.Component.Marks.{Flags, Marks, marked}
 use Rattle.laws.specs.Local.{Agree, kind-ext}
 use Rattle.laws.specs.Unique.{labels-ext, counts-ext, sizes-ext}
@@ -126,11 +127,11 @@ module _
 
     -- the table of `hold` marks the bonds that hold
     pub held-labels :
-        (holding l : List ℕ)
+        (holding l : List ℕ) {found : ℕ}
         → Marks (c .lattice .n) (c .lattice .d)
         (heldAt (c .mode) (c .lattice .d) (c .lattice .fwd) (c .lattice .couplings) (c .cuts) (size c) (samplerOf (c .temperature)) flags cols) holding
-        → Labels (graph c) (marked (c .lattice .d) holding) l
-        → Labels (graph c) (holds c xs) l
+        → Labels (graph c) (marked (c .lattice .d) holding) l found
+        → Labels (graph c) (holds c xs) l found
     unfolding holds
     held-labels holding l h w =
         labels-ext (graph c) (marked (c .lattice .d) holding) (holdsBy (c .mode) c xs) l
@@ -151,19 +152,33 @@ module _
 
 -- labels of a table that marks the grey bonds
 pub grey-labels :
-    (c : Call) (xs : List ℤ) (grey l : List ℕ)
+    (c : Call) (xs : List ℤ) (grey l : List ℕ) {found : List ℕ}
     → Marks (c .lattice .n) (c .lattice .d) (holdsGrey c xs) grey
-    → Labels (graph c) (marked (c .lattice .d) grey) l
-    → Labels (graph c) (holdsGrey c xs) l
+    → Numbered (graph c) (marked (c .lattice .d) grey) l found
+    → Numbered (graph c) (holdsGrey c xs) l found
 grey-labels c xs grey l h w =
-    labels-ext (graph c) (marked (c .lattice .d) grey) (holdsGrey c xs) l (λ i e hi he. mark-at (c .lattice .n) (c .lattice .d) _ grey h i e hi he) w
+    record {
+      labels =
+          labels-ext (graph c) (marked (c .lattice .d) grey) (holdsGrey c xs) l
+          (λ i e hi he. mark-at (c .lattice .n) (c .lattice .d) _ grey h i e hi he) (w .labels);
+      one = w .one;
+    }
+
+-- how many there are, stored in a list of one number
+pub stored-number :
+    {t : Graph} {holding : ℕ → ℕ → Bool} {l : List ℕ} {k : ℕ} (found : List ℕ) → length found ≡ 1 → Labels t holding l k
+    → Numbered t holding l (set found 0 k)
+stored-number {t} {holding} {l} {k} found one w = record {
+  labels = rw (getD-set-same found 0 k 0 (omega (arith, one))) w;
+  one = length-set found 0 k ∙ one;
+}
 
 -- ---- label: from what its parts leave to what it leaves
 module _
     {t : Task} {fwd : List ℕ} {couplings : List ℤ} {cuts : List Float} {xs : List ℤ} {cols flags holding grey tally labels counts sizes : List ℕ} {r : Bool}
-    (bwd : List ℕ) (h : HoldLeaves t fwd couplings cuts flags cols holding grey) (tested : Tested (t .mode) (t .n) (t .d) fwd (t .group) xs)
+    {k : ℕ} (bwd found : List ℕ) (h : HoldLeaves t fwd couplings cuts flags cols holding grey) (tested : Tested (t .mode) (t .n) (t .d) fwd (t .group) xs)
     (s : Sights (t .mode) (t .n) (t .group) (t .reference) xs cols flags r)
-    (l : Labelled (t .n) (t .d) fwd holding labels tally) (o : Reported (isOne flags) labels counts sizes)
+    (l : Labelled (t .n) (t .d) fwd holding labels tally k) (o : Reported (isOne flags) labels counts sizes) (one : length found ≡ 1)
   where
     abbrev c : Call
     c = callOf t fwd bwd couplings cuts
@@ -175,12 +190,12 @@ module _
     marks : (r : ℕ) → r < length labels → isOne flags r ≡ acts c xs r
     marks r h = flag-at (t .n) (acts c xs) flags acting r (rw (l .labels .long) at h)
 
-    pub label-leaves : LabelLeaves c xs cols flags grey tally labels counts sizes r
+    pub label-leaves : LabelLeaves c xs cols flags grey tally labels counts sizes (set found 0 k) r
     label-leaves = record {
       columns = s .columns;
       acting = acting;
       some = acts-tells c xs r (s .some);
-      labelled = held-labels c xs tested flags cols acting (s .columns) holding labels (h .held) (l .labels);
+      labelled = stored-number found one (held-labels c xs tested flags cols acting (s .columns) holding labels (h .held) (l .labels));
       grey-held = λ e m. grey-marks c xs tested flags cols acting (s .columns) grey e (h .grey-held e m);
       grey-long = h .grey-long;
       tallied = l .sized;

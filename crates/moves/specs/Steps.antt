@@ -14,7 +14,7 @@ use Rattle.paper.specs.Panel.Input.{Call, pattern, member, graph, size}
 use Rattle.paper.specs.Panel.Takes.{isPerm, isGperm, isCmr, isDrawn, oneCluster, moves, entries, flipsBy}
 use Rattle.paper.specs.Site.Acting.{acts, SomeActs}
 use Rattle.paper.specs.Site.Bonds.{samplerOf, holds, holdsGrey}
-use Rattle.paper.specs.Component.Labels.{Labels}
+use Rattle.paper.specs.Component.Labels.{Numbered}
 use Rattle.paper.specs.Component.Sizes.{labelOf, Sized, Counted, Largest}
 use Rattle.paper.specs.Component.Marks.{Flags, Marks, marked}
 use Rattle.paper.specs.Move.Moving.{greyAt}
@@ -50,9 +50,9 @@ pub record HoldLeaves (t : Task) (fwd : List ℕ) (couplings : List ℤ) (cuts :
       isCmr (t .mode) ≡ true → moves (t .form) ≡ true → Marks (t .n) (t .d) (table.greyAt (t .d) fwd couplings cuts (samplerOf (t .temperature)) cols) grey
   pub grey-long : length grey ≡ t .n * t .d
 
--- ---- label: from spins to columns, labels, counts and sizes
+-- ---- label: from spins to columns, labels, counts, sizes, and how many components there are
 -- the areas that it fills
-pub record LabelAreas (n d : ℕ) (cols flags holding grey tally labels counts sizes : List ℕ) : Type 0 where
+pub record LabelAreas (n d : ℕ) (cols flags holding grey tally labels counts sizes found : List ℕ) : Type 0 where
   pub cols-long : length cols ≡ n
   pub flags-long : length flags ≡ n
   pub holding-long : length holding ≡ n * d
@@ -61,20 +61,21 @@ pub record LabelAreas (n d : ℕ) (cols flags holding grey tally labels counts s
   pub labels-long : length labels ≡ n
   pub counts-long : length counts ≡ n + 1
   pub sizes-long : length sizes ≡ 4
+  pub found-long : length found ≡ 1
 
 pub record LabelAsks
-    (t : Task) (fwd : List ℕ) (couplings : List ℤ) (cuts : List Float) (xs : List ℤ) (cols flags holding grey tally labels counts sizes : List ℕ)
+    (t : Task) (fwd : List ℕ) (couplings : List ℤ) (cuts : List Float) (xs : List ℤ) (cols flags holding grey tally labels counts sizes found : List ℕ)
     : Type 0 where
   pub tested : Tested (t .mode) (t .n) (t .d) fwd (t .group) xs
   pub reference : isGperm (t .mode) ≡ true → t .reference < t .n
   pub coupled : isDrawn (t .mode) ≡ true → Coupled (t .n) (t .d) couplings cuts
-  pub lent : LabelAreas (t .n) (t .d) cols flags holding grey tally labels counts sizes
+  pub lent : LabelAreas (t .n) (t .d) cols flags holding grey tally labels counts sizes found
 
-pub record LabelLeaves (c : Call) (xs : List ℤ) (cols flags grey tally labels counts sizes : List ℕ) (r : Bool) : Type 0 where
+pub record LabelLeaves (c : Call) (xs : List ℤ) (cols flags grey tally labels counts sizes found : List ℕ) (r : Bool) : Type 0 where
   pub columns : Columns (c .lattice .n) (size c) (pattern c xs) cols
   pub acting : Flags (c .lattice .n) (acts c xs) flags
   pub some : Tells r (SomeActs c xs)
-  pub labelled : Labels (graph c) (holds c xs) labels
+  pub labelled : Numbered (graph c) (holds c xs) labels found
   pub grey-held : isCmr (c .mode) ≡ true → moves (c .form) ≡ true → Marks (c .lattice .n) (c .lattice .d) (holdsGrey c xs) grey
   pub grey-long : length grey ≡ c .lattice .n * c .lattice .d
   pub tallied : Sized labels tally
@@ -100,7 +101,7 @@ pub record Choosable (t : Task) (flags labels tally choices reached cols : List 
   pub narrow : (i : ℕ) → i < length cols → getD cols i 0 < 2 ^ t .group .len
 
 -- what CMR's grey half is lent
-pub record Greyable (t : Task) (fwd greys grey greyLabels : List ℕ) : Type 0 where
+pub record Greyable (t : Task) (fwd greys grey greyLabels greyFound : List ℕ) : Type 0 where
   pub d-high : t .d ≤ 4
   pub fwd-long : length fwd ≡ t .n * t .d
   pub ahead-lt : (i e : ℕ) → i < t .n → e < t .d → getD fwd (i * t .d + e) 0 < t .n
@@ -108,12 +109,13 @@ pub record Greyable (t : Task) (fwd greys grey greyLabels : List ℕ) : Type 0 w
   pub greys-long : length greys ≡ entries (t .form) (t .n)
   pub small : (x : ℕ) → x < length greys → getD greys x 0 ≤ 3
   pub labels-long : length greyLabels ≡ t .n
+  pub found-long : length greyFound ≡ 1
   pub two : t .group .len ≡ 2
 
-pub record ChooseAsks (t : Task) (fwd choices greys flags grey labels tally reached cols greyLabels : List ℕ) : Type 0 where
+pub record ChooseAsks (t : Task) (fwd choices greys flags grey labels tally reached cols greyLabels greyFound : List ℕ) : Type 0 where
   pub choosable : Choosable t flags labels tally choices reached cols
   pub cols-long : length cols ≡ t .n
-  pub greyable : isCmr (t .mode) ≡ true → Greyable t fwd greys grey greyLabels
+  pub greyable : isCmr (t .mode) ≡ true → Greyable t fwd greys grey greyLabels greyFound
 
 -- the new column of the site i from the choice of its component
 abbrev pub chosenAt : Task → List ℕ → List ℕ → List ℕ → List ℕ → ℕ → ℕ
@@ -130,10 +132,11 @@ finalAt t flags labels greyLabels choices greys cols i =
     (greyed (greyAt (t .form) greys (labelOf greyLabels i)) (chosenAt t flags labels choices cols i))
     (chosenAt t flags labels choices cols i)
 
-pub record ChooseLeaves (t : Task) (fwd choices greys flags grey labels cols lent new greyLabels : List ℕ) : Type 0 where
+pub record ChooseLeaves (t : Task) (fwd choices greys flags grey labels cols lent lentFound new greyLabels greyFound : List ℕ) : Type 0 where
   pub columns : Becomes (finalAt t flags labels greyLabels choices greys cols) cols new
-  pub grey-labels : isCmr (t .mode) ≡ true → Labels (graphOf (t .n) (t .d) fwd) (marked (t .d) grey) greyLabels
+  pub grey-labels : isCmr (t .mode) ≡ true → Numbered (graphOf (t .n) (t .d) fwd) (marked (t .d) grey) greyLabels greyFound
   pub grey-kept : isCmr (t .mode) ≡ false → greyLabels ≡ lent
+  pub grey-found-kept : isCmr (t .mode) ≡ false → greyFound ≡ lentFound
 
 -- ---- write: the group's rows
 pub record WriteAsks (t : Task) (xs : List ℤ) (cols : List ℕ) : Type 0 where

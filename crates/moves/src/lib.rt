@@ -66,7 +66,7 @@ fn hold(
     }
 }
 
-// Labels the components of the group's bonds, and counts those that act. True where some site acts.
+// Labels the components of the group's bonds, writes how many there are, and counts those that act. True where some site acts.
 fn label_task(
     t: Task,
     spins: &[i8],
@@ -81,19 +81,21 @@ fn label_task(
     labels: &mut [u32],
     counts: &mut [u32],
     sizes: &mut [u32],
+    found: &mut [u32],
 ) -> bool
     requires { ⌜ LabelAsks t (now fwd) (now couplings) (now cuts) (now spins)
-        (now cols) (now acts) (now holds) (now grey) (now tally) (now labels) (now counts) (now sizes) ⌝ }
+        (now cols) (now acts) (now holds) (now grey) (now tally) (now labels) (now counts) (now sizes) (now found) ⌝ }
     ensures { λ r. ⌜ ((bwd : List ℕ) → LabelLeaves
         (callOf t (now (fwd .entry)) bwd (now (couplings .entry)) (now (cuts .entry))) (now (spins .entry))
-        (now (cols .exit)) (now (acts .exit)) (now (grey .exit)) (now (tally .exit)) (now (labels .exit)) (now (counts .exit)) (now (sizes .exit)) r) ⌝ }
+        (now (cols .exit)) (now (acts .exit)) (now (grey .exit)) (now (tally .exit)) (now (labels .exit)) (now (counts .exit)) (now (sizes .exit))
+        (now (found .exit)) r) ⌝ }
 {
     let mode = t.mode;
     let group = t.group;
     let n = t.n;
     let some = column_rules::look(mode, n, spins, group, t.reference, cols, acts);
     hold(t, fwd, couplings, cuts, acts, cols, holds, grey);
-    label::label(n, t.d, fwd, holds, labels, tally);
+    found[0] = label::label(n, t.d, fwd, holds, labels, tally);
     label::count(labels, tally, acts, counts, sizes);
     some
 }
@@ -132,7 +134,8 @@ fn choose_columns(
     }
 }
 
-// The new column of every site; in CMR the blue flips, then grey labels and the grey numbers of their components. No row is written.
+// The new column of every site; in CMR the blue flips, then grey labels, how many grey components there are, and what the grey numbers lent for them do.
+// No row is written.
 fn choose_task(
     t: Task,
     fwd: &[u32],
@@ -145,18 +148,19 @@ fn choose_task(
     reached: &mut [u8],
     cols: &mut [u8],
     grey_labels: &mut [u32],
+    grey_found: &mut [u32],
 )
     requires { ⌜ ChooseAsks t (now fwd) (now choices) (now greys) (now acts) (now grey) (now labels) (now tally) (now reached) (now cols)
-        (now «grey_labels») ⌝ }
+        (now «grey_labels») (now «grey_found») ⌝ }
     ensures { λ _. ⌜ ChooseLeaves t (now (fwd .entry)) (now (choices .entry)) (now (greys .entry))
-        (now (acts .entry)) (now (grey .entry)) (now (labels .entry)) (now (cols .entry)) (now («grey_labels» .entry))
-        (now (cols .exit)) (now («grey_labels» .exit)) ⌝ }
+        (now (acts .entry)) (now (grey .entry)) (now (labels .entry)) (now (cols .entry)) (now («grey_labels» .entry)) (now («grey_found» .entry))
+        (now (cols .exit)) (now («grey_labels» .exit)) (now («grey_found» .exit)) ⌝ }
 {
     let mode = t.mode;
     let form = t.form;
     choose_columns(t, acts, labels, tally, choices, reached, cols);
     if mode.is_cmr() {
-        label::label(t.n, t.d, fwd, grey, grey_labels, tally);
+        grey_found[0] = label::label(t.n, t.d, fwd, grey, grey_labels, tally);
         choose::reach(mode, form, t.seed, acts, grey_labels, tally, reached);
         choose::grey_columns(form, reached, grey_labels, greys, cols);
     }
@@ -171,8 +175,8 @@ fn write_task(t: Task, spins: &mut [i8], cols: &[u8])
     columns::write_rows(spins, t.n, group, cols);
 }
 
-// One task of a form that labels, whose input is tested: labels, counts, sizes and spins as the paper has them. It is lent no members, and keeps any. The
-// work arrays are this call's own.
+// One task of a form that labels, whose input is tested: labels, how many components there are, counts, sizes and spins as the paper has them. It is lent no
+// members, and keeps any. The work arrays are this call's own.
 pub fn run_task(
     t: Task,
     spins: &mut [i8],
@@ -186,17 +190,21 @@ pub fn run_task(
     grey_labels: &mut [u32],
     counts: &mut [u32],
     sizes: &mut [u32],
+    found: &mut [u32],
+    grey_found: &mut [u32],
 ) -> Answer
     requires { ⌜ RunAsks
         (callOf t (now fwd) (now bwd) (now couplings) (now cuts))
         (choicesOf (now choices) (now greys))
-        (now spins) (now labels) (now «grey_labels») (now counts) (now sizes) ⌝ }
+        (now spins) (now labels) (now «grey_labels») (now counts) (now sizes) (now found) (now «grey_found») ⌝ }
     ensures { λ r. ⌜ ((members : List ℕ) → Answers
         (callOf t (now (fwd .entry)) (now (bwd .entry)) (now (couplings .entry)) (now (cuts .entry)))
         (choicesOf (now (choices .entry)) (now (greys .entry)))
-        (buffersOf (now (spins .entry)) (now (labels .entry)) (now («grey_labels» .entry)) (now (counts .entry)) (now (sizes .entry)) members)
+        (buffersOf (now (spins .entry)) (now (labels .entry)) (now («grey_labels» .entry)) (now (counts .entry)) (now (sizes .entry)) members
+        (now (found .entry)) (now («grey_found» .entry)))
         r
-        (buffersOf (now (spins .exit)) (now (labels .exit)) (now («grey_labels» .exit)) (now (counts .exit)) (now (sizes .exit)) members)) ⌝ }
+        (buffersOf (now (spins .exit)) (now (labels .exit)) (now («grey_labels» .exit)) (now (counts .exit)) (now (sizes .exit)) members
+        (now (found .exit)) (now («grey_found» .exit)))) ⌝ }
 {
     let n = t.n;
     let bonds = n * t.d;
@@ -224,6 +232,7 @@ pub fn run_task(
         labels,
         counts,
         sizes,
+        found,
     );
     if !some {
         return Answer::Idle;
@@ -243,6 +252,7 @@ pub fn run_task(
             &mut reached[..n],
             cols,
             grey_labels,
+            grey_found,
         );
         write_task(t, spins, cols);
         return Answer::Moved;

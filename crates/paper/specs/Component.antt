@@ -1,6 +1,6 @@
--- Components from the bottom up: what is linked, labels, one component's members, sizes, and bytes that mark.
+-- Components from the bottom up: what is linked, sizes, labels, one component's members, and bytes that mark.
 pub mod Links
+pub mod Sizes
 pub mod Labels
 pub mod Members
-pub mod Sizes
 pub mod Marks

@@ -250,6 +250,8 @@ pub struct Lengths {
     pub counts: usize,
     pub sizes: usize,
     pub members: usize,
+    pub found: usize,
+    pub grey_found: usize,
 }
 
 pub enum Answer {

@@ -49,7 +49,7 @@ gone-spins c p b b′ w = go (by-form (c .form))
       where
         perms : moves (c .form) ≡ true → Rows c p (b′ .labels)
         perms e q i hi =
-            perms-of v (rw (e, q)) (labelOf (b′ .labels) i) (label-lt (graph c) (holds c (b .spins)) (b′ .labels) (w .seen .all f .labels) i hi)
+            perms-of v (rw (e, q)) (labelOf (b′ .labels) i) (label-lt (graph c) (holds c (b .spins)) (b′ .labels) (w .seen .all f .labels .labels) i hi)
     go (inr f) = let m = w .turned f in moved-spins c p b v (m .blue) (b′ .members) (b′ .spins) perms (m .moved)
       where
         perms : moves (c .form) ≡ true → Rows c p (w .turned f .blue)

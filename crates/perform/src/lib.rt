@@ -29,18 +29,22 @@ fn run_kept(
     grey_labels: &mut [u32],
     counts: &mut [u32],
     sizes: &mut [u32],
+    found: &mut [u32],
+    grey_found: &mut [u32],
 ) -> Answer
     requires { ⌜ RunAsks
         (callOf t (now fwd) (now bwd) (now couplings) (now cuts))
         (choicesOf (now choices) (now greys))
-        (now spins) (now labels) (now «grey_labels») (now counts) (now sizes) ⌝ }
+        (now spins) (now labels) (now «grey_labels») (now counts) (now sizes) (now found) (now «grey_found») ⌝ }
     requires { ⌜ TotalsReady true (latticeOf (t .n) (t .d) (t .s) (now fwd) (now bwd) (now couplings)) (t .group) (now totals) ⌝ }
     ensures { λ r. ⌜ ((members : List ℕ) → Answers
         (callOf t (now (fwd .entry)) (now (bwd .entry)) (now (couplings .entry)) (now (cuts .entry)))
         (choicesOf (now (choices .entry)) (now (greys .entry)))
-        (buffersOf (now (spins .entry)) (now (labels .entry)) (now («grey_labels» .entry)) (now (counts .entry)) (now (sizes .entry)) members)
+        (buffersOf (now (spins .entry)) (now (labels .entry)) (now («grey_labels» .entry)) (now (counts .entry)) (now (sizes .entry)) members
+        (now (found .entry)) (now («grey_found» .entry)))
         r
-        (buffersOf (now (spins .exit)) (now (labels .exit)) (now («grey_labels» .exit)) (now (counts .exit)) (now (sizes .exit)) members)) ⌝ }
+        (buffersOf (now (spins .exit)) (now (labels .exit)) (now («grey_labels» .exit)) (now (counts .exit)) (now (sizes .exit)) members
+        (now (found .exit)) (now («grey_found» .exit)))) ⌝ }
     ensures { λ _. ⌜ Brought
         (latticeOf (t .n) (t .d) (t .s) (now (fwd .entry)) (now (bwd .entry)) (now (couplings .entry)))
         (now (spins .entry)) (now (totals .entry)) (now (spins .exit)) (now (totals .exit)) ⌝ }
@@ -63,6 +67,8 @@ fn run_kept(
         grey_labels,
         counts,
         sizes,
+        found,
+        grey_found,
     );
     let mut new_area = [0u8; 4096];
     let news = &mut new_area[..n];
@@ -87,21 +93,24 @@ pub fn run_form(
     counts: &mut [u32],
     sizes: &mut [u32],
     members: &mut [u8],
+    found: &mut [u32],
+    grey_found: &mut [u32],
 ) -> Answer
     requires { ⌜ Valid
         (callOf t (now fwd) (now bwd) (now couplings) (now cuts))
         (choicesOf (now choices) (now greys))
-        (buffersOf (now spins) (now labels) (now «grey_labels») (now counts) (now sizes) (now members)) ⌝ }
+        (buffersOf (now spins) (now labels) (now «grey_labels») (now counts) (now sizes) (now members)
+        (now found) (now «grey_found»)) ⌝ }
     requires { ⌜ TotalsReady
         (keepsBy (t .keeps) (t .form)) (latticeOf (t .n) (t .d) (t .s) (now fwd) (now bwd) (now couplings)) (t .group) (now totals) ⌝ }
     ensures { λ r. ⌜ Answers
         (callOf t (now (fwd .entry)) (now (bwd .entry)) (now (couplings .entry)) (now (cuts .entry)))
         (choicesOf (now (choices .entry)) (now (greys .entry)))
         (buffersOf (now (spins .entry)) (now (labels .entry)) (now («grey_labels» .entry)) (now (counts .entry)) (now (sizes .entry))
-        (now (members .entry)))
+        (now (members .entry)) (now (found .entry)) (now («grey_found» .entry)))
         r
         (buffersOf (now (spins .exit)) (now (labels .exit)) (now («grey_labels» .exit)) (now (counts .exit)) (now (sizes .exit))
-        (now (members .exit))) ⌝ }
+        (now (members .exit)) (now (found .exit)) (now («grey_found» .exit))) ⌝ }
     ensures { λ _. ⌜ TotalsAfter
         (keepsBy (t .keeps) (t .form))
         (latticeOf (t .n) (t .d) (t .s) (now (fwd .entry)) (now (bwd .entry)) (now (couplings .entry)))
@@ -138,6 +147,8 @@ pub fn run_form(
             grey_labels,
             counts,
             sizes,
+            found,
+            grey_found,
         );
     }
     moves::run_task(
@@ -153,5 +164,7 @@ pub fn run_form(
         grey_labels,
         counts,
         sizes,
+        found,
+        grey_found,
     )
 }

@@ -15,3 +15,5 @@ pub record Held (z : Sizes) : Type 0 where
   pub grey-labels : z .«grey_labels» ≤ 32
   pub counts : z .counts ≤ 36
   pub sizes : z .sizes ≤ 16
+  pub found : z .found ≤ 4
+  pub grey-found : z .«grey_found» ≤ 4

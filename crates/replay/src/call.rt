@@ -61,6 +61,8 @@ fn compare(
     grey_labels: &[u32],
     counts: &[u32],
     sizes: &[u32],
+    found: &[u32],
+    grey_found: &[u32],
 ) -> Seen {
     let start = Seen {
         at: from,
@@ -72,7 +74,9 @@ fn compare(
     let d = same_words(list, c, labels);
     let e = same_words(list, d, grey_labels);
     let f = same_words(list, e, counts);
-    same_words(list, f, sizes)
+    let g = same_words(list, f, sizes);
+    let h = same_words(list, g, found);
+    same_words(list, h, grey_found)
 }
 
 // The group's systems stand at `from`, one byte each.
@@ -167,6 +171,8 @@ pub(crate) fn step(
     let mut grey_area = [65535u32; 32];
     let mut counts_area = [65535u32; 36];
     let mut sizes_area = [65535u32; 16];
+    let mut found_area = [65535u32; 4];
+    let mut grey_found_area = [65535u32; 4];
     let mut members = [0u8; 1];
     let mut totals = [0i64; 1];
     let bonds = z.cuts;
@@ -174,11 +180,15 @@ pub(crate) fn step(
     let grey_sites = z.grey_labels;
     let more = z.counts;
     let four = z.sizes;
+    let one = z.found;
+    let grey_one = z.grey_found;
     let cuts = &mut cuts_area[..bonds];
     let labels = &mut labels_area[..sites];
     let grey_labels = &mut grey_area[..grey_sites];
     let counts = &mut counts_area[..more];
     let sizes = &mut sizes_area[..four];
+    let found = &mut found_area[..one];
+    let grey_found = &mut grey_found_area[..grey_one];
     let a = fill_fractions(list, past_fours(at, z.temperatures), cuts);
     let b = past_twos(a, z.references);
     let c = past_twos(b, z.seeds);
@@ -198,10 +208,23 @@ pub(crate) fn step(
         counts,
         sizes,
         &mut members[..0],
+        found,
+        grey_found,
     );
     let end = past(d, z.greys);
     let got = of_step(answer);
-    compare(list, end, got, spins, labels, grey_labels, counts, sizes)
+    compare(
+        list,
+        end,
+        got,
+        spins,
+        labels,
+        grey_labels,
+        counts,
+        sizes,
+        found,
+        grey_found,
+    )
 }
 
 // A sweep: its masks stand at `masks`, its choices at `at`.
@@ -225,16 +248,22 @@ fn update(
     let mut grey_area = [65535u32; 32];
     let mut counts_area = [65535u32; 36];
     let mut sizes_area = [65535u32; 16];
+    let mut found_area = [65535u32; 4];
+    let mut grey_found_area = [65535u32; 4];
     let mut members = [0u8; 1];
     let mut totals = [0i64; 1];
     let sites = z.labels;
     let grey_sites = z.grey_labels;
     let more = z.counts;
     let four = z.sizes;
+    let one = z.found;
+    let grey_one = z.grey_found;
     let labels = &mut labels_area[..sites];
     let grey_labels = &mut grey_area[..grey_sites];
     let counts = &mut counts_area[..more];
     let sizes = &mut sizes_area[..four];
+    let found = &mut found_area[..one];
+    let grey_found = &mut grey_found_area[..grey_one];
     let d = past(at, z.choices);
     let answer = sweep::overlap_update(
         plan_of(h),
@@ -256,10 +285,23 @@ fn update(
         counts,
         sizes,
         &mut members[..0],
+        found,
+        grey_found,
     );
     let end = past(d, z.greys);
     let got = of_sweep(answer);
-    compare(list, end, got, spins, labels, grey_labels, counts, sizes)
+    compare(
+        list,
+        end,
+        got,
+        spins,
+        labels,
+        grey_labels,
+        counts,
+        sizes,
+        found,
+        grey_found,
+    )
 }
 
 // A sweep: its order stands at `from`, its temperatures at `at`.

@@ -115,6 +115,8 @@ pub(crate) struct Sizes {
     pub(crate) grey_labels: usize,
     pub(crate) counts: usize,
     pub(crate) sizes: usize,
+    pub(crate) found: usize,
+    pub(crate) grey_found: usize,
 }
 
 pub(crate) fn sizes_of(h: Head) -> Sizes
@@ -146,5 +148,7 @@ pub(crate) fn sizes_of(h: Head) -> Sizes
         grey_labels: only(mode.takes_greys(form), labels),
         counts: labels + tasks,
         sizes: 4 * tasks,
+        found: tasks,
+        grey_found: only(mode.takes_greys(form), tasks),
     }
 }

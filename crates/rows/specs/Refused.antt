@@ -52,6 +52,8 @@ buffers ok = record {
   counts = cond (ok 2) (0 ∷ 0 ∷ 0 ∷ []) (0 ∷ 0 ∷ []);
   sizes = 0 ∷ 0 ∷ 0 ∷ 0 ∷ [];
   members = [];
+  found = 0 ∷ [];
+  greyFound = 0 ∷ [];
 }
 
 abbrev Refused : (ℕ → Bool) → ℕ → Type 0
@@ -100,7 +102,16 @@ abbrev permuting : List ℕ → Choices
 permuting p = record { choices = p; greys = [] }
 
 abbrev lent : List ℤ → Buffers
-lent spins = record { spins = spins; labels = 0 ∷ 0 ∷ []; greyLabels = []; counts = 0 ∷ 0 ∷ 0 ∷ []; sizes = 0 ∷ 0 ∷ 0 ∷ 0 ∷ []; members = [] }
+lent spins = record {
+  spins = spins;
+  labels = 0 ∷ 0 ∷ [];
+  greyLabels = [];
+  counts = 0 ∷ 0 ∷ 0 ∷ [];
+  sizes = 0 ∷ 0 ∷ 0 ∷ 0 ∷ [];
+  members = [];
+  found = 0 ∷ [];
+  greyFound = [];
+}
 
 pub record Seeds : Type 0 where
   -- site 0 acts and site 1 does not

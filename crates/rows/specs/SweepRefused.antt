@@ -45,6 +45,8 @@ lent = record {
   counts = 0 ∷ 0 ∷ 0 ∷ 0 ∷ [];
   sizes = 0 ∷ 0 ∷ 0 ∷ 0 ∷ 0 ∷ 0 ∷ 0 ∷ 0 ∷ [];
   members = [];
+  found = 0 ∷ 0 ∷ [];
+  greyFound = [];
 }
 
 abbrev warm : List Float

@@ -22,7 +22,7 @@ use Rattle.paper.specs.declared.SweepAnswer.the-variants.{Swept}
 use Rattle.paper.specs.Panel.Input.{Buffers, spin, pattern, system}
 use Rattle.paper.specs.Site.Acting.{differs, acts}
 use Rattle.paper.specs.Site.Bonds.{holds}
-use Rattle.paper.specs.Component.Sizes.{sizeOf}
+use Rattle.paper.specs.Component.Sizes.{sizeOf, isFirst}
 use Rattle.paper.specs.Move.Moving.{reached, final}
 use Rattle.paper.specs.Answer.Task.{Sweep, masked, taskCall, taskChoices, areas}
 use Rattle.paper.specs.Answer.Sweep.{Done, Unmoved, SweepAnswers}
@@ -61,6 +61,8 @@ before = record {
   counts = 9 ∷ 9 ∷ 9 ∷ 9 ∷ 9 ∷ 9 ∷ 9 ∷ 9 ∷ [];
   sizes = 9 ∷ 9 ∷ 9 ∷ 9 ∷ 9 ∷ 9 ∷ 9 ∷ 9 ∷ 9 ∷ 9 ∷ 9 ∷ 9 ∷ 9 ∷ 9 ∷ 9 ∷ 9 ∷ [];
   members = [];
+  found = 9 ∷ 9 ∷ 9 ∷ 9 ∷ [];
+  greyFound = [];
 }
 
 -- task 1 exchanged the systems 2 and 3, and task 3's areas are as they were
@@ -72,6 +74,8 @@ after = record {
   counts = 0 ∷ 0 ∷ 0 ∷ 1 ∷ 0 ∷ 1 ∷ 9 ∷ 9 ∷ [];
   sizes = 0 ∷ 0 ∷ 0 ∷ 0 ∷ 1 ∷ 0 ∷ 0 ∷ 0 ∷ 1 ∷ 0 ∷ 0 ∷ 0 ∷ 9 ∷ 9 ∷ 9 ∷ 9 ∷ [];
   members = [];
+  found = 1 ∷ 1 ∷ 1 ∷ 9 ∷ [];
+  greyFound = [];
 }
 
 -- task k's rows after the sweep are those of ys, by computing
@@ -89,29 +93,29 @@ abbrev left : List ℤ → ℕ → Buffers
 left ys k = areas sweep after ys k
 
 task0 : Done sweep before after 0
-unfolding table every any holds acts differs sizeOf countWhere reached final
+unfolding table every any holds acts differs sizeOf isFirst countWhere reached final
 task0 = record {
   answer = Idle;
   spins = before .spins;
-  answers = rests-by (taskCall sweep 0) (taskChoices sweep 0) (lent 0) (left (before .spins) 0) [] [] refl (λ _. refl) refl refl;
+  answers = rests-by (taskCall sweep 0) (taskChoices sweep 0) (lent 0) (left (before .spins) 0) [] [] refl (λ _. (refl, refl)) refl refl;
   rows = λ i x hi hx. rowsOf 0 (before .spins) .holds refl i hi x hx;
 }
 
 task1 : Done sweep before after 1
-unfolding table every any holds acts differs sizeOf countWhere reached final
+unfolding table every any holds acts differs sizeOf isFirst countWhere reached final
 task1 = record {
   answer = Moved;
   spins = after .spins;
-  answers = goes-by (taskCall sweep 1) (taskChoices sweep 1) (lent 1) (left (after .spins) 1) [] [] refl (λ _. refl) refl;
+  answers = goes-by (taskCall sweep 1) (taskChoices sweep 1) (lent 1) (left (after .spins) 1) [] [] refl (λ _. (refl, refl)) refl;
   rows = λ i x hi hx. refl;
 }
 
 task2 : Done sweep before after 2
-unfolding table every any holds acts differs sizeOf countWhere reached final
+unfolding table every any holds acts differs sizeOf isFirst countWhere reached final
 task2 = record {
   answer = Moved;
   spins = before .spins;
-  answers = goes-by (taskCall sweep 2) (taskChoices sweep 2) (lent 2) (left (before .spins) 2) [] [] refl (λ _. refl) refl;
+  answers = goes-by (taskCall sweep 2) (taskChoices sweep 2) (lent 2) (left (before .spins) 2) [] [] refl (λ _. (refl, refl)) refl;
   rows = λ i x hi hx. rowsOf 2 (before .spins) .holds refl i hi x hx;
 }
 
@@ -164,11 +168,19 @@ unfolding table every any acts differs countWhere
 swept = record {
   valid = sweep-accepted-by sweep before refl;
   counts = refl;
-  lengths = record { spins = refl; labels = refl; counts = refl; sizes = refl; grey-labels = refl; members = refl };
+  lengths = record { spins = refl; labels = refl; counts = refl; sizes = refl; grey-labels = refl; members = refl; found = refl; grey-found = refl };
   each = each;
   skipped = skipped;
   others = others;
-  kept = record { labels = λ e. never (sym e); grey-labels = λ _. refl; counts = λ e. never (sym e); sizes = λ e. never (sym e); members = λ _. refl };
+  kept = record {
+    labels = λ e. never (sym e);
+    grey-labels = λ _. refl;
+    counts = λ e. never (sym e);
+    sizes = λ e. never (sym e);
+    members = λ _. refl;
+    found = λ e. never (sym e);
+    grey-found = λ _. refl;
+  };
 }
 
 pub swept-only : (a : SweepAnswer) (z : Buffers) → SweepAnswers sweep before a z → SameSweep (Swept 1 2) after a z

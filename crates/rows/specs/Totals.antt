@@ -17,7 +17,7 @@ use Rattle.paper.specs.Panel.Input.{Call, Buffers}
 use Rattle.paper.specs.Site.Acting.{pairDiffers, acts}
 use Rattle.paper.specs.Site.Bonds.{holds}
 use Rattle.paper.specs.Site.Energy.{energy}
-use Rattle.paper.specs.Component.Sizes.{sizeOf}
+use Rattle.paper.specs.Component.Sizes.{sizeOf, isFirst}
 use Rattle.paper.specs.Move.Moving.{other, reached, final}
 use Rattle.paper.specs.Refusal.Kept.{valid-of}
 use Rattle.paper.specs.Answer.Move.{Answers}
@@ -32,10 +32,10 @@ abbrev pub two : Call
 two = plain Pair Wolff (line 2 2 (1 ∷ 0 ∷ []) (1 ∷ 0 ∷ []) (pos 5 ∷ pos 0 ∷ [])) (first 2)
 
 abbrev pub unlike : Buffers
-unlike = buffers (+ ∷ + ∷ - ∷ + ∷ []) (0 ∷ 0 ∷ []) (0 ∷ 0 ∷ 0 ∷ []) (0 ∷ 0 ∷ 0 ∷ 0 ∷ [])
+unlike = buffers (+ ∷ + ∷ - ∷ + ∷ []) (0 ∷ 0 ∷ []) (0 ∷ 0 ∷ 0 ∷ []) (0 ∷ 0 ∷ 0 ∷ 0 ∷ []) 0
 
 abbrev pub exchanged : Buffers
-exchanged = buffers (- ∷ + ∷ + ∷ + ∷ []) (0 ∷ 1 ∷ []) (0 ∷ 1 ∷ 0 ∷ []) (1 ∷ 0 ∷ 0 ∷ 0 ∷ [])
+exchanged = buffers (- ∷ + ∷ + ∷ + ∷ []) (0 ∷ 1 ∷ []) (0 ∷ 1 ∷ 0 ∷ []) (1 ∷ 0 ∷ 0 ∷ 0 ∷ []) 2
 
 -- the meter's -5 and 5 before it
 abbrev pub metered : List ℤ
@@ -56,8 +56,8 @@ pub record TotalsCase : Type 0 where
   pub after : Current (two .lattice) (exchanged .spins) metered → ⊥
 
 answer : Answers two noChoices unlike Moved exchanged
-unfolding every any holds acts pairDiffers sizeOf countWhere other reached final
-answer = goes-by two noChoices unlike exchanged [] [] refl (λ _. refl) refl
+unfolding every any holds acts pairDiffers sizeOf isFirst countWhere other reached final
+answer = goes-by two noChoices unlike exchanged [] [] refl (λ _. (refl, refl)) refl
 
 -- what holds at 0 and at 1
 both : (P : ℕ → Type 0) → P 0 → P 1 → (t : ℕ) → t < 2 → P t

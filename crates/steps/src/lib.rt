@@ -92,17 +92,19 @@ pub fn overlap_step(
     counts: &mut [u32],
     sizes: &mut [u32],
     members: &mut [u8],
+    found: &mut [u32],
+    grey_found: &mut [u32],
 ) -> Answer
     ensures { λ r. ⌜ KeepAnswers
         (keepsBy (t .keeps) (t .form))
         (callOf t (now (fwd .entry)) (now (bwd .entry)) (now (couplings .entry)) (now (cuts .entry)))
         (choicesOf (now (choices .entry)) (now (greys .entry)))
         (buffersOf (now (spins .entry)) (now (labels .entry)) (now («grey_labels» .entry)) (now (counts .entry)) (now (sizes .entry))
-        (now (members .entry)))
+        (now (members .entry)) (now (found .entry)) (now («grey_found» .entry)))
         (now (totals .entry))
         r
         (buffersOf (now (spins .exit)) (now (labels .exit)) (now («grey_labels» .exit)) (now (counts .exit)) (now (sizes .exit))
-        (now (members .exit)))
+        (now (members .exit)) (now (found .exit)) (now («grey_found» .exit)))
         (now (totals .exit)) ⌝ }
 {
     let l = Lengths {
@@ -118,6 +120,8 @@ pub fn overlap_step(
         counts: counts.len(),
         sizes: sizes.len(),
         members: members.len(),
+        found: found.len(),
+        grey_found: grey_found.len(),
     };
     let fault = test_call(
         t,
@@ -149,6 +153,8 @@ pub fn overlap_step(
         counts,
         sizes,
         members,
+        found,
+        grey_found,
     )
 }
 
@@ -170,18 +176,22 @@ pub fn houdayer_step(
     counts: &mut [u32],
     sizes: &mut [u32],
     members: &mut [u8],
+    found: &mut [u32],
 ) -> Answer
     ensures { λ r. ⌜ Answers
         (callOf (taskOf (modeOf rule) form Nothing n d s group (whole 1) reference seed) (now (fwd .entry)) (now (bwd .entry)) [] [])
         (choicesOf (now (choices .entry)) [])
-        (buffersOf (now (spins .entry)) (now (labels .entry)) [] (now (counts .entry)) (now (sizes .entry)) (now (members .entry)))
+        (buffersOf (now (spins .entry)) (now (labels .entry)) [] (now (counts .entry)) (now (sizes .entry)) (now (members .entry))
+        (now (found .entry)) [])
         r
-        (buffersOf (now (spins .exit)) (now (labels .exit)) [] (now (counts .exit)) (now (sizes .exit)) (now (members .exit))) ⌝ }
+        (buffersOf (now (spins .exit)) (now (labels .exit)) [] (now (counts .exit)) (now (sizes .exit)) (now (members .exit))
+        (now (found .exit)) []) ⌝ }
 {
     let couplings = [0i32; 1];
     let cuts = [0.0f32; 1];
     let mut totals = [0i64; 1];
     let mut grey_labels = [0u32; 1];
+    let mut grey_found = [0u32; 1];
     let mode = mode_of(rule);
     let t = Task {
         mode,
@@ -210,6 +220,8 @@ pub fn houdayer_step(
         counts,
         sizes,
         members,
+        found,
+        &mut grey_found[..0],
     )
 }
 
@@ -232,16 +244,20 @@ pub fn jorg_step(
     counts: &mut [u32],
     sizes: &mut [u32],
     members: &mut [u8],
+    found: &mut [u32],
 ) -> Answer
     ensures { λ r. ⌜ Answers
         (callOf (taskOf Jorg form Nothing n d s group temperature 0 seed) (now (fwd .entry)) (now (bwd .entry)) (now (couplings .entry)) (now (cuts .entry)))
         (choicesOf (now (choices .entry)) [])
-        (buffersOf (now (spins .entry)) (now (labels .entry)) [] (now (counts .entry)) (now (sizes .entry)) (now (members .entry)))
+        (buffersOf (now (spins .entry)) (now (labels .entry)) [] (now (counts .entry)) (now (sizes .entry)) (now (members .entry))
+        (now (found .entry)) [])
         r
-        (buffersOf (now (spins .exit)) (now (labels .exit)) [] (now (counts .exit)) (now (sizes .exit)) (now (members .exit))) ⌝ }
+        (buffersOf (now (spins .exit)) (now (labels .exit)) [] (now (counts .exit)) (now (sizes .exit)) (now (members .exit))
+        (now (found .exit)) []) ⌝ }
 {
     let mut totals = [0i64; 1];
     let mut grey_labels = [0u32; 1];
+    let mut grey_found = [0u32; 1];
     let t = Task {
         mode: Mode::Jorg,
         form,
@@ -269,6 +285,8 @@ pub fn jorg_step(
         counts,
         sizes,
         members,
+        found,
+        &mut grey_found[..0],
     )
 }
 
@@ -293,15 +311,17 @@ pub fn cmr_step(
     counts: &mut [u32],
     sizes: &mut [u32],
     members: &mut [u8],
+    found: &mut [u32],
+    grey_found: &mut [u32],
 ) -> Answer
     ensures { λ r. ⌜ Answers
         (callOf (taskOf Cmr form Nothing n d s group temperature 0 seed) (now (fwd .entry)) (now (bwd .entry)) (now (couplings .entry)) (now (cuts .entry)))
         (choicesOf (now (choices .entry)) (now (greys .entry)))
         (buffersOf (now (spins .entry)) (now (labels .entry)) (now («grey_labels» .entry)) (now (counts .entry)) (now (sizes .entry))
-        (now (members .entry)))
+        (now (members .entry)) (now (found .entry)) (now («grey_found» .entry)))
         r
         (buffersOf (now (spins .exit)) (now (labels .exit)) (now («grey_labels» .exit)) (now (counts .exit)) (now (sizes .exit))
-        (now (members .exit))) ⌝ }
+        (now (members .exit)) (now (found .exit)) (now («grey_found» .exit))) ⌝ }
 {
     let mut totals = [0i64; 1];
     let t = Task {
@@ -331,5 +351,7 @@ pub fn cmr_step(
         counts,
         sizes,
         members,
+        found,
+        grey_found,
     )
 }

@@ -73,7 +73,16 @@ respun : (w : Sweep) (b b′ : Buffers) (xs ys : List ℤ) (k : ℕ) → areas w
 respun w b b′ xs ys k e = ap (λ (z : Buffers). withSpins z ys) e
 
 same-lengths : (b : Buffers) → SameLengths b b
-same-lengths b = record { spins = refl; labels = refl; counts = refl; sizes = refl; grey-labels = refl; members = refl }
+same-lengths b = record {
+  spins = refl;
+  labels = refl;
+  counts = refl;
+  sizes = refl;
+  grey-labels = refl;
+  members = refl;
+  found = refl;
+  grey-found = refl;
+}
 
 then-lengths : {a b c : Buffers} → SameLengths a b → SameLengths b c → SameLengths a c
 then-lengths p q = record {
@@ -83,10 +92,20 @@ then-lengths p q = record {
   sizes = q .sizes ∙ p .sizes;
   grey-labels = q .grey-labels ∙ p .grey-labels;
   members = q .members ∙ p .members;
+  found = q .found ∙ p .found;
+  grey-found = q .grey-found ∙ p .grey-found;
 }
 
 pub unwritten-none : (c : Call) (b : Buffers) → Unwritten c b b
-unwritten-none c b = record { labels = λ _. refl; grey-labels = λ _. refl; counts = λ _. refl; sizes = λ _. refl; members = λ _. refl }
+unwritten-none c b = record {
+  labels = λ _. refl;
+  grey-labels = λ _. refl;
+  counts = λ _. refl;
+  sizes = λ _. refl;
+  members = λ _. refl;
+  found = λ _. refl;
+  grey-found = λ _. refl;
+}
 
 then-unwritten : {c : Call} {x y z : Buffers} → Unwritten c x y → Unwritten c y z → Unwritten c x z
 then-unwritten p q = record {
@@ -95,6 +114,8 @@ then-unwritten p q = record {
   counts = λ e. q .counts e ∙ p .counts e;
   sizes = λ e. q .sizes e ∙ p .sizes e;
   members = λ e. q .members e ∙ p .members e;
+  found = λ e. q .found e ∙ p .found e;
+  grey-found = λ e. q .grey-found e ∙ p .grey-found e;
 }
 
 count-start : (f : ℕ → Bool) → 0 ≡ countWhere f 0

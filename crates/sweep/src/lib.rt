@@ -30,15 +30,17 @@ pub fn overlap_update(
     counts: &mut [u32],
     sizes: &mut [u32],
     members: &mut [u8],
+    found: &mut [u32],
+    grey_found: &mut [u32],
 ) -> SweepAnswer
     ensures { λ r. ⌜ SweepKeepAnswers (keepsBy (plan .keeps) (plan .form))
         (sweepOf plan (now (fwd .entry)) (now (bwd .entry)) (now (couplings .entry)) (now (order .entry)) (now (masks .entry))
         (now (temperatures .entry)) (now (cuts .entry)) (now (references .entry)) (now (seeds .entry))
         (now (choices .entry)) (now (greys .entry)))
         (buffersOf (now (spins .entry)) (now (labels .entry)) (now («grey_labels» .entry)) (now (counts .entry)) (now (sizes .entry))
-        (now (members .entry))) (now (totals .entry)) r
+        (now (members .entry)) (now (found .entry)) (now («grey_found» .entry))) (now (totals .entry)) r
         (buffersOf (now (spins .exit)) (now (labels .exit)) (now («grey_labels» .exit)) (now (counts .exit)) (now (sizes .exit))
-        (now (members .exit))) (now (totals .exit)) ⌝ }
+        (now (members .exit)) (now (found .exit)) (now («grey_found» .exit))) (now (totals .exit)) ⌝ }
 {
     let fault = sweep_tests::test_sweep(
         plan,
@@ -60,6 +62,8 @@ pub fn overlap_update(
         counts,
         sizes,
         members,
+        found,
+        grey_found,
     );
     if fault != 0 {
         return SweepAnswer::Fault(fault);
@@ -84,5 +88,7 @@ pub fn overlap_update(
         counts,
         sizes,
         members,
+        found,
+        grey_found,
     )
 }

@@ -56,19 +56,22 @@ fn step(
     counts: &mut [u32],
     sizes: &mut [u32],
     members: &mut [u8],
+    found: &mut [u32],
+    grey_found: &mut [u32],
 ) -> Outcomes
     requires { ⌜ Turn (plan .keeps)
         (sweepOf plan (now fwd) (now bwd) (now couplings) (now order) (now masks) (now temperatures) (now cuts)
         (now references) (now seeds) (now choices) (now greys))
-        k outcomes (buffersOf (now spins) (now labels) (now «grey_labels») (now counts) (now sizes) (now members)) (now totals) ⌝ }
+        k outcomes (buffersOf (now spins) (now labels) (now «grey_labels») (now counts) (now sizes) (now members) (now found)
+        (now «grey_found»)) (now totals) ⌝ }
     ensures { λ r. ⌜ Turned
         (sweepOf plan (now (fwd .entry)) (now (bwd .entry)) (now (couplings .entry)) (now (order .entry)) (now (masks .entry))
         (now (temperatures .entry)) (now (cuts .entry)) (now (references .entry)) (now (seeds .entry))
         (now (choices .entry)) (now (greys .entry)))
         k outcomes (buffersOf (now (spins .entry)) (now (labels .entry)) (now («grey_labels» .entry)) (now (counts .entry)) (now (sizes .entry))
-        (now (members .entry))) r
+        (now (members .entry)) (now (found .entry)) (now («grey_found» .entry))) r
         (buffersOf (now (spins .exit)) (now (labels .exit)) (now («grey_labels» .exit)) (now (counts .exit)) (now (sizes .exit))
-        (now (members .exit))) ⌝ }
+        (now (members .exit)) (now (found .exit)) (now («grey_found» .exit))) ⌝ }
     ensures { λ _. ⌜ TotalsAfter (keepsBy (plan .keeps) (plan .form))
         (latticeOf (plan .n) (plan .d) (plan .s) (now (fwd .entry)) (now (bwd .entry)) (now (couplings .entry)))
         (now (spins .entry)) (now (totals .entry)) (now (spins .exit)) (now (totals .exit)) ⌝ }
@@ -92,6 +95,12 @@ fn step(
     let member = tasks::bounds(members.len(), k, n);
     let i = member.start;
     let j = member.end;
+    let number = tasks::bounds(found.len(), k, 1);
+    let o = number.start;
+    let p = number.end;
+    let grey_number = tasks::bounds(grey_found.len(), k, 1);
+    let q = grey_number.start;
+    let r = grey_number.end;
     let answer = perform::run_form(
         tasks::task_of(plan, order, temperatures, references, seeds, k),
         spins,
@@ -107,6 +116,8 @@ fn step(
         &mut counts[e..f],
         &mut sizes[g..h],
         &mut members[i..j],
+        &mut found[o..p],
+        &mut grey_found[q..r],
     );
     add(outcomes, answer)
 }
@@ -132,11 +143,13 @@ pub fn run_tasks(
     counts: &mut [u32],
     sizes: &mut [u32],
     members: &mut [u8],
+    found: &mut [u32],
+    grey_found: &mut [u32],
 ) -> SweepAnswer
     requires { ⌜ Kept (sweepRules
         (sweepOf plan (now fwd) (now bwd) (now couplings) (now order) (now masks) (now temperatures) (now cuts)
         (now references) (now seeds) (now choices) (now greys))
-        (buffersOf (now spins) (now labels) (now «grey_labels») (now counts) (now sizes) (now members))) ⌝ }
+        (buffersOf (now spins) (now labels) (now «grey_labels») (now counts) (now sizes) (now members) (now found) (now «grey_found»))) ⌝ }
     requires { ⌜ TotalsAsked (keepsBy (plan .keeps) (plan .form))
         (latticeOf (plan .n) (plan .d) (plan .s) (now fwd) (now bwd) (now couplings)) (now totals) ⌝ }
     ensures { λ r. ⌜ SweepAnswers
@@ -144,9 +157,9 @@ pub fn run_tasks(
         (now (temperatures .entry)) (now (cuts .entry)) (now (references .entry)) (now (seeds .entry))
         (now (choices .entry)) (now (greys .entry)))
         (buffersOf (now (spins .entry)) (now (labels .entry)) (now («grey_labels» .entry)) (now (counts .entry)) (now (sizes .entry))
-        (now (members .entry))) r
+        (now (members .entry)) (now (found .entry)) (now («grey_found» .entry))) r
         (buffersOf (now (spins .exit)) (now (labels .exit)) (now («grey_labels» .exit)) (now (counts .exit)) (now (sizes .exit))
-        (now (members .exit))) ⌝ }
+        (now (members .exit)) (now (found .exit)) (now («grey_found» .exit))) ⌝ }
     ensures { λ _. ⌜ TotalsAfter (keepsBy (plan .keeps) (plan .form))
         (latticeOf (plan .n) (plan .d) (plan .s) (now (fwd .entry)) (now (bwd .entry)) (now (couplings .entry)))
         (now (spins .entry)) (now (totals .entry)) (now (spins .exit)) (now (totals .exit)) ⌝ }
@@ -177,6 +190,8 @@ pub fn run_tasks(
             counts,
             sizes,
             members,
+            found,
+            grey_found,
         );
         k += 1;
     }

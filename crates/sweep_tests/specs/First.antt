@@ -75,6 +75,8 @@ lengthsOf w b = record {
   counts = length (b .counts);
   sizes = length (b .sizes);
   members = length (b .members);
+  found = length (b .found);
+  «grey_found» = length (b .greyFound);
 }
 
 abbrev pub ownLengths : Sweep → List ℤ → SweepLengths

@@ -90,10 +90,10 @@ pub record TasksTold
     (q : Plan) (K : ℕ) (spins : List ℤ) (order masks : List ℕ) (temperatures cuts : List Float) (references seeds choices greys : List ℕ) (r : ℕ) : Type 0
   where
     pub is :
-        (fwd bwd : List ℕ) (couplings : List ℤ) (labels greyLabels counts sizes members : List ℕ)
+        (fwd bwd : List ℕ) (couplings : List ℤ) (labels greyLabels counts sizes members found greyFound : List ℕ)
         → Verdict
         (taskRules (sweepOf q fwd bwd couplings order masks temperatures cuts references seeds choices greys)
-        (buffersOf spins labels greyLabels counts sizes members) K)
+        (buffersOf spins labels greyLabels counts sizes members found greyFound) K)
         r
 
 -- a masked task keeps its rules; an unmasked one has the verdict on its parts
@@ -123,16 +123,17 @@ more-broken w b K (suc M) r l h f = go (eq-or-lt-of-le (le-of-suc-le-suc l)) (λ
 
 module _ {q : Plan} {spins : List ℤ} {order masks : List ℕ} {ts cuts : List Float} {references seeds choices greys : List ℕ} where
   pub told-none : TasksTold q 0 spins order masks ts cuts references seeds choices greys 0
-  told-none = record { is = λ fwd bwd js labels greyLabels counts sizes members. tt }
+  told-none = record { is = λ fwd bwd js labels greyLabels counts sizes members found greyFound. tt }
 
   pub told-more :
       {K r : ℕ} → TasksTold q K spins order masks ts cuts references seeds choices greys 0 → r ≡ 0
       → TaskTold q K spins order masks ts cuts references seeds choices greys r
       → TasksTold q (K + 1) spins order masks ts cuts references seeds choices greys 0
   told-more {K} {r} h e t = record {
-    is = λ fwd bwd js labels greyLabels counts sizes members.
-        more-kept (sweepOf q fwd bwd js order masks ts cuts references seeds choices greys) (buffersOf spins labels greyLabels counts sizes members) K
-        (h .is fwd bwd js labels greyLabels counts sizes members) (rw e at (t .is fwd bwd js));
+    is = λ fwd bwd js labels greyLabels counts sizes members found greyFound.
+        more-kept (sweepOf q fwd bwd js order masks ts cuts references seeds choices greys)
+        (buffersOf spins labels greyLabels counts sizes members found greyFound) K
+        (h .is fwd bwd js labels greyLabels counts sizes members found greyFound) (rw e at (t .is fwd bwd js));
   }
 
   pub told-broken :
@@ -141,7 +142,8 @@ module _ {q : Plan} {spins : List ℤ} {order masks : List ℕ} {ts cuts : List 
       → TasksTold q M spins order masks ts cuts references seeds choices greys r
   told-broken {K} {M} {r = zero} l h ne t = absurd (ne refl)
   told-broken {K} {M} {r = suc r} l h ne t = record {
-    is = λ fwd bwd js labels greyLabels counts sizes members.
-        more-broken (sweepOf q fwd bwd js order masks ts cuts references seeds choices greys) (buffersOf spins labels greyLabels counts sizes members)
-        K M (suc r) l (h .is fwd bwd js labels greyLabels counts sizes members) (t .is fwd bwd js);
+    is = λ fwd bwd js labels greyLabels counts sizes members found greyFound.
+        more-broken (sweepOf q fwd bwd js order masks ts cuts references seeds choices greys)
+        (buffersOf spins labels greyLabels counts sizes members found greyFound) K M (suc r) l
+        (h .is fwd bwd js labels greyLabels counts sizes members found greyFound) (t .is fwd bwd js);
   }

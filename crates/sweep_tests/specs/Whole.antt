@@ -73,6 +73,8 @@ module _ (keeps : Keeps) (w : Sweep) (b : Buffers) (ts : List ℤ) where
           counts = e .counts;
           sizes = e .sizes;
           members = e .members;
+          found = e .found;
+          grey-found = e .grey-found;
         };
     order = e .order;
     masks = e .masks;
@@ -100,6 +102,8 @@ module _ (keeps : Keeps) (w : Sweep) (b : Buffers) (ts : List ℤ) where
     counts = a .counts;
     sizes = a .sizes;
     members = a .members;
+    found = a .found;
+    grey-found = a .grey-found;
   }
 
   -- where 1 and 2 are broken, so are the paper's, and past them the verdict is that on the other rules
@@ -142,10 +146,10 @@ pub record ValuesTold
     (references seeds choices greys : List ℕ) (r : ℕ) : Type 0
   where
     pub is :
-        (labels greyLabels counts sizes members : List ℕ)
+        (labels greyLabels counts sizes members found greyFound : List ℕ)
         → Verdict
         (valueRules (q .keeps) (sweepOf q fwd bwd couplings order masks temperatures cuts references seeds choices greys)
-        (buffersOf spins labels greyLabels counts sizes members) totals)
+        (buffersOf spins labels greyLabels counts sizes members found greyFound) totals)
         r
 
 module _ {q : Plan} {spins : List ℤ} {fwd bwd order masks : List ℕ} {temperatures cuts : List Float} {choices greys : List ℕ}

@@ -279,13 +279,15 @@ pub fn test_sweep(
     counts: &[u32],
     sizes: &[u32],
     members: &[u8],
+    found: &[u32],
+    grey_found: &[u32],
 ) -> u8
     ensures { λ r. ⌜ Verdict (sweptRules (keepsBy (plan .keeps) (plan .form))
         (sweepOf plan (now (fwd .entry)) (now (bwd .entry)) (now (couplings .entry)) (now (order .entry)) (now (masks .entry))
         (now (temperatures .entry)) (now (cuts .entry)) (now (references .entry)) (now (seeds .entry))
         (now (choices .entry)) (now (greys .entry)))
         (buffersOf (now (spins .entry)) (now (labels .entry)) (now («grey_labels» .entry)) (now (counts .entry)) (now (sizes .entry))
-        (now (members .entry))) (now (totals .entry))) r ⌝ }
+        (now (members .entry)) (now (found .entry)) (now («grey_found» .entry))) (now (totals .entry))) r ⌝ }
 {
     let l = Lengths {
         spins: spins.len(),
@@ -300,6 +302,8 @@ pub fn test_sweep(
         counts: counts.len(),
         sizes: sizes.len(),
         members: members.len(),
+        found: found.len(),
+        grey_found: grey_found.len(),
     };
     let o = SweepLengths {
         totals: totals.len(),

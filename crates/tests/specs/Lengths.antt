@@ -32,6 +32,8 @@ pub record FitsEach (mode : Mode) (form : Form) (n d s m count : ℕ) (l : Lengt
   pub counts : When (labelsBy form) (l .counts ≡ count * (n + 1))
   pub sizes : When (labelsBy form) (l .sizes ≡ count * 4)
   pub members : When (growsBy form) (l .members ≡ count * n)
+  pub found : When (labelsBy form) (l .found ≡ count)
+  pub grey-found : When (greyLabelsBy mode form) (l .«grey_found» ≡ count)
 
 -- the test of a length that is asked only if its buffer is taken; and of all of them, by the number of tasks
 pub took : {r t t′ : Bool} {x y y′ : ℕ} → t ≡ t′ → y ≡ y′ → Tells r (When t (x ≡ y)) → Test r (When t′ (x ≡ y′))
@@ -58,6 +60,8 @@ module _ (mode : Mode) (form : Form) (n d s m : ℕ) (l : Lengths) where
     counts = λ e. rw one-mul at (f .counts e);
     sizes = λ e. rw one-mul at (f .sizes e);
     members = λ e. rw one-mul at (f .members e);
+    found = f .found;
+    grey-found = f .grey-found;
   }
 
   pub fits-one : Fits mode form n d s m l → FitsEach mode form n d s m 1 l
@@ -74,4 +78,6 @@ module _ (mode : Mode) (form : Form) (n d s m : ℕ) (l : Lengths) where
     counts = λ e. rw one-mul (f .counts e);
     sizes = f .sizes;
     members = λ e. rw one-mul (f .members e);
+    found = f .found;
+    grey-found = f .grey-found;
   }

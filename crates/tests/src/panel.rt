@@ -44,6 +44,8 @@ pub fn lengths_ok(
         & lattice::fits(!grows, l.counts, count * (n + 1))
         & lattice::fits(!grows, l.sizes, count * 4)
         & lattice::fits(grows, l.members, sites)
+        & lattice::fits(!grows, l.found, count)
+        & lattice::fits(!grows & greys, l.grey_found, count)
 }
 
 // Test 2 of a call that keeps totals: couplings are taken in every mode, and a total for each system.

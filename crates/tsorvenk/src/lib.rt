@@ -140,16 +140,18 @@ pub extern "C" fn tsorvenk_step<'a>(
     counts: &mut [u32],
     sizes: &mut [u32],
     member_sites: &mut [u8],
+    found: &mut [u32],
+    grey_found: &mut [u32],
 ) -> u8
     ensures { λ r. ⌜ StepAnswers mode form keeps
         (callOf (taskOf (modeOf mode) (formOf form) (keepsOf keeps) n d s (groupOf (now (group .entry))) temperature reference seed)
         (now (fwd .entry)) (now (bwd .entry)) (now (couplings .entry)) (now (cuts .entry)))
         (choicesOf (takenOf (modeOf mode) (now (flips .entry)) (now (perms .entry))) (now (greys .entry)))
         (withTotals (buffersOf (now (spins .entry)) (now (labels .entry)) (now («grey_labels» .entry)) (now (counts .entry)) (now (sizes .entry))
-        (now («member_sites» .entry))) (now (totals .entry)))
+        (now («member_sites» .entry)) (now (found .entry)) (now («grey_found» .entry))) (now (totals .entry)))
         r
         (withTotals (buffersOf (now (spins .exit)) (now (labels .exit)) (now («grey_labels» .exit)) (now (counts .exit)) (now (sizes .exit))
-        (now («member_sites» .exit))) (now (totals .exit))) ⌝ }
+        (now («member_sites» .exit)) (now (found .exit)) (now («grey_found» .exit))) (now (totals .exit))) ⌝ }
 {
     if !codes_ok(mode, form, keeps) {
         return 1;
@@ -182,6 +184,8 @@ pub extern "C" fn tsorvenk_step<'a>(
         counts,
         sizes,
         member_sites,
+        found,
+        grey_found,
     );
     number_of(answer)
 }
@@ -250,7 +254,8 @@ fn labelling_number(answer: Labelling) -> u8
     }
 }
 
-// The components of the bonds whose byte in `holds` is 1. Counts and sizes are of those whose smallest site has a byte 1 in `counted`.
+// The components of the bonds whose byte in `holds` is 1, and how many there are, into a buffer of one number. Counts and sizes are of those whose
+// smallest site has a byte 1 in `counted`.
 #[no_mangle]
 pub extern "C" fn tsorvenk_label(
     n: usize,
@@ -261,12 +266,13 @@ pub extern "C" fn tsorvenk_label(
     labels: &mut [u32],
     counts: &mut [u32],
     sizes: &mut [u32],
+    found: &mut [u32],
 ) -> u8
     ensures { λ r. ⌜ LabelAnswers
         (record { n = n; d = d; fwd = now (fwd .entry); holds = now (holds .entry); counted = now (counted .entry) })
-        (record { labels = now (labels .entry); counts = now (counts .entry); sizes = now (sizes .entry) })
+        (record { labels = now (labels .entry); counts = now (counts .entry); sizes = now (sizes .entry); found = now (found .entry) })
         r
-        (record { labels = now (labels .exit); counts = now (counts .exit); sizes = now (sizes .exit) }) ⌝ }
+        (record { labels = now (labels .exit); counts = now (counts .exit); sizes = now (sizes .exit); found = now (found .exit) }) ⌝ }
 {
-    labelling_number(label::components(n, d, fwd, holds, counted, labels, counts, sizes))
+    labelling_number(label::components(n, d, fwd, holds, counted, labels, counts, sizes, found))
 }

@@ -72,6 +72,8 @@ pub extern "C" fn tsorvenk_sweep<'a>(
     counts: &mut [u32],
     sizes: &mut [u32],
     member_sites: &mut [u8],
+    found: &mut [u32],
+    grey_found: &mut [u32],
     outcomes: &mut [u32],
 ) -> u8
     ensures { λ k. ⌜ SweepNumbers mode form keeps
@@ -80,10 +82,10 @@ pub extern "C" fn tsorvenk_sweep<'a>(
         (now (references .entry)) (now (seeds .entry))
         (takenOf (modeOf mode) (now (flips .entry)) (now (perms .entry))) (now (greys .entry)))
         (withOutcomes (buffersOf (now (spins .entry)) (now (labels .entry)) (now («grey_labels» .entry)) (now (counts .entry)) (now (sizes .entry))
-        (now («member_sites» .entry))) (now (totals .entry)) (now (outcomes .entry)))
+        (now («member_sites» .entry)) (now (found .entry)) (now («grey_found» .entry))) (now (totals .entry)) (now (outcomes .entry)))
         k
         (withOutcomes (buffersOf (now (spins .exit)) (now (labels .exit)) (now («grey_labels» .exit)) (now (counts .exit)) (now (sizes .exit))
-        (now («member_sites» .exit))) (now (totals .exit)) (now (outcomes .exit))) ⌝ }
+        (now («member_sites» .exit)) (now (found .exit)) (now («grey_found» .exit))) (now (totals .exit)) (now (outcomes .exit))) ⌝ }
 {
     if !codes_ok(mode, form, keeps) {
         return 1;
@@ -123,6 +125,8 @@ pub extern "C" fn tsorvenk_sweep<'a>(
         counts,
         sizes,
         member_sites,
+        found,
+        grey_found,
     );
     tell(answer, outcomes)
 }

@@ -121,6 +121,8 @@ pub struct Step<'a> {
     pub counts: &'a mut [u32],
     pub sizes: &'a mut [u32],
     pub member_sites: &'a mut [u8],
+    pub found: &'a mut [u32],
+    pub grey_found: &'a mut [u32],
 }
 
 impl<'a> Step<'a> {
@@ -155,6 +157,8 @@ impl<'a> Step<'a> {
             counts: self.counts,
             sizes: self.sizes,
             member_sites: self.member_sites,
+            found: self.found,
+            grey_found: self.grey_found,
         }
     }
 }
@@ -189,6 +193,8 @@ pub struct Sweep<'a> {
     pub counts: &'a mut [u32],
     pub sizes: &'a mut [u32],
     pub member_sites: &'a mut [u8],
+    pub found: &'a mut [u32],
+    pub grey_found: &'a mut [u32],
 }
 
 /// The energy of one system.
@@ -215,8 +221,8 @@ pub struct HandOver<'a> {
     pub couplings: &'a [i32],
 }
 
-/// Labels of a table of holding bonds (1 holds, 0 does not), and counts and the four sizes of those components whose smallest site has
-/// the byte 1 in `counted`.
+/// Labels of a table of holding bonds (1 holds, 0 does not), how many components there are, and counts and the four sizes of those whose
+/// smallest site has the byte 1 in `counted`.
 pub struct Label<'a> {
     pub n: usize,
     pub d: usize,
@@ -226,6 +232,7 @@ pub struct Label<'a> {
     pub labels: &'a mut [u32],
     pub counts: &'a mut [u32],
     pub sizes: &'a mut [u32],
+    pub found: &'a mut [u32],
 }
 
 /// A side that answers every call of document 01, refusals included.

@@ -11,7 +11,7 @@ pub struct Taken {
 }
 
 /// One group's choices, each kind in the order of the published draws. The all-clusters loops draw at the first site
-/// of each component in ascending order, so their queues are in the order of smallest sites.
+/// of each component in ascending order, so their queues are in the order of smallest sites, which is that of numbers.
 #[derive(Clone, Debug, Default)]
 pub struct Xoshiro256StarStar {
     /// By bond, not by turn.

@@ -31,7 +31,7 @@ impl Prepared {
     pub fn new(call: &Sweep, branch: Branch) -> Self {
         let mut prepared = Self::unfilled(call, branch);
         if call.form == Form::Sw {
-            prepared.queue_by_smallest_sites(call);
+            prepared.queue_by_numbers(call);
         }
         prepared
     }
@@ -78,8 +78,9 @@ impl Prepared {
     }
 
     /// A scouting run on a copy of the spins tells from the Rust itself which components draw: its labels, and for
-    /// permutations the acting sites, which are those that a rotation by one place changes.
-    fn queue_by_smallest_sites(&mut self, call: &Sweep) {
+    /// permutations the acting sites, which are those that a rotation by one place changes. The Rust draws at a component's
+    /// smallest site and in the order of these, so a component's draw is the choice at its number, and the queue rises.
+    fn queue_by_numbers(&mut self, call: &Sweep) {
         let n = call.n;
         self.sources
             .iter_mut()
@@ -92,20 +93,20 @@ impl Prepared {
             let source = &mut self.sources[slot];
             let scouted = source.taken;
             if call.mode.permutes() {
-                for i in (0..n).filter(|&i| first[i] == i && acting[i]) {
-                    let at = (task * n + i) * call.members;
+                for number in first.where_first(|site| acting[site]) {
+                    let at = (task * n + number) * call.members;
                     source
                         .perms
                         .extend_from_slice(&call.perms[at..at + call.members]);
                 }
             } else {
-                let flipped = first_of_two_or_more(&first);
-                source.flips = flipped.map(|i| call.flips[task * n + i]).collect();
+                let choice = |number: usize| call.flips[task * n + number];
+                source.flips = first.of_two_or_more().map(choice).collect();
             }
             if call.mode == Mode::Cmr {
-                let grey = smallest_sites(&self.labels[slot]);
-                let flipped = first_of_two_or_more(&grey);
-                source.greys = flipped.map(|i| call.greys[task * n + i]).collect();
+                let grey = Numbered::new(&self.labels[slot]);
+                let choice = |number: usize| call.greys[task * n + number];
+                source.greys = grey.of_two_or_more().map(choice).collect();
             }
             source.taken = scouted;
             assert!(
@@ -116,8 +117,8 @@ impl Prepared {
         }
     }
 
-    fn blue_or_only(&self, slot: usize) -> Vec<usize> {
-        smallest_sites(match self.mode {
+    fn blue_or_only(&self, slot: usize) -> Numbered {
+        Numbered::new(match self.mode {
             Mode::Cmr => &self.blue_labels[slot],
             _ => &self.labels[slot],
         })
@@ -211,15 +212,17 @@ impl Prepared {
         }
     }
 
-    /// The outputs in the port's layout, labels renamed to smallest sites. Masked areas stay as they are.
+    /// The outputs in the port's layout, labels renamed to numbers. Masked areas stay as they are.
     fn write(&self, call: &mut Sweep) {
         let n = call.n;
         for (task, slot) in self.unmasked() {
-            let labels = self.blue_or_only(slot);
-            copy(&mut call.labels[task * n..], &labels);
+            let first = self.blue_or_only(slot);
+            copy(&mut call.labels[task * n..], &first.labels);
+            call.found[task] = first.smallest.len() as u32;
             if self.mode == Mode::Cmr && self.form != Form::Observe {
-                let grey = smallest_sites(&self.labels[slot]);
-                copy(&mut call.grey_labels[task * n..], &grey);
+                let grey = Numbered::new(&self.labels[slot]);
+                copy(&mut call.grey_labels[task * n..], &grey.labels);
+                call.grey_found[task] = grey.smallest.len() as u32;
             }
             for (count, &rust) in call.counts[task * (n + 1)..]
                 .iter_mut()
@@ -255,20 +258,39 @@ fn by_turn(call: &Sweep, task: usize) -> Xoshiro256StarStar {
     source
 }
 
-/// Renames the published roots: each site's label becomes the smallest site with its root.
-fn smallest_sites(roots: &[u32]) -> Vec<usize> {
-    let mut smallest = vec![usize::MAX; roots.len()];
-    for (i, &root) in roots.iter().enumerate() {
-        let found = &mut smallest[root as usize];
-        *found = i.min(*found);
-    }
-    roots.iter().map(|&root| smallest[root as usize]).collect()
+/// The published roots renamed (7/14): a root takes the next number at the first site that has it.
+struct Numbered {
+    labels: Vec<usize>,
+    /// By number.
+    smallest: Vec<usize>,
 }
 
-fn first_of_two_or_more(labels: &[usize]) -> impl Iterator<Item = usize> {
-    let mut sizes = vec![0usize; labels.len()];
-    labels.iter().for_each(|&label| sizes[label] += 1);
-    (0..labels.len()).filter(move |&i| sizes[i] > 1)
+impl Numbered {
+    fn new(roots: &[u32]) -> Self {
+        let (mut labels, mut smallest) = (Vec::new(), Vec::new());
+        let mut number_of = vec![None; roots.len()];
+        for (site, &root) in roots.iter().enumerate() {
+            labels.push(*number_of[root as usize].get_or_insert_with(|| {
+                smallest.push(site);
+                smallest.len() - 1
+            }));
+        }
+        Self { labels, smallest }
+    }
+
+    /// The numbers of components by what is said of their smallest sites.
+    fn where_first<'a>(
+        &'a self,
+        so: impl Fn(usize) -> bool + 'a,
+    ) -> impl Iterator<Item = usize> + 'a {
+        (0..self.smallest.len()).filter(move |&number| so(self.smallest[number]))
+    }
+
+    fn of_two_or_more(&self) -> impl Iterator<Item = usize> {
+        let mut sizes = vec![0usize; self.smallest.len()];
+        self.labels.iter().for_each(|&label| sizes[label] += 1);
+        (0..sizes.len()).filter(move |&number| sizes[number] > 1)
+    }
 }
 
 fn copy(to: &mut [u32], labels: &[usize]) {
@@ -329,6 +351,8 @@ pub fn active(call: &Step) -> Vec<bool> {
                 counts: &mut [],
                 sizes: &mut [],
                 member_sites: &mut [],
+                found: &mut [],
+                grey_found: &mut [],
                 ..*call
             };
             !step(probe, Branch::DepthFirst)

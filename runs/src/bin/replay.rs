@@ -69,12 +69,15 @@ fn tidy(case: &mut Swept) {
     keep(&mut case.choices.perms, exact.perms);
     keep(&mut case.choices.greys, exact.greys);
     keep(&mut case.lent.grey_labels, exact.grey_labels);
+    keep(&mut case.lent.grey_found, exact.grey_found);
     let lent = &mut case.lent;
     for output in [
         &mut lent.labels,
         &mut lent.grey_labels,
         &mut lent.counts,
         &mut lent.sizes,
+        &mut lent.found,
+        &mut lent.grey_found,
     ] {
         output.fill(UNTOUCHED);
     }
@@ -159,6 +162,40 @@ fn answered(single: bool, case: Swept) -> Entry {
     }
 }
 
+/// The choices of one kind with each component's taken from its smallest site instead of from its number.
+fn at_smallest_sites(of: &[u8], labels: &[u32], n: usize) -> Vec<u8> {
+    let width = of.len() / labels.len();
+    let mut moved = of.to_vec();
+    for (site, &label) in labels.iter().enumerate() {
+        let area = site - site % n;
+        // of a masked task no entry is used
+        let first = label != UNTOUCHED && !labels[area..site].contains(&label);
+        if first {
+            let to = (area + label as usize) * width;
+            moved[to..to + width].copy_from_slice(&of[site * width..(site + 1) * width]);
+        }
+    }
+    moved
+}
+
+/// Whether the choices found by number move otherwise than the same found by smallest site would.
+fn by_number(entry: &Entry) -> bool {
+    let mut other = entry.clone();
+    let (n, choices) = (entry.case.panel.n, &mut other.case.choices);
+    for (of, labels) in [
+        (&mut choices.flips, &entry.after.labels),
+        (&mut choices.perms, &entry.after.labels),
+        (&mut choices.greys, &entry.after.grey_labels),
+    ] {
+        if !of.is_empty() {
+            *of = at_smallest_sites(of, labels, n);
+        }
+    }
+    let (idle, moved, lent) = replayed(&other, &mut Model);
+    assert_eq!((idle, moved), (entry.idle, entry.moved));
+    lent.spins != entry.after.spins
+}
+
 fn random(rand: &mut Rand, mode: Mode, form: Form, single: bool) -> Entry {
     loop {
         let mut case = match single {
@@ -188,7 +225,8 @@ fn wanted(mode: Mode) -> Vec<u8> {
     marks
 }
 
-/// One case for each mark, the rest with something moved where the form moves anything.
+/// One case for each mark, the rest with something moved where the form moves anything, and in SW by choices that have to be
+/// found by number.
 fn sample(rand: &mut Rand, mode: Mode, form: Form, single: bool, count: usize) -> Vec<Entry> {
     let marks = wanted(mode);
     (0..count)
@@ -197,6 +235,7 @@ fn sample(rand: &mut Rand, mode: Mode, form: Form, single: bool, count: usize) -
             let changed = entry.after.spins != entry.case.lent.spins;
             let fits = match marks.get(number) {
                 Some(mark) => entry.marks & mark != 0,
+                None if form == Form::Sw => by_number(&entry),
                 None => form == Form::Observe || changed,
             };
             if fits {

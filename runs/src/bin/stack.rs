@@ -60,7 +60,8 @@ fn run(port: &mut dyn Port) {
     let case = timing::single(&mut rand, panel, 2);
     line("meter", || port.energy(case.meter(63)));
     let (fwd, holds, counted) = (torus(4), vec![1; 4 * N], vec![1; N]);
-    let (mut labels, mut counts, mut sizes) = (vec![0; N], vec![0; N + 1], vec![0; 4]);
+    let (mut labels, mut counts) = (vec![0; N], vec![0; N + 1]);
+    let (mut sizes, mut found) = ([0; 4], [0]);
     let call = Label {
         n: N,
         d: 4,
@@ -70,6 +71,7 @@ fn run(port: &mut dyn Port) {
         labels: &mut labels,
         counts: &mut counts,
         sizes: &mut sizes,
+        found: &mut found,
     };
     line("labelling", || port.label(call));
     #[cfg(port)]

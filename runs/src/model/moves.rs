@@ -1,6 +1,6 @@
 //! What moves in the forms that label; the form that grows is in grow.rs.
 use super::bonds::{acts, column, holding};
-use super::components::{component_sizes, labels};
+use super::components::Components;
 use super::{Panel, Task};
 use calls::{Form, Mode};
 
@@ -8,8 +8,9 @@ pub struct Outcome {
     pub idle: bool,
     /// In CMR every site.
     pub acting: Vec<bool>,
-    pub labels: Vec<usize>,
-    pub grey_labels: Option<Vec<usize>>,
+    /// In CMR the blue ones.
+    pub first: Components,
+    pub grey: Option<Components>,
     /// Spins of the group after the move: site by site, member by member.
     pub columns: Vec<Vec<i8>>,
 }
@@ -55,18 +56,8 @@ fn grey_number(task: &Task, of: &Components, i: usize) -> u8 {
     }
 }
 
-/// A component's labels and sizes.
-struct Components {
-    labels: Vec<usize>,
-    sizes: Vec<usize>,
-}
-
-impl Components {
-    fn new(panel: Panel, task: &Task, grey: bool) -> Self {
-        let labels = labels(panel.n, panel.d, panel.fwd, &holding(panel, task, grey));
-        let sizes = component_sizes(&labels);
-        Self { labels, sizes }
-    }
+fn components(panel: Panel, task: &Task, grey: bool) -> Components {
+    Components::new(panel.n, panel.d, panel.fwd, &holding(panel, task, grey))
 }
 
 /// Site i's spins after a flip of its component, if one is chosen.
@@ -124,9 +115,9 @@ fn recoloured(
 }
 
 pub fn outcome(panel: Panel, task: &Task) -> Outcome {
-    let first = Components::new(panel, task, false);
+    let first = components(panel, task, false);
     let grey = (task.mode == Mode::Cmr && task.form != Form::Observe)
-        .then(|| Components::new(panel, task, true));
+        .then(|| components(panel, task, true));
     let acting: Vec<bool> = (0..panel.n).map(|i| acts(panel, task, i)).collect();
     let idle = !acting.contains(&true);
     let after = |i: usize| match (task.mode, &grey) {
@@ -139,7 +130,7 @@ pub fn outcome(panel: Panel, task: &Task) -> Outcome {
         idle,
         acting,
         columns: (0..panel.n).map(after).collect(),
-        labels: first.labels,
-        grey_labels: grey.map(|grey| grey.labels),
+        first,
+        grey,
     }
 }

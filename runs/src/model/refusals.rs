@@ -77,6 +77,8 @@ pub struct Lengths {
     pub counts: Option<usize>,
     pub sizes: Option<usize>,
     pub member_sites: Option<usize>,
+    pub found: Option<usize>,
+    pub grey_found: Option<usize>,
 }
 
 pub fn lengths(
@@ -111,6 +113,8 @@ pub fn lengths(
         counts: labelled(n + 1),
         sizes: labelled(4),
         member_sites: grow.then_some(tasks * n),
+        found: labelled(1),
+        grey_found: labelled(1).filter(|_| cmr && (sw || one)),
     }
 }
 

@@ -59,6 +59,8 @@ fn sweep_length_refused(call: &Sweep) -> bool {
         || differs(exact.counts, call.counts.len())
         || differs(exact.sizes, call.sizes.len())
         || differs(exact.member_sites, call.member_sites.len())
+        || differs(exact.found, call.found.len())
+        || differs(exact.grey_found, call.grey_found.len())
 }
 
 /// The unmasked tasks in ascending order.

@@ -110,7 +110,20 @@ pub fn run(case: &Single) -> (Answer, Lent) {
         lent.totals = answer.1.totals.clone();
         assert_eq!(answer.1, lent, "{case:?}");
     }
+    if !matches!(answer.0, Answer::Refused(_)) && case.panel.form != Form::Grow {
+        numbered(&answer.1.labels, &answer.1.found);
+    }
     answer
+}
+
+/// Each number is used, the next one first at some site behind the one before, and so many there are.
+fn numbered(labels: &[u32], found: &[u32]) {
+    let mut next = 0;
+    for &label in labels {
+        assert!(label <= next, "{labels:?}");
+        next = next.max(label + 1);
+    }
+    assert_eq!(found, [next], "{labels:?}");
 }
 
 pub fn moved(case: &Single, rows: &[&str]) -> Lent {

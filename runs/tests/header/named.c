@@ -44,13 +44,14 @@ uint8_t tsorvenk_step(uint8_t mode, uint8_t form, uint8_t keeps, size_t n, size_
     const uint8_t *flips, size_t flips_len, const uint8_t *perms, size_t perms_len, const uint8_t *greys, size_t greys_len,
     uint32_t *labels, size_t labels_len, uint32_t *grey_labels, size_t grey_labels_len,
     uint32_t *counts, size_t counts_len, uint32_t *sizes, size_t sizes_len,
-    uint8_t *member_sites, size_t member_sites_len) {
+    uint8_t *member_sites, size_t member_sites_len,
+    uint32_t *found, size_t found_len, uint32_t *grey_found, size_t grey_found_len) {
     NUMBER(step, mode), NUMBER(step, form), NUMBER(step, keeps), NUMBER(step, n), NUMBER(step, d), NUMBER(step, s);
     NUMBER(step, temperature), NUMBER(step, reference), NUMBER(step, seed), BUFFER(step, totals);
     BUFFER(step, spins), BUFFER(step, fwd), BUFFER(step, bwd), BUFFER(step, couplings), BUFFER(step, group);
     BUFFER(step, cuts), BUFFER(step, flips), BUFFER(step, perms), BUFFER(step, greys);
     BUFFER(step, labels), BUFFER(step, grey_labels), BUFFER(step, counts), BUFFER(step, sizes);
-    BUFFER(step, member_sites);
+    BUFFER(step, member_sites), BUFFER(step, found), BUFFER(step, grey_found);
     return 101;
 }
 
@@ -64,14 +65,16 @@ uint8_t tsorvenk_sweep(uint8_t mode, uint8_t form, uint8_t keeps, size_t n, size
     const uint8_t *flips, size_t flips_len, const uint8_t *perms, size_t perms_len, const uint8_t *greys, size_t greys_len,
     uint32_t *labels, size_t labels_len, uint32_t *grey_labels, size_t grey_labels_len,
     uint32_t *counts, size_t counts_len, uint32_t *sizes, size_t sizes_len,
-    uint8_t *member_sites, size_t member_sites_len, uint32_t *outcomes, size_t outcomes_len) {
+    uint8_t *member_sites, size_t member_sites_len,
+    uint32_t *found, size_t found_len, uint32_t *grey_found, size_t grey_found_len,
+    uint32_t *outcomes, size_t outcomes_len) {
     NUMBER(sweep, mode), NUMBER(sweep, form), NUMBER(sweep, keeps), NUMBER(sweep, n), NUMBER(sweep, d), NUMBER(sweep, s);
     NUMBER(sweep, t), NUMBER(sweep, r), NUMBER(sweep, members), BUFFER(sweep, totals);
     BUFFER(sweep, spins), BUFFER(sweep, fwd), BUFFER(sweep, bwd), BUFFER(sweep, couplings), BUFFER(sweep, order);
     BUFFER(sweep, masks), BUFFER(sweep, temperatures), BUFFER(sweep, cuts), BUFFER(sweep, references);
     BUFFER(sweep, seeds), BUFFER(sweep, flips), BUFFER(sweep, perms), BUFFER(sweep, greys);
     BUFFER(sweep, labels), BUFFER(sweep, grey_labels), BUFFER(sweep, counts), BUFFER(sweep, sizes);
-    BUFFER(sweep, member_sites), BUFFER(sweep, outcomes);
+    BUFFER(sweep, member_sites), BUFFER(sweep, found), BUFFER(sweep, grey_found), BUFFER(sweep, outcomes);
     return 102;
 }
 
@@ -95,10 +98,10 @@ uint8_t tsorvenk_hand_over(size_t n, size_t d, size_t s,
 
 uint8_t tsorvenk_label(size_t n, size_t d, const uint32_t *fwd, size_t fwd_len, const uint8_t *holds, size_t holds_len,
     const uint8_t *counted, size_t counted_len, uint32_t *labels, size_t labels_len, uint32_t *counts, size_t counts_len,
-    uint32_t *sizes, size_t sizes_len) {
+    uint32_t *sizes, size_t sizes_len, uint32_t *found, size_t found_len) {
     NUMBER(label, n), NUMBER(label, d);
     BUFFER(label, fwd), BUFFER(label, holds), BUFFER(label, counted), BUFFER(label, labels), BUFFER(label, counts);
-    BUFFER(label, sizes);
+    BUFFER(label, sizes), BUFFER(label, found);
     return 104;
 }
 
@@ -198,6 +201,7 @@ int main(void) {
         .labels = u32 + 3, .labels_len = 19, .grey_labels = u32 + 4, .grey_labels_len = 20,
         .counts = u32 + 5, .counts_len = 21, .sizes = u32 + 6, .sizes_len = 22,
         .member_sites = u8 + 3, .member_sites_len = 23,
+        .found = u32 + 7, .found_len = 25, .grey_found = u32 + 8, .grey_found_len = 26,
     };
     sweep = (struct tsorvenk_sweep_args){
         .mode = 1, .form = 2, .keeps = 9, .n = 3, .d = 4, .s = 5, .t = 6, .r = 7, .members = 8,
@@ -210,6 +214,7 @@ int main(void) {
         .labels = u32 + 5, .labels_len = 23, .grey_labels = u32 + 6, .grey_labels_len = 24,
         .counts = u32 + 7, .counts_len = 25, .sizes = u32 + 8, .sizes_len = 26, .outcomes = u32 + 9, .outcomes_len = 27,
         .member_sites = u8 + 4, .member_sites_len = 28,
+        .found = u32 + 10, .found_len = 30, .grey_found = u32 + 11, .grey_found_len = 31,
     };
     energy_of = (struct tsorvenk_energy_args){
         .n = 1, .d = 2, .s = 3, .system = 4,
@@ -223,6 +228,7 @@ int main(void) {
     label = (struct tsorvenk_label_args){
         .n = 1, .d = 2, .fwd = u32, .fwd_len = 11, .holds = u8, .holds_len = 12, .counted = u8 + 1, .counted_len = 16,
         .labels = u32 + 1, .labels_len = 13, .counts = u32 + 2, .counts_len = 14, .sizes = u32 + 3, .sizes_len = 15,
+        .found = u32 + 4, .found_len = 17,
     };
     draw = (struct tsorvenk_draw_args){
         .m = 1, .members = 2, .source = u64, .source_len = 10, .word = u64 + 1, .word_len = 11,
@@ -241,6 +247,7 @@ int main(void) {
     call_all(); /* everything is lent */
     step.flips = NULL, sweep.seeds = NULL, energy_of.energy = NULL, label.holds = NULL, draw.source = NULL;
     step.totals = NULL, sweep.totals = NULL, handed.totals = NULL;
+    step.found = NULL, step.grey_found = NULL, sweep.found = NULL, sweep.grey_found = NULL, label.found = NULL;
     step.member_sites = NULL, sweep.member_sites = NULL, reading.text = NULL, writing.written = NULL;
     call_all(); /* null, and a length beside it */
     printf("room %d and %d\n", TSORVENK_FRAMES_ROOM, TSORVENK_EDGES_ROOM);

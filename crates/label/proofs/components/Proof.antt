@@ -1,7 +1,10 @@
 -- `components` meets its contract: each place past a test knows that test's rule, and each refusal that the next is broken.
 use mathlib.Core.Path.{refl}
 use mathlib.Core.Logic.{inl, inr}
+use native.Mathlib.Omega.{arith}
 use denote.Ref.{now}
+use lib.ListN.{length-set}
+use lib.Seq.{getD-set-same}
 use borrow.Author.Needs.{needs}
 use Rattle.lemmas.specs.Tells.{passed, refused}
 use Rattle.paper.specs.Refusal.Rule.{Kept}
@@ -17,11 +20,11 @@ abbrev R : tie.Start → Request
 R s = record { n = s .args .n; d = s .args .d; fwd = now (s .args .fwd); holds = now (s .args .holds); counted = now (s .args .counted) }
 
 abbrev B : tie.Start → Lent
-B s = record { labels = now (s .args .labels); counts = now (s .args .counts); sizes = now (s .args .sizes) }
+B s = record { labels = now (s .args .labels); counts = now (s .args .counts); sizes = now (s .args .sizes); found = now (s .args .found) }
 
 -- where the function starts, and the places past each test
 abbrev S : tie.After-sizes-ok → tie.Start
-S c = c .before .before .before .before .before .before .before
+S c = c .before .before .before .before .before .before .before .before
 
 abbrev s1 : tie.Else1 → tie.Start
 s1 c = S (c .before)
@@ -140,6 +143,12 @@ label-and-count-requires c κs =
       tally-fits = k1 (e1 e) .n-high;
     }
 
+slice-write-found : tie.Need-slice-write-found
+slice-write-found c =
+    let w = c .before .before .before .before .before .before .before in
+    let e = w .before .before .before .before .before in
+    omega (arith, k2 (e2 e) .found-long)
+
 same-length : tie.Need-same-length
 same-length c = search needs
 
@@ -149,10 +158,18 @@ same-length-2 c = search needs
 same-length-3 : tie.Need-same-length-3
 same-length-3 c = search needs
 
+same-length-4 : tie.Need-same-length-4
+same-length-4 c = search needs
+
 returns-6 : tie.Need-returns-6
 returns-6 c =
     let w = c .before .before .before .before .before .before .before in
-    record { valid = kept (w .before .before .before .before .before); seen = w .label-and-count .ensures }
+    let e = w .before .before .before .before .before in
+    record {
+      valid = kept e;
+      seen = rw (getD-set-same (B (s5 e) .found) 0 (w .label-and-count .result) 0 (omega (arith, k2 (e2 e) .found-long))) (w .label-and-count .ensures);
+      one = simp length-set (k2 (e2 e) .found-long);
+    }
 
 pub components-spec : {M : Type 1} → statement M
 components-spec =
@@ -170,7 +187,9 @@ components-spec =
     returns-5
     slice-aggregate-label-and-count
     label-and-count-requires
+    slice-write-found
     same-length
     same-length-2
     same-length-3
+    same-length-4
     returns-6)

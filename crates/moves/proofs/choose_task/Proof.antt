@@ -8,11 +8,12 @@ use Rattle.lemmas.specs.Bools.{never}
 use Rattle.paper.specs.Panel.Takes.{isCmr}
 use Rattle.laws.specs.Unique.{label-lt}
 use Rattle.moves.specs.Choosing.{mid-two, plain-final, grey-final}
+use Rattle.moves.specs.Held.{stored-number}
 use Rattle.moves.proofs.choose_task.Statement.{statement}
 use Rattle.moves.proofs.choose_task.Tie as tie
 
 abbrev S : tie.After-choose-columns → tie.Start
-S k = k .before .before .before .before .before .before .before .before .before .before .before .before .before .before
+S k = k .before .before .before .before .before .before .before .before .before .before .before .before .before .before .before
 
 abbrev K : tie.After-is-cmr → tie.After-choose-columns
 K i = i .before .before .before .before .before
@@ -29,7 +30,7 @@ cmr-no m = sym (m .before .is-cmr .ensures) ∙ m .if1 .left
 
 choose-columns-requires : tie.Need-choose-columns-requires
 choose-columns-requires c κs =
-    let s = c .before .before .before .before .before .before .before .before .before .before .before .before .before in
+    let s = c .before .before .before .before .before .before .before .before .before .before .before .before .before .before in
     s .pre .choosable
 
 is-cmr-requires : tie.Need-is-cmr-requires
@@ -50,6 +51,11 @@ label-requires c κs =
       labels-long = w .labels-long;
       tally-long = omega (arith, q .tallied .long, q .labels-long, p .cols-long);
     }
+
+slice-write-grey-found : tie.Need-slice-write-grey-found
+slice-write-grey-found c =
+    let m = M (c .before .before .before .before) in
+    omega (arith, S (K (m .before)) .pre .greyable (cmr-yes m) .found-long)
 
 reach-requires : tie.Need-reach-requires
 reach-requires c κs =
@@ -105,6 +111,9 @@ same-length-3 c = search needs
 same-length-4 : tie.Need-same-length-4
 same-length-4 c = search needs
 
+same-length-5 : tie.Need-same-length-5
+same-length-5 c = search needs
+
 returns : tie.Need-returns
 returns c =
     let g = c .before .before in
@@ -118,18 +127,19 @@ returns c =
           grey-final (a .t) (now (a .acts)) (now (a .labels)) (now (a .choices))
           (k .choose-columns .ensures) _ (now (a .greys)) (cmr-yes m)
           (rw (S k .pre .choosable .flags-long) at (r .reach .ensures)) (g .grey-columns .ensures);
-      grey-labels = λ _. l .label .ensures .labels;
+      grey-labels = λ _. stored-number (now (a .grey-found)) (S k .pre .greyable (cmr-yes m) .found-long) (l .label .ensures .labels);
       grey-kept = λ e. never (sym e ∙ cmr-yes m);
+      grey-found-kept = λ e. never (sym e ∙ cmr-yes m);
     }
-
-same-length-5 : tie.Need-same-length-5
-same-length-5 c = search needs
 
 same-length-6 : tie.Need-same-length-6
 same-length-6 c = search needs
 
 same-length-7 : tie.Need-same-length-7
 same-length-7 c = search needs
+
+same-length-8 : tie.Need-same-length-8
+same-length-8 c = search needs
 
 returns-2 : tie.Need-returns-2
 returns-2 c =
@@ -141,6 +151,7 @@ returns-2 c =
           (k .choose-columns .ensures) _ (now (a .greys)) (cmr-no c);
       grey-labels = λ e. never (sym (cmr-no c) ∙ e);
       grey-kept = λ _. refl;
+      grey-found-kept = λ _. refl;
     }
 
 pub choose-task-spec : {M : Type 1} → statement M
@@ -150,14 +161,16 @@ choose-task-spec =
     choose-columns-requires
     is-cmr-requires
     label-requires
+    slice-write-grey-found
     reach-requires
     grey-columns-requires
     same-length
     same-length-2
     same-length-3
     same-length-4
-    returns
     same-length-5
+    returns
     same-length-6
     same-length-7
+    same-length-8
     returns-2)

@@ -1,13 +1,15 @@
 -- `label_task` meets its contract: what look, hold, label and count leave, taken together.
 use borrow.Author.Needs.{needs}
 use native.Mathlib.Omega.{arith}
+use denote.Ref.{now}
+use Rattle.laws.specs.Numbering.{ranked}
 use Rattle.moves.specs.Tested.{sighted}
 use Rattle.moves.specs.Held.{label-leaves}
 use Rattle.moves.proofs.label_task.Statement.{statement}
 use Rattle.moves.proofs.label_task.Tie as tie
 
 abbrev S : tie.After-look → tie.Start
-S o = o .before .before .before .before .before .before .before .before .before .before .before .before .before .before
+S o = o .before .before .before .before .before .before .before .before .before .before .before .before .before .before .before
 
 abbrev K : tie.After-hold → tie.After-look
 K h = h .before .before .before .before .before .before .before .before .before
@@ -17,7 +19,7 @@ H l = l .before .before .before .before .before .before .before .before
 
 look-requires : tie.Need-look-requires
 look-requires c κs =
-    let p = c .before .before .before .before .before .before .before .before .before .before .before .before .before .pre in
+    let p = c .before .before .before .before .before .before .before .before .before .before .before .before .before .before .pre in
     record { panel = sighted (p .tested) (p .reference); cols-long = p .lent .cols-long; flags-long = p .lent .flags-long }
 
 hold-requires : tie.Need-hold-requires
@@ -53,6 +55,11 @@ label-requires c κs =
       tally-long = p .lent .tally-long;
     }
 
+slice-write-found : tie.Need-slice-write-found
+slice-write-found c =
+    let l = c .before .before .before .before in
+    omega (arith, S (K (H l)) .pre .lent .found-long)
+
 count-requires : tie.Need-count-requires
 count-requires c κs =
     let l = c .before .before .before .before .before .before .before .before .before in
@@ -61,6 +68,7 @@ count-requires c κs =
     record {
       n-high = omega (arith, long, p .tested .n-high);
       sized = l .label .ensures .sized;
+      ranked = ranked (l .label .ensures .labels);
       marked = omega (arith, long, K (H l) .look .ensures .flagged .long);
       counts-long = omega (arith, long, p .lent .counts-long);
       sizes-long = p .lent .sizes-long;
@@ -90,6 +98,9 @@ same-length-7 c = search needs
 same-length-8 : tie.Need-same-length-8
 same-length-8 c = search needs
 
+same-length-9 : tie.Need-same-length-9
+same-length-9 c = search needs
+
 returns : tie.Need-returns
 returns c = λ bwd.
     let o = c .before .before .before .before in
@@ -97,7 +108,7 @@ returns c = λ bwd.
     let h = H l in
     let k = K h in
     let p = S k .pre in
-    label-leaves bwd (h .hold .ensures) (p .tested) (k .look .ensures) (l .label .ensures) (o .count .ensures)
+    label-leaves bwd (now (S k .args .found)) (h .hold .ensures) (p .tested) (k .look .ensures) (l .label .ensures) (o .count .ensures) (p .lent .found-long)
 
 pub label-task-spec : {M : Type 1} → statement M
 label-task-spec =
@@ -106,6 +117,7 @@ label-task-spec =
     look-requires
     hold-requires
     label-requires
+    slice-write-found
     count-requires
     same-length
     same-length-2
@@ -115,4 +127,5 @@ label-task-spec =
     same-length-6
     same-length-7
     same-length-8
+    same-length-9
     returns)

@@ -16,13 +16,18 @@ use Rattle.moves.proofs.run_task.Tie as tie
 
 -- the start, and the place past the labelling
 abbrev A : tie.After-struct-known → tie.Start
-A k = k .before .before .before .before .before .before .before .before .before .before
+A k = k .before .before .before .before .before .before .before .before .before .before .before .before
 
 abbrev S : tie.After-label-task → tie.Start
-S o = A (o .before .before .before .before .before .before .before .before .before .before .before .before .before .before)
+S o = A (o .before .before .before .before .before .before .before .before .before .before .before .before .before .before .before)
 
-abbrev T : tie.After-slice-known11 → tie.After-label-task
-T k = k .before .before .before .before .before .before .before .before .before .before .before .before .before .before .before
+abbrev T : tie.After-slice-known14 → tie.After-label-task
+T k = k .before .before .before .before .before .before .before .before .before .before .before .before .before .before .before .before .before
+
+-- from past the writing
+abbrev D : tie.After-spins → tie.After-label-task
+D s = T (s .before .before .before .before .before .before .before .before .before .before .before .before .before
+    .before .before .before .before .before .before .before .before .before .before .before .before .before)
 
 abbrev choicesAt : tie.Start → Choices
 choicesAt b = choicesOf (now (b .args .choices)) (now (b .args .greys))
@@ -30,6 +35,7 @@ choicesAt b = choicesOf (now (b .args .choices)) (now (b .args .greys))
 -- with any members
 abbrev lentAt : tie.Start → List ℕ → Buffers
 lentAt b members = let a = b .args in buffersOf (now (a .spins)) (now (a .labels)) (now (a .grey-labels)) (now (a .counts)) (now (a .sizes)) members
+    (now (a .found)) (now (a .grey-found))
 
 high : (b : tie.Start) → b .args .t .n ≤ 4096
 high b =
@@ -84,7 +90,7 @@ slice-aggregate-tally c = let b = A (c .before .before .before .before .before) 
 
 label-task-requires : tie.Need-label-task-requires
 label-task-requires c κs =
-    let b = A (c .before .before .before .before .before .before .before .before .before .before .before .before .before) in
+    let b = A (c .before .before .before .before .before .before .before .before .before .before .before .before .before .before) in
     let a = b .args in
     answered.label-asks (a .t) (now (a .fwd)) (now (a .bwd)) (now (a .couplings)) (now (a .cuts)) (choicesAt b) (lentAt b [])
     (b .pre .labelled) (b .pre .valid)
@@ -100,6 +106,9 @@ same-length-3 c = search needs
 
 same-length-4 : tie.Need-same-length-4
 same-length-4 c = search needs
+
+same-length-5 : tie.Need-same-length-5
+same-length-5 c = search needs
 
 returns : tie.Need-returns
 returns c = λ members.
@@ -122,7 +131,7 @@ slice-aggregate-choose-task c = let b = S (T (c .before .before .before .before 
 
 choose-task-requires : tie.Need-choose-task-requires
 choose-task-requires c κs =
-    let m = c .before .before .before .before .before .before in
+    let m = c .before .before .before .before .before .before .before in
     let o = T (m .before .before .before) in
     let b = S o in
     let a = b .args in
@@ -132,8 +141,8 @@ choose-task-requires c κs =
 
 write-task-requires : tie.Need-write-task-requires
 write-task-requires c κs =
-    let k = c .before .before .before .before .before .before .before .before .before .before in
-    let m = k .before .before .before .before .before .before .before in
+    let k = c .before .before .before .before .before .before .before .before .before .before .before .before in
+    let m = k .before .before .before .before .before .before .before .before in
     let o = T (m .before .before .before) in
     let b = S o in
     let a = b .args in
@@ -141,34 +150,52 @@ write-task-requires c κs =
     (b .pre .labelled) (b .pre .valid)
     (o .label-task .ensures (now (a .bwd))) (k .choose-task .ensures)
 
-same-length-5 : tie.Need-same-length-5
-same-length-5 c = search needs
-
 same-length-6 : tie.Need-same-length-6
-same-length-6 c =
-    let k = c .before .before .before .before .before .before .before .before .before .before .before .before .before in
-    let m = k .before .before .before .before .before .before .before in
-    let o = T (m .before .before .before) in
+same-length-6 c = search needs
+
+same-length-7 : tie.Need-same-length-7
+same-length-7 c =
+    let o = D c in
     let b = S o in
     let a = b .args in
     answered.labels-kept (a .t) (now (a .fwd)) (now (a .bwd)) (now (a .couplings)) (now (a .cuts)) (choicesAt b) (lentAt b [])
-    (b .pre .labelled) (b .pre .valid)
-    (o .label-task .ensures (now (a .bwd)))
-
-same-length-7 : tie.Need-same-length-7
-same-length-7 c = search needs
+    (b .pre .labelled) (b .pre .valid) (o .label-task .ensures (now (a .bwd)))
 
 same-length-8 : tie.Need-same-length-8
 same-length-8 c = search needs
 
 same-length-9 : tie.Need-same-length-9
-same-length-9 c = search needs
+same-length-9 c =
+    let o = D c in
+    let b = S o in
+    let a = b .args in
+    answered.counts-kept (a .t) (now (a .fwd)) (now (a .bwd)) (now (a .couplings)) (now (a .cuts)) (choicesAt b) (lentAt b [])
+    (b .pre .labelled) (b .pre .valid) (o .label-task .ensures (now (a .bwd)))
+
+same-length-10 : tie.Need-same-length-10
+same-length-10 c =
+    let o = D c in
+    let b = S o in
+    let a = b .args in
+    answered.sizes-kept (a .t) (now (a .fwd)) (now (a .bwd)) (now (a .couplings)) (now (a .cuts)) (choicesAt b) (lentAt b [])
+    (b .pre .labelled) (b .pre .valid) (o .label-task .ensures (now (a .bwd)))
+
+same-length-11 : tie.Need-same-length-11
+same-length-11 c =
+    let o = D c in
+    let b = S o in
+    let a = b .args in
+    answered.found-kept (a .t) (now (a .fwd)) (now (a .bwd)) (now (a .couplings)) (now (a .cuts)) (choicesAt b) (lentAt b [])
+    (b .pre .labelled) (b .pre .valid) (o .label-task .ensures (now (a .bwd)))
+
+same-length-12 : tie.Need-same-length-12
+same-length-12 c = search needs
 
 returns-2 : tie.Need-returns-2
 returns-2 c = λ members.
     let w = c .before .before in
-    let k = w .before .before .before .before .before .before .before .before .before .before .before in
-    let m = k .before .before .before .before .before .before .before in
+    let k = w .before .before .before .before .before .before .before .before .before .before .before .before .before in
+    let m = k .before .before .before .before .before .before .before .before in
     let e = m .before .before in
     let o = T (e .before) in
     let b = S o in
@@ -177,17 +204,20 @@ returns-2 c = λ members.
     (b .pre .labelled) (answered.valid-with (b .pre .labelled) (b .pre .valid) members)
     (o .label-task .ensures (now (a .bwd))) (k .choose-task .ensures) (e .if1 .left) (moving m) (w .write-task .ensures)
 
-same-length-10 : tie.Need-same-length-10
-same-length-10 c = search needs
-
-same-length-11 : tie.Need-same-length-11
-same-length-11 c = search needs
-
-same-length-12 : tie.Need-same-length-12
-same-length-12 c = search needs
-
 same-length-13 : tie.Need-same-length-13
 same-length-13 c = search needs
+
+same-length-14 : tie.Need-same-length-14
+same-length-14 c = search needs
+
+same-length-15 : tie.Need-same-length-15
+same-length-15 c = search needs
+
+same-length-16 : tie.Need-same-length-16
+same-length-16 c = search needs
+
+same-length-17 : tie.Need-same-length-17
+same-length-17 c = search needs
 
 returns-3 : tie.Need-returns-3
 returns-3 c = λ members.
@@ -220,20 +250,24 @@ run-task-spec =
     same-length-2
     same-length-3
     same-length-4
+    same-length-5
     returns
     moves-requires
     array-borrow-prefix-reached
     slice-aggregate-choose-task
     choose-task-requires
     write-task-requires
-    same-length-5
     same-length-6
     same-length-7
     same-length-8
     same-length-9
-    returns-2
     same-length-10
     same-length-11
     same-length-12
+    returns-2
     same-length-13
+    same-length-14
+    same-length-15
+    same-length-16
+    same-length-17
     returns-3)

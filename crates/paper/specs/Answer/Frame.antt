@@ -108,6 +108,8 @@ frameBuffers text = record {
   counts = table (frameLattice text [] .n + 1) (λ k. 0);
   sizes = table 4 (λ k. 0);
   members = [];
+  found = table 1 (λ k. 0);
+  greyFound = [];
 }
 
 -- ---- refusals

@@ -12,7 +12,7 @@ use Rattle.paper.specs.Panel.Input.{graph, Call, Choices, Buffers}
 use Rattle.paper.specs.Panel.Takes.{isCmr, growsBy, labelsBy, takesGreys}
 use Rattle.paper.specs.Site.Acting.{acts, SomeActs, NoneActs}
 use Rattle.paper.specs.Site.Bonds.{holds, holdsGrey}
-use Rattle.paper.specs.Component.Labels.{Labels}
+use Rattle.paper.specs.Component.Labels.{Numbered}
 use Rattle.paper.specs.Component.Members.{Members}
 use Rattle.paper.specs.Component.Sizes.{Counted, Largest}
 use Rattle.paper.specs.Move.Moving.{Moves}
@@ -20,12 +20,13 @@ use Rattle.paper.specs.Refusal.Rule.{Broken}
 use Rattle.paper.specs.Refusal.Rules.{When, rules}
 use Rattle.paper.specs.Refusal.Verdict.{Verdict}
 
--- every component: labels, counts and sizes are those of the spins before the move. Counted are the components that act, which in CMR are all: a
--- component acts as its smallest site does
+-- every component: labels, counts and sizes are those of the spins before the move. Numbered are all components, idle ones too. Counted are those that
+-- act, which in CMR are all: a component acts as its smallest site does
 pub record SeenAll (c : Call) (b b′ : Buffers) : Type 0 where
-  pub labels : Labels (graph c) (holds c (b .spins)) (b′ .labels)
-  pub grey-labels : When (takesGreys c) (Labels (graph c) (holdsGrey c (b .spins)) (b′ .greyLabels))
+  pub labels : Numbered (graph c) (holds c (b .spins)) (b′ .labels) (b′ .found)
+  pub grey-labels : When (takesGreys c) (Numbered (graph c) (holdsGrey c (b .spins)) (b′ .greyLabels) (b′ .greyFound))
   pub grey-kept : takesGreys c ≡ false → b′ .greyLabels ≡ b .greyLabels
+  pub grey-found-kept : takesGreys c ≡ false → b′ .greyFound ≡ b .greyFound
   pub counts : Counted (acts c (b .spins)) (b′ .labels) (b′ .counts)
   pub sizes : Largest (acts c (b .spins)) (b′ .labels) (b′ .sizes)
   pub members-kept : b′ .members ≡ b .members
@@ -42,6 +43,8 @@ pub record SeenOne (c : Call) (b b′ : Buffers) : Type 0 where
   pub grey-kept : b′ .greyLabels ≡ b .greyLabels
   pub counts-kept : b′ .counts ≡ b .counts
   pub sizes-kept : b′ .sizes ≡ b .sizes
+  pub found-kept : b′ .found ≡ b .found
+  pub grey-found-kept : b′ .greyFound ≡ b .greyFound
 
 -- what is written beside the spins
 pub record Seen (c : Call) (b b′ : Buffers) : Type 0 where

@@ -49,6 +49,8 @@ pub record SameLent (c : Call) (b d : Buffers) : Type 0 where
   pub counts : When (labelsBy (c .form)) (length (d .counts) ≡ length (b .counts))
   pub sizes : When (labelsBy (c .form)) (length (d .sizes) ≡ length (b .sizes))
   pub members : When (growsBy (c .form)) (length (d .members) ≡ length (b .members))
+  pub found : When (labelsBy (c .form)) (length (d .found) ≡ length (b .found))
+  pub grey-found : When (takesGreyLabels c) (length (d .greyFound) ≡ length (b .greyFound))
 
 -- the buffers d after an answer by which such buffers came to hold b′: a refusal keeps d; else the same is written, and what is not written stays
 -- d's own
@@ -60,6 +62,8 @@ written c d b′ = record {
   counts = cond (labelsBy (c .form)) (b′ .counts) (d .counts);
   sizes = cond (labelsBy (c .form)) (b′ .sizes) (d .sizes);
   members = cond (growsBy (c .form)) (b′ .members) (d .members);
+  found = cond (labelsBy (c .form)) (b′ .found) (d .found);
+  greyFound = cond (takesGreyLabels c) (b′ .greyFound) (d .greyFound);
 }
 
 abbrev pub left : Call → Answer → Buffers → Buffers → Buffers

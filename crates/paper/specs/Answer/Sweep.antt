@@ -47,6 +47,8 @@ pub record SweepExact (w : Sweep) (b : Buffers) : Type 0 where
   pub counts : When (labelsBy (w .form)) (length (b .counts) ≡ tasks w * (w .lattice .n + 1))
   pub sizes : When (labelsBy (w .form)) (length (b .sizes) ≡ tasks w * 4)
   pub members : When (growsBy (w .form)) (length (b .members) ≡ tasks w * w .lattice .n)
+  pub found : When (labelsBy (w .form)) (length (b .found) ≡ tasks w)
+  pub grey-found : When (takesGreyLabels (common w)) (length (b .greyFound) ≡ tasks w)
 
 -- unmasked tasks in ascending order, each through 8, 9, 10 on the spins before the sweep
 abbrev pub taskRules : Sweep → Buffers → ℕ → List Rule
@@ -92,6 +94,8 @@ pub record SameLengths (b b′ : Buffers) : Type 0 where
   pub sizes : length (b′ .sizes) ≡ length (b .sizes)
   pub grey-labels : length (b′ .greyLabels) ≡ length (b .greyLabels)
   pub members : length (b′ .members) ≡ length (b .members)
+  pub found : length (b′ .found) ≡ length (b .found)
+  pub grey-found : length (b′ .greyFound) ≡ length (b .greyFound)
 
 -- what the form does not write stays whole, whatever its length
 pub record Unwritten (c : Call) (b b′ : Buffers) : Type 0 where
@@ -100,6 +104,8 @@ pub record Unwritten (c : Call) (b b′ : Buffers) : Type 0 where
   pub counts : labelsBy (c .form) ≡ false → b′ .counts ≡ b .counts
   pub sizes : labelsBy (c .form) ≡ false → b′ .sizes ≡ b .sizes
   pub members : growsBy (c .form) ≡ false → b′ .members ≡ b .members
+  pub found : labelsBy (c .form) ≡ false → b′ .found ≡ b .found
+  pub grey-found : takesGreyLabels c ≡ false → b′ .greyFound ≡ b .greyFound
 
 pub record Sweeps (w : Sweep) (b : Buffers) (idle moved : ℕ) (b′ : Buffers) : Type 0 where
   pub valid : Verdict (sweepRules w b) (sweepNumber (Swept idle moved))

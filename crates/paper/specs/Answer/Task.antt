@@ -84,6 +84,8 @@ areas w b xs k = record {
   counts = part k (w .lattice .n + 1) (b .counts);
   sizes = part k 4 (b .sizes);
   members = part k (w .lattice .n) (b .members);
+  found = part k 1 (b .found);
+  greyFound = part k 1 (b .greyFound);
 }
 
 -- ---- the two counts

@@ -37,13 +37,13 @@ pub record Call : Type 0 where
   pub reference : ℕ
   pub seed : ℕ
 
--- the choices by component: SW has one entry for each label, Wolff and grow one entry in all. An entry is a flip, or in perm and gperm a permutation;
--- Wolff and grow take no flip. CMR's grey components have a number each
+-- the choices by component: SW has one entry for each label, which is the component's number, Wolff and grow one entry in all. An entry is a flip, or in
+-- perm and gperm a permutation; Wolff and grow take no flip. CMR's grey components have a grey number each
 pub record Choices : Type 0 where
   pub choices : List ℕ
   pub greys : List ℕ
 
--- the lent buffers, before the call or after it
+-- the lent buffers, before the call or after it. `found` and `greyFound` have one number each, how many components the labels tell of
 pub record Buffers : Type 0 where
   pub spins : List ℤ
   pub labels : List ℕ
@@ -51,6 +51,8 @@ pub record Buffers : Type 0 where
   pub counts : List ℕ
   pub sizes : List ℕ
   pub members : List ℕ
+  pub found : List ℕ
+  pub greyFound : List ℕ
 
 -- the number of systems in the group, N, and the system at its place k
 abbrev pub size : Call → ℕ

@@ -24,12 +24,14 @@ callOf t fwd bwd couplings cuts = record {
 abbrev pub choicesOf : List ℕ → List ℕ → Choices
 choicesOf choices greys = record { choices = choices; greys = greys }
 
-abbrev pub buffersOf : List ℤ → List ℕ → List ℕ → List ℕ → List ℕ → List ℕ → Buffers
-buffersOf spins labels greyLabels counts sizes members = record {
+abbrev pub buffersOf : List ℤ → List ℕ → List ℕ → List ℕ → List ℕ → List ℕ → List ℕ → List ℕ → Buffers
+buffersOf spins labels greyLabels counts sizes members found greyFound = record {
   spins = spins;
   labels = labels;
   greyLabels = greyLabels;
   counts = counts;
   sizes = sizes;
   members = members;
+  found = found;
+  greyFound = greyFound;
 }

@@ -53,6 +53,8 @@ pub record Fits (mode : Mode) (form : Form) (n d s m : ℕ) (l : Lengths) : Type
   pub counts : When (labelsBy form) (l .counts ≡ n + 1)
   pub sizes : When (labelsBy form) (l .sizes ≡ 4)
   pub members : When (growsBy form) (l .members ≡ n)
+  pub found : When (labelsBy form) (l .found ≡ 1)
+  pub grey-found : When (greyLabelsBy mode form) (l .«grey_found» ≡ 1)
 
 abbrev pub lengthsOf : Call → Choices → Buffers → Lengths
 lengthsOf c p b = record {
@@ -68,6 +70,8 @@ lengthsOf c p b = record {
   counts = length (b .counts);
   sizes = length (b .sizes);
   members = length (b .members);
+  found = length (b .found);
+  «grey_found» = length (b .greyFound);
 }
 
 abbrev pub Exact : Call → Choices → Buffers → Type 0

@@ -56,8 +56,17 @@ plain mode form lattice group = record {
 abbrev pub first : ℕ → Group
 first m = record { len = m; systems = 0 ∷ 1 ∷ 2 ∷ 3 ∷ 4 ∷ 5 ∷ 6 ∷ 7 ∷ [] }
 
-abbrev pub buffers : List ℤ → List ℕ → List ℕ → List ℕ → Buffers
-buffers spins labels counts sizes = record { spins = spins; labels = labels; greyLabels = []; counts = counts; sizes = sizes; members = [] }
+abbrev pub buffers : List ℤ → List ℕ → List ℕ → List ℕ → ℕ → Buffers
+buffers spins labels counts sizes found = record {
+  spins = spins;
+  labels = labels;
+  greyLabels = [];
+  counts = counts;
+  sizes = sizes;
+  members = [];
+  found = found ∷ [];
+  greyFound = [];
+}
 
 -- row 11: a ring of three
 abbrev pub ring : Lattice
@@ -68,10 +77,10 @@ abbrev pub houd4 : Call
 houd4 = plain Houd Wolff (line 2 4 (1 ∷ 0 ∷ []) (1 ∷ 0 ∷ []) []) (first 4)
 
 abbrev pub before12 : Buffers
-before12 = buffers (+ ∷ + ∷ + ∷ + ∷ - ∷ + ∷ - ∷ - ∷ []) (0 ∷ 0 ∷ []) (0 ∷ 0 ∷ 0 ∷ []) (0 ∷ 0 ∷ 0 ∷ 0 ∷ [])
+before12 = buffers (+ ∷ + ∷ + ∷ + ∷ - ∷ + ∷ - ∷ - ∷ []) (0 ∷ 0 ∷ []) (0 ∷ 0 ∷ 0 ∷ []) (0 ∷ 0 ∷ 0 ∷ 0 ∷ []) 0
 
 abbrev pub after12 : Buffers
-after12 = buffers (- ∷ + ∷ - ∷ + ∷ + ∷ + ∷ + ∷ - ∷ []) (0 ∷ 1 ∷ []) (0 ∷ 1 ∷ 0 ∷ []) (1 ∷ 0 ∷ 0 ∷ 0 ∷ [])
+after12 = buffers (- ∷ + ∷ - ∷ + ∷ + ∷ + ∷ + ∷ - ∷ []) (0 ∷ 1 ∷ []) (0 ∷ 1 ∷ 0 ∷ []) (1 ∷ 0 ∷ 0 ∷ 0 ∷ []) 2
 
 -- row 13: the frame case
 abbrev pub frame : Mode → Call
@@ -87,10 +96,10 @@ abbrev pub allFlips : Choices
 allFlips = record { choices = 1 ∷ 1 ∷ 1 ∷ []; greys = [] }
 
 abbrev pub before13 : Buffers
-before13 = buffers (+ ∷ + ∷ - ∷ + ∷ - ∷ - ∷ []) (0 ∷ 0 ∷ 0 ∷ []) (0 ∷ 0 ∷ 0 ∷ 0 ∷ []) (0 ∷ 0 ∷ 0 ∷ 0 ∷ [])
+before13 = buffers (+ ∷ + ∷ - ∷ + ∷ - ∷ - ∷ []) (0 ∷ 0 ∷ 0 ∷ []) (0 ∷ 0 ∷ 0 ∷ 0 ∷ []) (0 ∷ 0 ∷ 0 ∷ 0 ∷ []) 0
 
 abbrev pub after13 : List ℤ → Buffers
-after13 spins = buffers spins (0 ∷ 1 ∷ 2 ∷ []) (0 ∷ 1 ∷ 0 ∷ 0 ∷ []) (1 ∷ 0 ∷ 0 ∷ 0 ∷ [])
+after13 spins = buffers spins (0 ∷ 1 ∷ 2 ∷ []) (0 ∷ 1 ∷ 0 ∷ 0 ∷ []) (1 ∷ 0 ∷ 0 ∷ 0 ∷ []) 3
 
 -- the spins after its move
 abbrev pub moved13 : List ℤ

@@ -12,7 +12,7 @@ use Rattle.lemmas.specs.Counts.{countWhere}
 use Rattle.paper.specs.declared.BondKind.the-variants.{Red}
 use Rattle.paper.specs.Site.Bonds.{whole, samplerOf, jorgHolds, greyHolds, holds, holdsGrey}
 use Rattle.paper.specs.Site.Energy.{energy}
-use Rattle.paper.specs.Move.Moving.{other, partner, permute, reachedBy, reached, afterGrey}
+use Rattle.paper.specs.Move.Moving.{other, partner, permute, reachedBy, reached, after, afterGrey}
 use Rattle.paper.specs.Refusal.Rules.{Warm, isCut, rules}
 use Rattle.paper.specs.Rows.Cases.{+, -, of, row, line, first}
 use Rattle.paper.specs.declared.Mode.the-variants.{Pair, Perm, Cmr}
@@ -21,8 +21,8 @@ use Rattle.paper.specs.declared.Answer.the-variants.{Idle, Moved}
 use Rattle.paper.specs.declared.SweepAnswer.the-variants.{Swept}
 use Rattle.paper.specs.declared.MeterAnswer.the-variants.{Energy}
 use Rattle.paper.specs.Panel.Input.{Call, Choices, Buffers}
-use Rattle.paper.specs.Site.Acting.{acts, pairDiffers}
-use Rattle.paper.specs.Component.Sizes.{sizeOf, ofSize, atLeast, Counted, Largest}
+use Rattle.paper.specs.Site.Acting.{acts, pairDiffers, differs}
+use Rattle.paper.specs.Component.Sizes.{sizeOf, isFirst, ofSize, atLeast, Counted, Largest}
 use Rattle.paper.specs.Refusal.Rule.{Rule}
 use Rattle.paper.specs.Answer.Number.{number, sweepNumber, meterNumber}
 use Rattle.paper.specs.Answer.Move.{SeenAll, SeenOne, memberBonds}
@@ -158,10 +158,44 @@ pub record Counts : Type 0 where
   pub both-sizes : atLeast (acts cmr red) (0 ∷ 1 ∷ []) 1 ≡ 2
   -- the mark of the smallest site decides
   pub smallest : ofSize (acts pair red) (0 ∷ 0 ∷ []) 2 ≡ 0
+  -- a component is known by its smallest site, which need not have that site's number
+  pub numbered : ofSize (λ i. true) (0 ∷ 0 ∷ 1 ∷ 1 ∷ []) 2 ≡ 2
 
 pub counts : Counts
-unfolding acts pairDiffers sizeOf countWhere
-counts = record { one = refl; one-size = refl; both = refl; both-sizes = refl; smallest = refl }
+unfolding acts pairDiffers sizeOf isFirst countWhere
+counts = record { one = refl; one-size = refl; both = refl; both-sizes = refl; smallest = refl; numbered = refl }
+
+-- a choice is found by its component's number: of three sites the third, alone, is the component 1, and has the second entry
+abbrev perm : Call
+perm = record {
+  mode = Perm;
+  form = Sw;
+  lattice = line 3 2 (1 ∷ 0 ∷ 2 ∷ []) (1 ∷ 0 ∷ 2 ∷ []) [];
+  group = first 2;
+  temperature = whole 4;
+  cuts = [];
+  reference = 0;
+  seed = 0;
+}
+
+abbrev second : Choices
+second = record { choices = 0 ∷ 1 ∷ 1 ∷ 0 ∷ 0 ∷ 1 ∷ []; greys = [] }
+
+pub record Chosen : Type 0 where
+  pub by-number : row 2 (after perm second (+ ∷ + ∷ + ∷ - ∷ - ∷ - ∷ []) (0 ∷ 0 ∷ 1 ∷ []) 2) ≡ - ∷ + ∷ []
+  pub not-others : row 2 (after perm second (+ ∷ + ∷ + ∷ - ∷ - ∷ - ∷ []) (0 ∷ 0 ∷ 1 ∷ []) 1) ≡ + ∷ - ∷ []
+
+pub chosen : Chosen
+unfolding acts differs reached sizeOf countWhere row
+chosen = record { by-number = refl; not-others = refl }
+
+-- and a grey number by its grey component's, whatever the blue one's is
+abbrev greySecond : Choices
+greySecond = record { choices = []; greys = 0 ∷ 1 ∷ [] }
+
+pub grey-by-number : row 2 (afterGrey cmr greySecond red (1 ∷ 1 ∷ []) 0 (of (- ∷ - ∷ []))) ≡ + ∷ - ∷ []
+unfolding acts reached sizeOf countWhere row
+grey-by-number = refl
 
 -- and that is what a move's counts and sizes are of
 pub acting-counted :
@@ -211,7 +245,16 @@ tasks-counted w b b′ idle moved s = s .counts
 
 -- bonds are judged on the spins before the move: what it leaves in the spins does not matter to the labels, counts and sizes, nor to the members
 abbrev withSpins : Buffers → List ℤ → Buffers
-withSpins b ys = record { spins = ys; labels = b .labels; greyLabels = b .greyLabels; counts = b .counts; sizes = b .sizes; members = b .members }
+withSpins b ys = record {
+  spins = ys;
+  labels = b .labels;
+  greyLabels = b .greyLabels;
+  counts = b .counts;
+  sizes = b .sizes;
+  members = b .members;
+  found = b .found;
+  greyFound = b .greyFound;
+}
 
 pub judged-before :
     (c : Call) (b b′ : Buffers) (ys : List ℤ)
@@ -221,6 +264,7 @@ judged-before c b b′ ys s = record {
   labels = s .labels;
   grey-labels = s .grey-labels;
   grey-kept = s .grey-kept;
+  grey-found-kept = s .grey-found-kept;
   counts = s .counts;
   sizes = s .sizes;
   members-kept = s .members-kept;
@@ -234,4 +278,6 @@ grown-before c b b′ ys s = record {
   grey-kept = s .grey-kept;
   counts-kept = s .counts-kept;
   sizes-kept = s .sizes-kept;
+  found-kept = s .found-kept;
+  grey-found-kept = s .grey-found-kept;
 }

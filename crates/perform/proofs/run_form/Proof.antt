@@ -13,13 +13,20 @@ use Rattle.perform.proofs.run_form.Statement.{statement}
 use Rattle.perform.proofs.run_form.Tie as tie
 
 abbrev S : tie.After-grows → tie.Start
-S g = g .before .before .before .before .before .before .before .before .before .before .before
+S g = g .before .before .before .before .before .before .before .before .before .before .before .before .before
 
 -- the form that grows does not take these
 abbrev others : tie.Start → Outputs
 others s =
     let a = s .args in
-    record { labels = now (a .labels); greyLabels = now (a .grey-labels); counts = now (a .counts); sizes = now (a .sizes) }
+    record {
+      labels = now (a .labels);
+      greyLabels = now (a .grey-labels);
+      counts = now (a .counts);
+      sizes = now (a .sizes);
+      found = now (a .found);
+      greyFound = now (a .grey-found);
+    }
 
 grows : (t : tie.Then1) → growsBy (S (t .before) .args .t .form) ≡ true
 grows t = sym (t .before .grows .ensures) ∙ t .if1 .taken
@@ -52,28 +59,28 @@ totals-requires c κs = search needs
 
 run-kept-requires : tie.Need-run-kept-requires
 run-kept-requires c κs =
-    let t = c .before .before .before .before .before .before in
+    let t = c .before .before .before .before .before .before .before .before in
     let e = t .before .before in
     let s = S (e .before) in
     (record { labelled = labels e; valid = valid-with (labels e) (s .pre .0) [] }, rw (keeps t) at (s .pre .1))
 
 returns-2 : tie.Need-returns-2
 returns-2 c =
-    let r = c .before .before .before .before .before .before .before .before .before .before in
-    let t = r .before .before .before .before .before .before .before in (
+    let r = c .before .before .before .before .before .before .before .before .before .before .before .before .before .before in
+    let t = r .before .before .before .before .before .before .before .before .before in (
       r .run-kept .ensures .0 (now (S (t .before .before .before) .args .members)),
       record { brought = λ _. r .run-kept .ensures .1; left = λ e. never (sym e ∙ keeps t) },
     )
 
 run-task-requires : tie.Need-run-task-requires
 run-task-requires c κs =
-    let e = c .before .before .before .before .before .before .before in
+    let e = c .before .before .before .before .before .before .before .before .before in
     record { labelled = labels e; valid = valid-with (labels e) (S (e .before) .pre .0) [] }
 
 returns-3 : tie.Need-returns-3
 returns-3 c =
-    let r = c .before .before .before .before .before .before .before .before .before in
-    let e = r .before .before .before .before .before .before in (
+    let r = c .before .before .before .before .before .before .before .before .before .before .before .before .before in
+    let e = r .before .before .before .before .before .before .before .before in (
       r .run-task .ensures (now (S (e .before .before .before) .args .members)),
       record { brought = λ h. never (sym (keeps-none e) ∙ h); left = λ _. refl },
     )
@@ -120,6 +127,18 @@ same-length-13 c = search needs
 same-length-14 : tie.Need-same-length-14
 same-length-14 c = search needs
 
+same-length-15 : tie.Need-same-length-15
+same-length-15 c = search needs
+
+same-length-16 : tie.Need-same-length-16
+same-length-16 c = search needs
+
+same-length-17 : tie.Need-same-length-17
+same-length-17 c = search needs
+
+same-length-18 : tie.Need-same-length-18
+same-length-18 c = search needs
+
 pub run-form-spec : {M : Type 1} → statement M
 run-form-spec =
     tie.close
@@ -138,11 +157,15 @@ run-form-spec =
     same-length-7
     same-length-8
     same-length-9
-    returns-2
-    run-task-requires
     same-length-10
     same-length-11
+    returns-2
+    run-task-requires
     same-length-12
     same-length-13
     same-length-14
+    same-length-15
+    same-length-16
+    same-length-17
+    same-length-18
     returns-3)

@@ -15,16 +15,16 @@ use Rattle.perform.proofs.run_kept.Tie as tie
 
 -- the start, the columns before, and the task
 abbrev A : tie.After-group → tie.Start
-A c = c .before .before .before .before .before .before .before .before .before .before
+A c = c .before .before .before .before .before .before .before .before .before .before .before .before
 
 abbrev S : tie.After-pack → tie.Start
 S p = A (p .before .before .before .before)
 
 abbrev P : tie.After-run-task → tie.After-pack
-P r = r .before .before .before .before .before .before .before .before
+P r = r .before .before .before .before .before .before .before .before .before .before
 
-abbrev R : tie.After-slice-known9 → tie.After-run-task
-R c = c .before .before .before .before .before .before .before .before .before
+abbrev R : tie.After-slice-known13 → tie.After-run-task
+R c = c .before .before .before .before .before .before .before .before .before .before .before .before .before
 
 abbrev callAt : tie.Start → Call
 callAt b = let a = b .args in callOf (a .t) (now (a .fwd)) (now (a .bwd)) (now (a .couplings)) (now (a .cuts))
@@ -34,13 +34,15 @@ choicesAt b = choicesOf (now (b .args .choices)) (now (b .args .greys))
 
 abbrev lentAt : tie.Start → Buffers
 lentAt b = let a = b .args in buffersOf (now (a .spins)) (now (a .labels)) (now (a .grey-labels)) (now (a .counts)) (now (a .sizes)) []
+    (now (a .found)) (now (a .grey-found))
 
 -- what the task left
 abbrev leftAt : tie.After-run-task → Buffers
 leftAt r =
     let z = r .run-task .last in
     let w = z .1 .1 .1 .1 .1 .1 .1 .1 in
-    buffersOf (z .1 .0) (w .0) (w .1 .0) (w .1 .1 .0) (w .1 .1 .1 .0) []
+    let v = w .1 .1 .1 in
+    buffersOf (z .1 .0) (w .0) (w .1 .0) (w .1 .1 .0) (v .0) [] (v .1 .0) (v .1 .1 .0)
 
 high : (b : tie.Start) → b .args .t .n ≤ 4096
 high b = b .pre .0 .valid .sound .ranged .lattice .n-high
@@ -111,6 +113,12 @@ same-length-5 c = search needs
 same-length-6 : tie.Need-same-length-6
 same-length-6 c = search needs
 
+same-length-7 : tie.Need-same-length-7
+same-length-7 c = search needs
+
+same-length-8 : tie.Need-same-length-8
+same-length-8 c = search needs
+
 returns : tie.Need-returns
 returns c =
     let q = c .before .before .before in
@@ -142,4 +150,6 @@ run-kept-spec =
     same-length-4
     same-length-5
     same-length-6
+    same-length-7
+    same-length-8
     returns)

@@ -1,4 +1,4 @@
--- `jorg_step` meets its contract: it is `overlap_step` on empty totals, grey numbers and grey labels, and keeps nothing.
+-- `jorg_step` meets its contract: it is `overlap_step` on empty totals, grey numbers and all that is told of grey components, and keeps nothing.
 use borrow.Author.Needs.{needs}
 use Rattle.laws.specs.KeepsPlain.{keeps-none}
 use Rattle.steps.specs.Step.{empty}
@@ -20,6 +20,12 @@ array-borrow-prefix-grey-labels c = search needs
 slice-aggregate-overlap-step-3 : tie.Need-slice-aggregate-overlap-step-3
 slice-aggregate-overlap-step-3 c = search needs
 
+array-borrow-prefix-grey-found : tie.Need-array-borrow-prefix-grey-found
+array-borrow-prefix-grey-found c = search needs
+
+slice-aggregate-overlap-step-4 : tie.Need-slice-aggregate-overlap-step-4
+slice-aggregate-overlap-step-4 c = search needs
+
 overlap-step-requires : tie.Need-overlap-step-requires
 overlap-step-requires c κs = search needs
 
@@ -38,12 +44,16 @@ same-length-4 c = search needs
 same-length-5 : tie.Need-same-length-5
 same-length-5 c = search needs
 
+same-length-6 : tie.Need-same-length-6
+same-length-6 c = search needs
+
 returns : tie.Need-returns
 returns c =
-    let k = c .before .before .before .before .before .before .before .before .before .before .before in
+    let k = c .before .before .before .before .before .before .before .before .before .before .before .before .before .before in
     let o = k .overlap-step in
     let e = keeps-none _ _ _ _ (o .result) _ _ (o .ensures) .answers in
-    rw (empty (o .last .1 .1 .1 .1 .1 .1 .1 .1 .1 .1 .0) (o .kept .1 .1 .1 .1 .1 .1 .1 .1 .1 .1 .0)) at e
+    rw (empty (o .last .1 .1 .1 .1 .1 .1 .1 .1 .1 .1 .0) (o .kept .1 .1 .1 .1 .1 .1 .1 .1 .1 .1 .0)) at
+    (rw (empty (o .last .1 .1 .1 .1 .1 .1 .1 .1 .1 .1 .1 .1 .1 .1 .1 .0) (o .kept .1 .1 .1 .1 .1 .1 .1 .1 .1 .1 .1 .1 .1 .1 .1 .0)) at e)
 
 pub jorg-step-spec : {M : Type 1} → statement M
 jorg-step-spec =
@@ -54,10 +64,13 @@ jorg-step-spec =
     slice-aggregate-overlap-step-2
     array-borrow-prefix-grey-labels
     slice-aggregate-overlap-step-3
+    array-borrow-prefix-grey-found
+    slice-aggregate-overlap-step-4
     overlap-step-requires
     same-length
     same-length-2
     same-length-3
     same-length-4
     same-length-5
+    same-length-6
     returns)

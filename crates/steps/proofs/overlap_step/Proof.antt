@@ -14,7 +14,7 @@ use Rattle.steps.proofs.overlap_step.Statement.{statement}
 use Rattle.steps.proofs.overlap_step.Tie as tie
 
 abbrev S : tie.After-test-call → tie.Start
-S k = k .before .before .before .before .before .before .before .before .before .before .before .before .before
+S k = k .before .before .before .before .before .before .before .before .before .before .before .before .before .before .before
 
 abbrev keepingAt : tie.Start → Bool
 keepingAt b = keepsBy (b .args .t .keeps) (b .args .t .form)
@@ -28,7 +28,10 @@ abbrev choicesAt : tie.Start → Choices
 choicesAt b = choicesOf (now (b .args .choices)) (now (b .args .greys))
 
 abbrev lentAt : tie.Start → Buffers
-lentAt b = let a = b .args in buffersOf (now (a .spins)) (now (a .labels)) (now (a .grey-labels)) (now (a .counts)) (now (a .sizes)) (now (a .members))
+lentAt b =
+    let a = b .args in
+    buffersOf (now (a .spins)) (now (a .labels)) (now (a .grey-labels)) (now (a .counts)) (now (a .sizes)) (now (a .members)) (now (a .found))
+    (now (a .grey-found))
 
 abbrev rulesAt : tie.Start → List Rule
 rulesAt b = keptRules (keepingAt b) (callAt b) (choicesAt b) (lentAt b) (now (b .args .totals))
@@ -55,7 +58,7 @@ returns c =
 
 run-form-requires : tie.Need-run-form-requires
 run-form-requires c κs =
-    let e = c .before .before .before .before .before .before .before in
+    let e = c .before .before .before .before .before .before .before .before .before in
     let b = S (e .before) in (
       kept-valid (keepingAt b) (callAt b) (choicesAt b) (lentAt b) (now (b .args .totals)) (kept e),
       ready-of (keepingAt b) (callAt b) (choicesAt b) (lentAt b) (now (b .args .totals)) (kept e),
@@ -82,10 +85,16 @@ same-length-8 c = search needs
 same-length-9 : tie.Need-same-length-9
 same-length-9 c = search needs
 
+same-length-10 : tie.Need-same-length-10
+same-length-10 c = search needs
+
+same-length-11 : tie.Need-same-length-11
+same-length-11 c = search needs
+
 returns-2 : tie.Need-returns-2
 returns-2 c =
-    let r = c .before .before .before .before .before .before .before .before .before .before .before .before in
-    let e = r .before .before .before .before .before .before .before .before in
+    let r = c .before .before .before .before .before .before .before .before .before .before .before .before .before .before .before .before in
+    let e = r .before .before .before .before .before .before .before .before .before .before in
     let b = S (e .before) in
     accepted-by (keepingAt b) (callAt b) (choicesAt b) (lentAt b) (now (b .args .totals)) (r .run-form .result) _ _ (kept e)
     (r .run-form .ensures .0) (r .run-form .ensures .1)
@@ -106,4 +115,6 @@ overlap-step-spec =
     same-length-7
     same-length-8
     same-length-9
+    same-length-10
+    same-length-11
     returns-2)

@@ -17,7 +17,7 @@ use Rattle.sweep.proofs.overlap_update.Tie as tie
 abbrev S : tie.After-test-sweep → tie.Start
 S t =
     t .before .before .before .before .before .before .before .before .before .before .before .before .before .before .before .before .before .before
-    .before .before .before .before .before
+    .before .before .before .before .before .before .before .before .before
 
 abbrev W : tie.Start → Sweep
 W s =
@@ -26,7 +26,10 @@ W s =
     (now (a .references)) (now (a .seeds)) (now (a .choices)) (now (a .greys))
 
 abbrev B : tie.Start → Buffers
-B s = let a = s .args in buffersOf (now (a .spins)) (now (a .labels)) (now (a .grey-labels)) (now (a .counts)) (now (a .sizes)) (now (a .members))
+B s =
+    let a = s .args in
+    buffersOf (now (a .spins)) (now (a .labels)) (now (a .grey-labels)) (now (a .counts)) (now (a .sizes)) (now (a .members)) (now (a .found))
+    (now (a .grey-found))
 
 abbrev keeping : tie.Start → Bool
 keeping s = keepsBy (s .args .plan .keeps) (s .args .plan .form)
@@ -55,6 +58,12 @@ same-length-6 c = search needs
 same-length-7 : tie.Need-same-length-7
 same-length-7 c = search needs
 
+same-length-8 : tie.Need-same-length-8
+same-length-8 c = search needs
+
+same-length-9 : tie.Need-same-length-9
+same-length-9 c = search needs
+
 returns : tie.Need-returns
 returns c =
     let t = c .before in
@@ -70,15 +79,9 @@ kept e =
 
 run-tasks-requires : tie.Need-run-tasks-requires
 run-tasks-requires c κs =
-    let e = c .before .before .before .before .before .before .before in
+    let e = c .before .before .before .before .before .before .before .before .before in
     let s = S (e .before) in
     (swept-kept (keeping s) (W s) (B s) (now (s .args .totals)) (kept e), swept-asked (keeping s) (W s) (B s) (now (s .args .totals)) (kept e))
-
-same-length-8 : tie.Need-same-length-8
-same-length-8 c = search needs
-
-same-length-9 : tie.Need-same-length-9
-same-length-9 c = search needs
 
 same-length-10 : tie.Need-same-length-10
 same-length-10 c = search needs
@@ -95,10 +98,22 @@ same-length-13 c = search needs
 same-length-14 : tie.Need-same-length-14
 same-length-14 c = search needs
 
+same-length-15 : tie.Need-same-length-15
+same-length-15 c = search needs
+
+same-length-16 : tie.Need-same-length-16
+same-length-16 c = search needs
+
+same-length-17 : tie.Need-same-length-17
+same-length-17 c = search needs
+
+same-length-18 : tie.Need-same-length-18
+same-length-18 c = search needs
+
 returns-2 : tie.Need-returns-2
 returns-2 c =
-    let r = c .before .before .before .before .before .before .before .before .before .before .before .before in
-    let e = r .before .before .before .before .before .before .before .before in
+    let r = c .before .before .before .before .before .before .before .before .before .before .before .before .before .before .before .before in
+    let e = r .before .before .before .before .before .before .before .before .before .before in
     let s = S (e .before) in
     swept-answers (keeping s) (W s) (B s) (now (s .args .totals)) (kept e) (r .run-tasks .result) _ _ (r .run-tasks .ensures .0) (r .run-tasks .ensures .1)
 
@@ -114,13 +129,17 @@ overlap-update-spec =
     same-length-5
     same-length-6
     same-length-7
-    returns
-    run-tasks-requires
     same-length-8
     same-length-9
+    returns
+    run-tasks-requires
     same-length-10
     same-length-11
     same-length-12
     same-length-13
     same-length-14
+    same-length-15
+    same-length-16
+    same-length-17
+    same-length-18
     returns-2)

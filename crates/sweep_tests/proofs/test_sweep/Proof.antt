@@ -12,7 +12,7 @@ use Rattle.sweep_tests.proofs.test_sweep.Statement.{statement}
 use Rattle.sweep_tests.proofs.test_sweep.Tie as tie
 
 abbrev S : tie.After-test-lengths → tie.Start
-S t = t .before .before .before .before .before .before .before .before .before .before .before .before .before .before .before .before
+S t = t .before .before .before .before .before .before .before .before .before .before .before .before .before .before .before .before .before .before
 
 abbrev W : tie.Start → Sweep
 W s =
@@ -21,7 +21,10 @@ W s =
     (now (a .references)) (now (a .seeds)) (now (a .choices)) (now (a .greys))
 
 abbrev B : tie.Start → Buffers
-B s = let a = s .args in buffersOf (now (a .spins)) (now (a .labels)) (now (a .grey-labels)) (now (a .counts)) (now (a .sizes)) (now (a .members))
+B s =
+    let a = s .args in
+    buffersOf (now (a .spins)) (now (a .labels)) (now (a .grey-labels)) (now (a .counts)) (now (a .sizes)) (now (a .members)) (now (a .found))
+    (now (a .grey-found))
 
 long : (e : tie.Else1) → let s = S (e .before) in Kept (lengthsRules (s .args .plan .keeps) (W s) (B s) (now (s .args .totals)))
 long e = verdict-kept _ (e .before .test-lengths .result) (e .if1 .left) (e .before .test-lengths .ensures)
@@ -47,7 +50,8 @@ returns-2 c =
     let s = S (e .before) in
     let a = s .args in
     past-lengths (a .plan .keeps) (W s) (B s) (now (a .totals)) (long e) (c .test-values .result)
-    (c .test-values .ensures .is (now (a .labels)) (now (a .grey-labels)) (now (a .counts)) (now (a .sizes)) (now (a .members)))
+    (c .test-values .ensures .is (now (a .labels)) (now (a .grey-labels)) (now (a .counts)) (now (a .sizes)) (now (a .members))
+    (now (a .found)) (now (a .grey-found)))
 
 pub test-sweep-spec : {M : Type 1} → statement M
 test-sweep-spec = tie.close (tie.spec test-lengths-requires returns test-values-requires returns-2)

@@ -30,9 +30,9 @@ W s =
     (now (a .references)) (now (a .seeds)) (now (a .choices)) (now (a .greys))
 
 -- the rules, whatever the outputs hold
-module _ (s : tie.Start) (labels greyLabels counts sizes members : List ℕ) where
+module _ (s : tie.Start) (labels greyLabels counts sizes members found greyFound : List ℕ) where
   abbrev B : Buffers
-  B = buffersOf (now (s .args .spins)) labels greyLabels counts sizes members
+  B = buffersOf (now (s .args .spins)) labels greyLabels counts sizes members found greyFound
 
   abbrev P : List Rule
   P = panelOf (s .args .plan .keeps) (W s) B (now (s .args .totals))
@@ -70,17 +70,17 @@ heat : (e : tie.Else2) → let a = S1 (E1 e) .args in Kept (heatRules (a .plan) 
 heat e = verdict-kept _ (e .before .test-heat .result) (e .if2 .left) (e .before .test-heat .ensures)
 
 -- past the tests of the panel and of the temperatures
-past : (e : tie.Else2) (labels greyLabels counts sizes members : List ℕ) (r : ℕ) → let s = S1 (E1 e) in
-    Verdict (K s labels greyLabels counts sizes members ++ L s labels greyLabels counts sizes members) r
-    → Verdict (valueRules (s .args .plan .keeps) (W s) (B s labels greyLabels counts sizes members) (now (s .args .totals))) r
-past e a b c d f r v =
+past : (e : tie.Else2) (labels greyLabels counts sizes members found greyFound : List ℕ) (r : ℕ) → let s = S1 (E1 e) in
+    Verdict (K s labels greyLabels counts sizes members found greyFound ++ L s labels greyLabels counts sizes members found greyFound) r
+    → Verdict (valueRules (s .args .plan .keeps) (W s) (B s labels greyLabels counts sizes members found greyFound) (now (s .args .totals))) r
+past e a b c d f x y r v =
     let s = S1 (E1 e) in
-    verdict-later (P s a b c d f) (H s a b c d f ++ (K s a b c d f ++ L s a b c d f)) r (panel (E1 e))
-    (verdict-later (H s a b c d f) (K s a b c d f ++ L s a b c d f) r (heat e) v)
+    verdict-later (P s a b c d f x y) (H s a b c d f x y ++ (K s a b c d f x y ++ L s a b c d f x y)) r (panel (E1 e))
+    (verdict-later (H s a b c d f x y) (K s a b c d f x y ++ L s a b c d f x y) r (heat e) v)
 
 -- the verdict on the tasks, and that on the totals
-tasks-told : (e : tie.After-test-tasks) (labels greyLabels counts sizes members : List ℕ) →
-    Verdict (K (S1 (E1 (E2 e))) labels greyLabels counts sizes members) (e .test-tasks .result)
+tasks-told : (e : tie.After-test-tasks) (labels greyLabels counts sizes members found greyFound : List ℕ) →
+    Verdict (K (S1 (E1 (E2 e))) labels greyLabels counts sizes members found greyFound) (e .test-tasks .result)
 tasks-told e = let a = S1 (E1 (E2 e)) .args in e .test-tasks .ensures .is (now (a .fwd)) (now (a .bwd)) (now (a .couplings))
 
 totals-tell : (e : tie.After-totals-fit) → let a = S3 e .args in
@@ -92,8 +92,9 @@ test-panel-requires c κs = c .before .before .before .before .before .before .b
 
 returns : tie.Need-returns
 returns c = let t = c .before in let s = S t in record {
-  is = λ a b d e f.
-      first-broken (P s a b d e f) (H s a b d e f ++ (K s a b d e f ++ L s a b d e f)) (t .test-panel .result) (c .if1 .taken) (t .test-panel .ensures);
+  is = λ a b d e f x y.
+      first-broken (P s a b d e f x y) (H s a b d e f x y ++ (K s a b d e f x y ++ L s a b d e f x y)) (t .test-panel .result)
+      (c .if1 .taken) (t .test-panel .ensures);
 }
 
 test-heat-requires : tie.Need-test-heat-requires
@@ -101,9 +102,9 @@ test-heat-requires c κs = S1 c .pre .heat
 
 returns-2 : tie.Need-returns-2
 returns-2 c = let t = c .before in let i = t .before in let s = S1 i in record {
-  is = λ a b d e f.
-      verdict-later (P s a b d e f) (H s a b d e f ++ (K s a b d e f ++ L s a b d e f)) (t .test-heat .result) (panel i)
-      (first-broken (H s a b d e f) (K s a b d e f ++ L s a b d e f) (t .test-heat .result) (c .if2 .taken) (t .test-heat .ensures));
+  is = λ a b d e f x y.
+      verdict-later (P s a b d e f x y) (H s a b d e f x y ++ (K s a b d e f x y ++ L s a b d e f x y)) (t .test-heat .result) (panel i)
+      (first-broken (H s a b d e f x y) (K s a b d e f x y ++ L s a b d e f x y) (t .test-heat .result) (c .if2 .taken) (t .test-heat .ensures));
 }
 
 test-tasks-requires : tie.Need-test-tasks-requires
@@ -117,27 +118,30 @@ totals-fit-requires c κs = search needs
 
 returns-3 : tie.Need-returns-3
 returns-3 c = let t = T (c .before) in let s = S3 (c .before) in record {
-  is = λ a b d e f.
-      past (E2 t) a b d e f (t .test-tasks .result)
-      (first-broken (K s a b d e f) (L s a b d e f) (t .test-tasks .result) (c .if3 .taken) (tasks-told t a b d e f));
+  is = λ a b d e f x y.
+      past (E2 t) a b d e f x y (t .test-tasks .result)
+      (first-broken (K s a b d e f x y) (L s a b d e f x y) (t .test-tasks .result) (c .if3 .taken) (tasks-told t a b d e f x y));
 }
 
 module _ (e : tie.Else3) where
-  kept : (labels greyLabels counts sizes members : List ℕ) → Kept (K (S3 (e .before)) labels greyLabels counts sizes members)
-  kept a b d f g = let t = T (e .before) in verdict-kept (K (S3 (e .before)) a b d f g) (t .test-tasks .result) (e .if3 .left) (tasks-told t a b d f g)
+  kept : (labels greyLabels counts sizes members found greyFound : List ℕ) → Kept (K (S3 (e .before)) labels greyLabels counts sizes members found greyFound)
+  kept a b d f g x y =
+      let t = T (e .before) in
+      verdict-kept (K (S3 (e .before)) a b d f g x y) (t .test-tasks .result) (e .if3 .left) (tasks-told t a b d f g x y)
 
 returns-4 : tie.Need-returns-4
 returns-4 c = let i = c .before in let u = i .before in let s = S3 u in record {
-  is = λ a b d e f.
-      past (E2 (T u)) a b d e f 14
-      (verdict-later (K s a b d e f) (L s a b d e f) 14 (kept i a b d e f) (inl (refused (u .totals-fit .result) (c .if4 .taken) (totals-tell u), refl)));
+  is = λ a b d e f x y.
+      past (E2 (T u)) a b d e f x y 14
+      (verdict-later (K s a b d e f x y) (L s a b d e f x y) 14 (kept i a b d e f x y)
+      (inl (refused (u .totals-fit .result) (c .if4 .taken) (totals-tell u), refl)));
 }
 
 returns-5 : tie.Need-returns-5
 returns-5 c = let i = c .before in let u = i .before in let s = S3 u in record {
-  is = λ a b d e f.
-      past (E2 (T u)) a b d e f 0
-      (verdict-later (K s a b d e f) (L s a b d e f) 0 (kept i a b d e f) (passed (u .totals-fit .result) (c .if4 .left) (totals-tell u), tt));
+  is = λ a b d e f x y.
+      past (E2 (T u)) a b d e f x y 0
+      (verdict-later (K s a b d e f x y) (L s a b d e f x y) 0 (kept i a b d e f x y) (passed (u .totals-fit .result) (c .if4 .left) (totals-tell u), tt));
 }
 
 pub test-values-spec : {M : Type 1} → statement M

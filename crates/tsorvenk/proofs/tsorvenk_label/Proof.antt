@@ -18,9 +18,12 @@ same-length-2 c = search needs
 same-length-3 : tie.Need-same-length-3
 same-length-3 c = search needs
 
+same-length-4 : tie.Need-same-length-4
+same-length-4 c = search needs
+
 -- the call, before the buffers came back
 abbrev C : tie.After-labelling-number → tie.After-components
-C c = c .before .before .before .before .before .before .before
+C c = c .before .before .before .before .before .before .before .before .before
 
 returns : tie.Need-returns
 returns c = record { answer = C c .components .result; allowed = C c .components .ensures; number = c .labelling-number .ensures }
@@ -34,4 +37,5 @@ tsorvenk-label-spec =
     same-length
     same-length-2
     same-length-3
+    same-length-4
     returns)

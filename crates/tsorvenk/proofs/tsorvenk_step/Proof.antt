@@ -8,7 +8,7 @@ use Rattle.tsorvenk.proofs.tsorvenk_step.Statement.{statement}
 use Rattle.tsorvenk.proofs.tsorvenk_step.Tie as tie
 
 abbrev S : tie.After-codes-ok → tie.Start
-S k = k .before .before .before .before .before .before .before .before .before .before .before .before .before
+S k = k .before .before .before .before .before .before .before .before .before .before .before .before .before .before .before
 
 -- the codes are known from here on
 known : (e : tie.Else1) → let a = S (e .before) .args in Coded (a .mode) (a .form) (a .keeps)
@@ -62,13 +62,19 @@ same-length-6 c = search needs
 same-length-7 : tie.Need-same-length-7
 same-length-7 c = search needs
 
+same-length-8 : tie.Need-same-length-8
+same-length-8 c = search needs
+
+same-length-9 : tie.Need-same-length-9
+same-length-9 c = search needs
+
 abbrev step-of : tie.After-number-of → tie.After-overlap-step
-step-of c = c .before .before .before .before .before .before .before .before .before .before .before .before .before
+step-of c = c .before .before .before .before .before .before .before .before .before .before .before .before .before .before .before .before .before
 
 returns-2 : tie.Need-returns-2
 returns-2 c =
     let o = step-of c in
-    let t = o .before .before .before .before .before .before in
+    let t = o .before .before .before .before .before .before .before .before in
     let g = t .before .before .before in
     let k = g .before in
     let f = k .before in
@@ -98,4 +104,6 @@ tsorvenk-step-spec =
     same-length-5
     same-length-6
     same-length-7
+    same-length-8
+    same-length-9
     returns-2)

@@ -103,9 +103,9 @@ impl Bench {
 
     /// The port's time and, where it is there, the Rust's.
     fn times(&mut self, bonds: &Bonds) -> (f64, Option<f64>) {
-        let mut outputs = (vec![0; N], vec![0; N + 1], vec![0; 4]);
+        let mut outputs = Outputs::new();
         let port = &mut self.port;
-        let call = |outputs: &mut (Vec<u32>, Vec<u32>, Vec<u32>)| {
+        let call = |outputs: &mut Outputs| {
             let code = port.label(label(bonds, outputs));
             assert_eq!(code, 0);
         };
@@ -151,15 +151,34 @@ impl Bench {
     }
 }
 
-fn label<'a>(bonds: &'a Bonds, outputs: &'a mut (Vec<u32>, Vec<u32>, Vec<u32>)) -> Label<'a> {
+struct Outputs {
+    labels: Vec<u32>,
+    counts: Vec<u32>,
+    sizes: Vec<u32>,
+    found: Vec<u32>,
+}
+
+impl Outputs {
+    fn new() -> Self {
+        Self {
+            labels: vec![0; N],
+            counts: vec![0; N + 1],
+            sizes: vec![0; 4],
+            found: vec![0],
+        }
+    }
+}
+
+fn label<'a>(bonds: &'a Bonds, outputs: &'a mut Outputs) -> Label<'a> {
     Label {
         n: N,
         d: bonds.d,
         fwd: &bonds.fwd,
         holds: &bonds.holds,
         counted: &[1; N],
-        labels: &mut outputs.0,
-        counts: &mut outputs.1,
-        sizes: &mut outputs.2,
+        labels: &mut outputs.labels,
+        counts: &mut outputs.counts,
+        sizes: &mut outputs.sizes,
+        found: &mut outputs.found,
     }
 }

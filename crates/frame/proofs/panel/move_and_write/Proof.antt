@@ -40,7 +40,7 @@ same-length-6 c = search needs
 returns : tie.Need-returns
 returns c =
     let m = P (c .before .before .before) .perm-move in
-    record { answer = m .result; bwd = _; after = buffersOf _ _ [] _ _ []; moved = m .ensures; written = c .before .before .write-answer .ensures }
+    record { answer = m .result; bwd = _; after = buffersOf _ _ [] _ _ [] [] []; moved = m .ensures; written = c .before .before .write-answer .ensures }
 
 pub move-and-write-spec : {M : Type 1} → statement M
 move-and-write-spec =

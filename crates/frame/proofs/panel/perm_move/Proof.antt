@@ -43,6 +43,15 @@ array-borrow-prefix-members c = search needs
 slice-aggregate-overlap-step-6 : tie.Need-slice-aggregate-overlap-step-6
 slice-aggregate-overlap-step-6 c = search needs
 
+slice-aggregate-overlap-step-7 : tie.Need-slice-aggregate-overlap-step-7
+slice-aggregate-overlap-step-7 c = search needs
+
+array-borrow-prefix-grey-found : tie.Need-array-borrow-prefix-grey-found
+array-borrow-prefix-grey-found c = search needs
+
+slice-aggregate-overlap-step-8 : tie.Need-slice-aggregate-overlap-step-8
+slice-aggregate-overlap-step-8 c = search needs
+
 overlap-step-requires : tie.Need-overlap-step-requires
 overlap-step-requires c κs = search needs
 
@@ -64,14 +73,16 @@ same-length-5 c = search needs
 returns : tie.Need-returns
 unfolding ofInt ofBits
 returns c =
-    let o = c .before .before .before .before .before .before .before .before .before .before in
-    let k = o .before .before .before .before .before .before .before .before .before .before .before .before .before .before in
+    let o = c .before .before .before .before .before .before .before .before .before .before .before .before in
+    let k = o .before .before .before .before .before .before .before .before .before .before .before .before .before .before .before .before in
     let s = k .before .before .before .before .before .before .before .before in
     record {
       long = k .backward .kept .1 .1 .1 .0 ∙ s .pre .bwd-long;
       reversed = reversed-of _ _ _ (k .backward .result) _ (k .backward .ensures);
       grey = _;
       members = _;
+      found = _;
+      grey-found = _;
       answers = keeps-none _ _ _ _ (o .overlap-step .result) _ _ (o .overlap-step .ensures) .answers;
     }
 
@@ -91,6 +102,9 @@ perm-move-spec =
     slice-aggregate-overlap-step-5
     array-borrow-prefix-members
     slice-aggregate-overlap-step-6
+    slice-aggregate-overlap-step-7
+    array-borrow-prefix-grey-found
+    slice-aggregate-overlap-step-8
     overlap-step-requires
     same-length
     same-length-2

@@ -88,9 +88,16 @@ add-t26 c = search needs
 mul-t27 : tie.Need-mul-t27
 mul-t27 c = search needs
 
+takes-greys-requires-3 : tie.Need-takes-greys-requires-3
+takes-greys-requires-3 c κs = search needs
+
+only-requires-8 : tie.Need-only-requires-8
+only-requires-8 c κs = search needs
+
 returns : tie.Need-returns
 returns c =
-    let o4 = c .before .before .before .before .before .before in
+    let o7 = c .before .before in
+    let o4 = o7 .before .before .before .before .before .before in
     let o3 = o4 .before .before in
     let r9 = o3 .before .before in
     let o2 = r9 .before in
@@ -112,9 +119,11 @@ returns c =
       references = omega (arith, o3 .only3 .ensures, tasks);
       seeds = omega (arith, o4 .only4 .ensures, tasks);
       labels = labels;
-      grey-labels = omega (arith, c .only7 .ensures, labels);
+      grey-labels = omega (arith, o7 .only7 .ensures, labels);
       counts = omega (arith, labels, tasks);
       sizes = omega (arith, tasks);
+      found = tasks;
+      grey-found = omega (arith, c .only8 .ensures, tasks);
     }
 
 pub sizes-of-spec : {M : Type 1} → statement M
@@ -149,4 +158,6 @@ sizes-of-spec =
     only-requires-7
     add-t26
     mul-t27
+    takes-greys-requires-3
+    only-requires-8
     returns)

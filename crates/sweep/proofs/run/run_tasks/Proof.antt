@@ -20,19 +20,19 @@ use Rattle.sweep.proofs.run.run_tasks.Tie as tie
 
 abbrev Inv-loop : tie.InvT-loop
 Inv-loop plan spins₀ totals₀ fwd bwd couplings order masks temperatures cuts references seeds choices greys labels₀ greyLabels₀ counts₀ sizes₀ members₀
-    count outcomes₀ k₀ spins totals labels greyLabels counts sizes members outcomes k =
+    found₀ greyFound₀ count outcomes₀ k₀ spins totals labels greyLabels counts sizes members found greyFound outcomes k =
     RanKeeping (keepsBy (plan .keeps) (plan .form))
     (sweepOf plan fwd bwd couplings order masks temperatures cuts references seeds choices greys)
-    (buffersOf spins₀ labels₀ greyLabels₀ counts₀ sizes₀ members₀) totals₀ k (outcomes .idle) (outcomes .moved)
-    (buffersOf spins labels greyLabels counts sizes members) totals
+    (buffersOf spins₀ labels₀ greyLabels₀ counts₀ sizes₀ members₀ found₀ greyFound₀) totals₀ k (outcomes .idle) (outcomes .moved)
+    (buffersOf spins labels greyLabels counts sizes members found greyFound) totals
 
 abbrev μ-loop : tie.MeasureT-loop
 μ-loop plan spins₀ totals₀ fwd bwd couplings order masks temperatures cuts references seeds choices greys labels₀ greyLabels₀ counts₀ sizes₀ members₀
-    count outcomes₀ k₀ spins totals labels greyLabels counts sizes members outcomes k =
+    found₀ greyFound₀ count outcomes₀ k₀ spins totals labels greyLabels counts sizes members found greyFound outcomes k =
     count - k
 
 abbrev S : tie.After-task-count Inv-loop μ-loop → tie.Start Inv-loop μ-loop
-S t = t .before .before .before .before .before .before .before .before .before .before .before .before .before .before .before .before
+S t = t .before .before .before .before .before .before .before .before .before .before .before .before .before .before .before .before .before .before
 
 abbrev W : tie.Start Inv-loop μ-loop → Sweep
 W s =
@@ -41,7 +41,10 @@ W s =
     (now (a .references)) (now (a .seeds)) (now (a .choices)) (now (a .greys))
 
 abbrev B : tie.Start Inv-loop μ-loop → Buffers
-B s = let a = s .args in buffersOf (now (a .spins)) (now (a .labels)) (now (a .grey-labels)) (now (a .counts)) (now (a .sizes)) (now (a .members))
+B s =
+    let a = s .args in
+    buffersOf (now (a .spins)) (now (a .labels)) (now (a .grey-labels)) (now (a .counts)) (now (a .sizes)) (now (a .members)) (now (a .found))
+    (now (a .grey-found))
 
 abbrev keeping : tie.Start Inv-loop μ-loop → Bool
 keeping s = keepsBy (s .args .plan .keeps) (s .args .plan .form)
@@ -57,10 +60,13 @@ below : (l : tie.In-loop Inv-loop μ-loop) → l .before .loop .k < tasksOf (S (
 below l = rw (C l .task-count .ensures) at (l .loop-test .taken)
 
 abbrev now-at : tie.In-loop Inv-loop μ-loop → Buffers
-now-at l = let z = l .before .loop in buffersOf (z .spins) (z .labels) (z .grey-labels) (z .counts) (z .sizes) (z .members)
+now-at l =
+    let z = l .before .loop in
+    buffersOf (z .spins) (z .labels) (z .grey-labels) (z .counts) (z .sizes) (z .members) (z .found) (z .grey-found)
 
 task-count-requires : tie.Need-task-count-requires Inv-loop μ-loop
-task-count-requires c κs = planned (c .before .before .before .before .before .before .before .before .before .before .before .before .before .before .before)
+task-count-requires c κs =
+    planned (c .before .before .before .before .before .before .before .before .before .before .before .before .before .before .before .before .before)
 
 loop-holds : tie.Need-loop-holds Inv-loop μ-loop
 loop-holds c =
@@ -72,7 +78,7 @@ loop-holds c =
 
 step-requires : tie.Need-step-requires Inv-loop μ-loop
 step-requires c κs =
-    let l = c .before .before .before .before .before .before .before in
+    let l = c .before .before .before .before .before .before .before .before .before in
     let z = l .before .loop in
     let s = S (C l) in
     let h = z .inv .ran in
@@ -86,11 +92,11 @@ step-requires c κs =
     }
 
 -- the turn's task has run, and before it
-abbrev E : tie.After-slice-known10 Inv-loop μ-loop → tie.After-step Inv-loop μ-loop
-E c = c .before .before .before .before .before .before .before .before .before .before .before .before
+abbrev E : tie.After-slice-known14 Inv-loop μ-loop → tie.After-step Inv-loop μ-loop
+E c = c .before .before .before .before .before .before .before .before .before .before .before .before .before .before .before .before
 
 abbrev L : tie.After-step Inv-loop μ-loop → tie.In-loop Inv-loop μ-loop
-L t = t .before .before .before .before .before .before .before .before
+L t = t .before .before .before .before .before .before .before .before .before .before
 
 add-k : tie.Need-add-k Inv-loop μ-loop
 add-k c = let l = L (E c) in let s = S (C l) in omega (arith, below l, few-tasks (s .args .plan) (planned s))
@@ -134,6 +140,12 @@ same-length-6 c = search needs
 same-length-7 : tie.Need-same-length-7 Inv-loop μ-loop
 same-length-7 c = search needs
 
+same-length-8 : tie.Need-same-length-8 Inv-loop μ-loop
+same-length-8 c = search needs
+
+same-length-9 : tie.Need-same-length-9 Inv-loop μ-loop
+same-length-9 c = search needs
+
 returns : tie.Need-returns Inv-loop μ-loop
 returns c =
     let t = c .before .before in
@@ -142,7 +154,7 @@ returns c =
     let h = z .inv .ran in
     let e : z .k ≡ tasksOf (s .args .plan) = le-antisymm (h .reached) (rw (t .task-count .ensures) at (c .loop-test .left)) in (
       ran-all (W s) (B s) (s .pre .0) (z .outcomes .idle) (z .outcomes .moved)
-          (buffersOf (z .spins) (z .labels) (z .grey-labels) (z .counts) (z .sizes) (z .members)) (rw e at h),
+          (buffersOf (z .spins) (z .labels) (z .grey-labels) (z .counts) (z .sizes) (z .members) (z .found) (z .grey-found)) (rw e at h),
       z .inv .totals,
     )
 
@@ -165,4 +177,6 @@ run-tasks-spec =
     same-length-5
     same-length-6
     same-length-7
+    same-length-8
+    same-length-9
     returns)

@@ -150,9 +150,17 @@ fits-requires-8 c κs = search needs
 fits-requires-9 : tie.Need-fits-requires-9
 fits-requires-9 c κs = search needs
 
+fits-requires-10 : tie.Need-fits-requires-10
+fits-requires-10 c κs = search needs
+
+fits-requires-11 : tie.Need-fits-requires-11
+fits-requires-11 c κs = search needs
+
 returns : tie.Need-returns
 returns c =
-    let f9 = c .before in
+    let f11 = c .before in
+    let f10 = f11 .before in
+    let f9 = f10 .before in
     let f8 = f9 .before in
     let f7 = f8 .before in
     let f6 = f7 .before in
@@ -166,22 +174,32 @@ returns c =
     let l = a .l in
     same (FitsEach (a .mode) (a .form) (a .n) (a .d) (a .s) (a .m) (a .count) l)
     (λ h. record {
-      spins = h .0 .0 .0 .0 .0 .0 .0 .0 .0 .0 .0;
-      fwd = h .0 .0 .0 .0 .0 .0 .0 .0 .0 .0 .1;
-      bwd = h .0 .0 .0 .0 .0 .0 .0 .0 .0 .1;
-      couplings = h .0 .0 .0 .0 .0 .0 .0 .0 .1;
-      cuts = h .0 .0 .0 .0 .0 .0 .0 .1;
-      choices = h .0 .0 .0 .0 .0 .0 .1;
-      greys = h .0 .0 .0 .0 .0 .1;
-      labels = h .0 .0 .0 .0 .1;
-      grey-labels = h .0 .0 .0 .1;
-      counts = h .0 .0 .1;
-      sizes = h .0 .1;
-      members = h .1;
+      spins = h .0 .0 .0 .0 .0 .0 .0 .0 .0 .0 .0 .0 .0;
+      fwd = h .0 .0 .0 .0 .0 .0 .0 .0 .0 .0 .0 .0 .1;
+      bwd = h .0 .0 .0 .0 .0 .0 .0 .0 .0 .0 .0 .1;
+      couplings = h .0 .0 .0 .0 .0 .0 .0 .0 .0 .0 .1;
+      cuts = h .0 .0 .0 .0 .0 .0 .0 .0 .0 .1;
+      choices = h .0 .0 .0 .0 .0 .0 .0 .0 .1;
+      greys = h .0 .0 .0 .0 .0 .0 .0 .1;
+      labels = h .0 .0 .0 .0 .0 .0 .1;
+      grey-labels = h .0 .0 .0 .0 .0 .1;
+      counts = h .0 .0 .0 .0 .1;
+      sizes = h .0 .0 .0 .1;
+      members = h .0 .0 .1;
+      found = h .0 .1;
+      grey-found = h .1;
     })
-    (λ z.
-    (((((((((((z .spins, z .fwd), z .bwd), z .couplings), z .cuts), z .choices), z .greys), z .labels), z .grey-labels), z .counts), z .sizes), z .members))
-    (both (both (both (both (both (both (both (both (both (both (both
+    (λ z. (
+      (
+        (
+          ((((((((((z .spins, z .fwd), z .bwd), z .couplings), z .cuts), z .choices), z .greys), z .labels), z .grey-labels), z .counts), z .sizes),
+          z .members,
+        ),
+        z .found,
+      ),
+      z .grey-found,
+    ))
+    (both (both (both (both (both (both (both (both (both (both (both (both (both
     (test-eq (l .spins) (a .s * a .n))
     (test-eq (l .fwd) (a .n * a .d)))
     (test-eq (l .bwd) (a .n * a .d)))
@@ -194,7 +212,9 @@ returns c =
     (took (grey-labels g) refl (f7 .fits7 .ensures)))
     (took (labels g) refl (f8 .fits8 .ensures)))
     (took (labels g) refl (f9 .fits9 .ensures)))
-    (took (grows g) refl (c .fits10 .ensures)))
+    (took (grows g) refl (f10 .fits10 .ensures)))
+    (took (labels g) refl (f11 .fits11 .ensures)))
+    (took (grey-labels g) refl (c .fits12 .ensures)))
     .says
 
 pub lengths-ok-spec : {M : Type 1} → statement M
@@ -226,4 +246,6 @@ lengths-ok-spec =
     mul-fits-6
     fits-requires-8
     fits-requires-9
+    fits-requires-10
+    fits-requires-11
     returns)

@@ -19,7 +19,7 @@ use Rattle.tsorvenk.proofs.sweeping.tsorvenk_sweep.Statement.{statement
 use Rattle.tsorvenk.proofs.sweeping.tsorvenk_sweep.Tie as tie
 
 abbrev S : tie.After-codes-ok → tie.Start
-S k = k .before .before .before .before .before .before .before .before .before .before .before .before .before .before .before .before .before .before
+S k = k .before .before .before .before .before .before .before .before .before .before .before .before .before .before .before .before .before .before .before .before
 
 -- the codes are known from here on
 abbrev F : tie.After-keeps-of → tie.Start
@@ -34,7 +34,10 @@ W k m f q =
     (takenOf m (now (a .flips)) (now (a .perms))) (now (a .greys))
 
 abbrev B : tie.Start → Buffers
-B k = let a = k .args in buffersOf (now (a .spins)) (now (a .labels)) (now (a .grey-labels)) (now (a .counts)) (now (a .sizes)) (now (a .member-sites))
+B k =
+    let a = k .args in
+    buffersOf (now (a .spins)) (now (a .labels)) (now (a .grey-labels)) (now (a .counts)) (now (a .sizes)) (now (a .member-sites)) (now (a .found))
+    (now (a .grey-found))
 
 abbrev made : tie.After-keeps-of → Sweep
 made f = W (F f) (f .before .before .mode-of .result) (f .before .form-of .result) (f .keeps-of .result)
@@ -109,11 +112,17 @@ same-length-7 c = search needs
 same-length-8 : tie.Need-same-length-8
 same-length-8 c = search needs
 
+same-length-9 : tie.Need-same-length-9
+same-length-9 c = search needs
+
+same-length-10 : tie.Need-same-length-10
+same-length-10 c = search needs
+
 returns-3 : tie.Need-returns-3
 returns-3 c =
     let t = c .before .before in
-    let o = t .before .before .before .before .before .before .before .before .before .before .before .before .before .before in
-    let k = o .before .before .before .before .before .before in
+    let o = t .before .before .before .before .before .before .before .before .before .before .before .before .before .before .before .before .before .before in
+    let k = o .before .before .before .before .before .before .before .before in
     let e = k .before .before .before in
     let f = e .before in
     let a = F f .args in
@@ -143,4 +152,6 @@ tsorvenk-sweep-spec =
     same-length-6
     same-length-7
     same-length-8
+    same-length-9
+    same-length-10
     returns-3)

@@ -1,7 +1,7 @@
 -- `insert` meets its contract.
 use Rattle.label.proofs.Ranks.{into-none, into-fourth, into-third, into-second, into-first}
-use Rattle.label.proofs.insert.Statement.{statement}
-use Rattle.label.proofs.insert.Tie as tie
+use Rattle.label.proofs.top.insert.Statement.{statement}
+use Rattle.label.proofs.top.insert.Tie as tie
 
 returns : tie.Need-returns
 returns c = λ g f r. into-none g f _ r (c .if1 .taken)

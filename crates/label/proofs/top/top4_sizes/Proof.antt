@@ -6,8 +6,8 @@ use lib.ListN.{length}
 use Rattle.label.specs.Sizes.{allOrMore, Top4}
 use Rattle.label.proofs.Ranks.{all-fall, top-none, top-more}
 use borrow.Author.Needs.{needs}
-use Rattle.label.proofs.top4_sizes.Statement.{statement}
-use Rattle.label.proofs.top4_sizes.Tie as tie
+use Rattle.label.proofs.top.top4_sizes.Statement.{statement}
+use Rattle.label.proofs.top.top4_sizes.Tie as tie
 
 abbrev Inv-loop : tie.InvT-loop
 Inv-loop sizes ones t₀ i₀ t i = (i ≤ length sizes) × Top4 (allOrMore ones sizes i) (t .0) (t .1) (t .2) (t .3)

@@ -1,8 +1,8 @@
 -- `top_ones` meets its contract.
 use native.Mathlib.Omega.{arith}
 use Rattle.label.proofs.Ranks.{no-ones, one-one, two-ones, three-ones, more-ones}
-use Rattle.label.proofs.top_ones.Statement.{statement}
-use Rattle.label.proofs.top_ones.Tie as tie
+use Rattle.label.proofs.top.top_ones.Statement.{statement}
+use Rattle.label.proofs.top.top_ones.Tie as tie
 
 returns : tie.Need-returns
 returns c = no-ones _ (c .if1 .taken)
