@@ -12,7 +12,7 @@ use Rattle.lemmas.specs.Counts.{countWhere}
 use Rattle.paper.specs.declared.BondKind.the-variants.{Red}
 use Rattle.paper.specs.Site.Bonds.{whole, samplerOf, jorgHolds, greyHolds, holds, holdsGrey}
 use Rattle.paper.specs.Site.Energy.{energy}
-use Rattle.paper.specs.Move.Moving.{other, partner, permute, reachedBy, reached, after, afterGrey}
+use Rattle.paper.specs.Move.Moving.{other, partner, permute, reachedBy, reached, after, afterGrey, final}
 use Rattle.paper.specs.Refusal.Rules.{Warm, isCut, rules}
 use Rattle.paper.specs.Rows.Cases.{+, -, of, row, line, first}
 use Rattle.paper.specs.declared.Mode.the-variants.{Pair, Perm, Cmr}
@@ -193,9 +193,17 @@ chosen = record { by-number = refl; not-others = refl }
 abbrev greySecond : Choices
 greySecond = record { choices = []; greys = 0 ∷ 1 ∷ [] }
 
-pub grey-by-number : row 2 (afterGrey cmr greySecond red (1 ∷ 1 ∷ []) 0 (of (- ∷ - ∷ []))) ≡ + ∷ - ∷ []
-unfolding acts reached sizeOf countWhere row
-grey-by-number = refl
+-- the flip that the blue component 1 takes, and the grey component 0 does not
+abbrev blueSecond : Choices
+blueSecond = record { choices = 0 ∷ 1 ∷ []; greys = 0 ∷ 0 ∷ [] }
+
+pub record GreyChosen : Type 0 where
+  pub grey : row 2 (afterGrey cmr greySecond red (1 ∷ 1 ∷ []) 0 (of (- ∷ - ∷ []))) ≡ + ∷ - ∷ []
+  pub blue : row 2 (final cmr blueSecond red (1 ∷ 1 ∷ []) (0 ∷ 0 ∷ []) 0) ≡ - ∷ - ∷ []
+
+pub grey-chosen : GreyChosen
+unfolding acts reached sizeOf countWhere row final
+grey-chosen = record { grey = refl; blue = refl }
 
 -- and that is what a move's counts and sizes are of
 pub acting-counted :
