@@ -5,6 +5,7 @@ mod Bonds
 mod Tallies
 mod Flatten
 mod Whole
+mod Numbers
 mod Ranks
 mod Picks
 mod Reports

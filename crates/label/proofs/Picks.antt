@@ -1,65 +1,56 @@
 -- The number of the components of one site, and the list of the others' tallies.
-use Prim.Native.Nat.{ℕ, _+_, _≤_, _<_, zero-le}
+use Prim.Native.Nat.{ℕ, _+_, _-_, _≤_, _<_, zero-le}
 use mathlib.Core.Path.{_≡_, refl, sym, ap, _∙_}
 use mathlib.Core.Bool.{Bool, true, false, not, _&&_}
 use mathlib.Core.List.{List}
 use lib.Seq.{getD-set-same, getD-set-other}
-use native.Mathlib.Nat.{lt-irrefl, not-suc-le-zero, add-zero, le-antisymm, le-trans, le-of-eq}
+use native.Mathlib.Nat.{lt-irrefl, add-zero, le-antisymm}
 use native.Mathlib.Omega.{arith}
-use borrow.Author.Tests.{eqb-true}
 use lib.Dec.{eqb}
 use lib.ListN.{length, getD, set, length-set}
-use Rattle.lemmas.specs.Bools.{and-left}
-use Rattle.lemmas.specs.Counts.{bit, countWhere, bit-le, count-none, count-suc, count-no, count-ext, count-most}
-use Rattle.lemmas.specs.Stores.{AfterSet, AfterSet.here, AfterSet.there, after-set, lt-of-ne}
-use Rattle.paper.specs.Component.Sizes.{labelOf, isFirst, counted, sizeOf, Sized}
+use Rattle.lemmas.specs.Counts.{bit, countWhere, bit-le, count-none, count-suc, count-no, count-ext}
 use Rattle.label.specs.Contract.{isOne}
-use Rattle.label.specs.Sizes.{Picking, tallyAt, single, several, Picked}
+use Rattle.label.specs.Sizes.{Picking, single, several, Picked}
 
-pub size-le : {l tally : List ℕ} → Sized l tally → (r : ℕ) → r < length l → getD tally r 0 ≤ length l
-unfolding sizeOf
-size-le {l} {tally} h r rl = le-trans (le-of-eq (h .each r rl)) (count-most _ (length l))
+-- how many of the first k components that have not one site have a tally that passes
+abbrev below : List ℕ → List ℕ → (ℕ → Bool) → ℕ → ℕ
+below tally bytes f k = countWhere (λ j. several tally bytes j && f (getD tally j 0)) k
 
--- how many of the components with a smallest site below i that have not one site have a tally that passes
-abbrev below : List ℕ → List ℕ → List ℕ → (ℕ → Bool) → ℕ → ℕ
-below l tally marks f i = countWhere (λ j. several l tally marks j && f (tallyAt l tally j)) i
-
--- `gather_sizes` has taken the components with a smallest site below i, of which there are `next`
-pub record Pick (l tally marks : List ℕ) (room : ℕ) (list : List ℕ) (ones m next i : ℕ) : Type 0 where
+-- `gather_sizes` has taken the first k components: all that are counted have one site or are listed
+pub record Pick (found : ℕ) (tally bytes : List ℕ) (room : ℕ) (list : List ℕ) (all m k : ℕ) : Type 0 where
   pub long : length list ≡ room
-  pub reached : i ≤ length l
-  pub firsts : next ≡ countWhere (isFirst l) i
-  pub singles : ones ≡ countWhere (single l tally marks) i
-  pub short : m ≤ i
-  pub low : (t : ℕ) → t < m → getD list t 0 ≤ length l
-  pub same : (f : ℕ → Bool) → countWhere (λ t. f (getD list t 0)) m ≡ below l tally marks f i
+  pub reached : k ≤ found
+  pub few : all ≤ k
+  pub split : all ≡ countWhere (single tally bytes) k + m
+  pub same : (f : ℕ → Bool) → countWhere (λ t. f (getD list t 0)) m ≡ below tally bytes f k
 
-pub pick-none : (l tally marks list : List ℕ) → Pick l tally marks (length list) list 0 0 0 0
-pick-none l tally marks list = record {
+pub pick-none : (found : ℕ) (tally bytes list : List ℕ) → Pick found tally bytes (length list) list 0 0 0
+pick-none found tally bytes list = record {
   long = refl;
   reached = zero-le;
-  firsts = sym (count-none (isFirst l));
-  singles = sym (count-none (single l tally marks));
-  short = zero-le;
-  low = λ t h. absurd (not-suc-le-zero h);
-  same = λ f. count-none (λ t. f (getD list t 0)) ∙ sym (count-none (λ j. several l tally marks j && f (tallyAt l tally j)));
+  few = zero-le;
+  split = omega (arith, count-none (single tally bytes));
+  same = λ f. count-none (λ t. f (getD list t 0)) ∙ sym (count-none (λ j. several tally bytes j && f (getD tally j 0)));
 }
 
+-- what is counted has one site or not
+halves : (a q : Bool) → bit a ≡ bit (a && q) + bit (a && not q)
+halves true true = refl
+halves true false = refl
+halves false q = refl
+
 module _
-    {l tally marks : List ℕ} {room : ℕ} {list : List ℕ} {ones m next i : ℕ}
-    (h : Pick l tally marks room list ones m next i) (g : Picking l tally marks room) (il : i < length l)
+    {found : ℕ} {tally bytes : List ℕ} {room : ℕ} {list : List ℕ} {all m k : ℕ}
+    (h : Pick found tally bytes room list all m k) (g : Picking found tally bytes room) (kl : k < found)
   where
+    listed-le : m ≤ all
+    listed-le = omega (arith, h .split)
+
     pub pick-room : m < length list
-    pick-room = omega (arith, h .long, h .short, g .fits)
-
-    pub next-le : next ≤ i
-    next-le = rw (h .firsts) (count-most (isFirst l) i)
-
-    pub ones-le : ones ≤ i
-    ones-le = rw (h .singles) (count-most (single l tally marks) i)
+    pick-room = omega (arith, h .long, listed-le, h .few, g .fits)
 
     abbrev size : ℕ
-    size = getD tally next 0
+    size = getD tally k 0
 
     abbrev new : List ℕ
     new = set list m size
@@ -70,62 +61,31 @@ module _
     last : getD new m 0 ≡ size
     last = getD-set-same list m size 0 pick-room
 
-    old : (f : ℕ → Bool) → countWhere (λ t. f (getD new t 0)) m ≡ below l tally marks f i
+    old : (f : ℕ → Bool) → countWhere (λ t. f (getD new t 0)) m ≡ below tally bytes f k
     old f = count-ext (λ t. f (getD new t 0)) (λ t. f (getD list t 0)) m (λ t tl. ap f (before t tl)) ∙ h .same f
 
-    lows : (b : Bool) (t : ℕ) → t < m + bit b → AfterSet list m size t → getD new t 0 ≤ length l
-    lows b t tl (here e q) = rw q (size-le (g .sized) next (omega (arith, next-le)))
-    lows b t tl (there ne q) = rw q (h .low t (lt-of-ne (omega (arith, bit-le b)) ne))
+    sames : (b : Bool) → several tally bytes k ≡ b → (f : ℕ → Bool) → countWhere (λ t. f (getD new t 0)) (m + bit b) ≡ below tally bytes f (k + 1)
+    sames true e f =
+        count-suc (λ t. f (getD new t 0)) m
+        ∙ (rw (old f, last) (sym (count-suc (λ j. several tally bytes j && f (getD tally j 0)) k ∙ rw e)))
+    sames false e f = rw (add-zero m) (old f ∙ sym (count-no (λ j. several tally bytes j && f (getD tally j 0)) k (rw e)))
 
-    -- the label of i is z: it is first exactly if z is the next number, and then that is its tally's place
-    module _ (z : ℕ) (ez : z ≡ labelOf l i) where
-      first-is : isFirst l i ≡ eqb z next
-      first-is = rw (ez, h .firsts) (g .ranked i il)
+    pub pick-more : (o s : ℕ) → o ≡ bit (isOne bytes k) → s ≡ bit (several tally bytes k) → Pick found tally bytes room new (all + o) (m + s) (k + 1)
+    pick-more o s eo es = rw (eo, es) (record {
+      long = simp length-set (h .long);
+      reached = omega arith;
+      few = omega (arith, h .few, bit-le (isOne bytes k));
+      split = omega (arith, h .split, count-suc (single tally bytes) k, halves (isOne bytes k) (eqb size 1));
+      same = sames (several tally bytes k) refl;
+    })
 
-      tally-is : isFirst l i ≡ true → tallyAt l tally i ≡ size
-      tally-is e = ap (λ (y : ℕ). getD tally y 0) (sym ez ∙ eqb-true z next (sym first-is ∙ e))
-
-      -- a test of its size is the same as of the tally at the next number
-      asked : (test : ℕ → Bool) → counted (isOne marks) l i && test (tallyAt l tally i) ≡ (eqb z next && isOne marks i) && test size
-      asked test = rw (← first-is) (go (isFirst l i) refl)
-        where
-          go : (b : Bool) → isFirst l i ≡ b → (b && isOne marks i) && test (tallyAt l tally i) ≡ (b && isOne marks i) && test size
-          go true e = rw (tally-is e) refl
-          go false e = refl
-
-      abbrev alone : Bool
-      alone = (eqb z next && isOne marks i) && eqb size 1
-
-      abbrev more : Bool
-      more = (eqb z next && isOne marks i) && not (eqb size 1)
-
-      sames : (b : Bool) → several l tally marks i ≡ b → (f : ℕ → Bool) → countWhere (λ t. f (getD new t 0)) (m + bit b) ≡ below l tally marks f (i + 1)
-      sames true e f =
-          count-suc (λ t. f (getD new t 0)) m
-          ∙ (rw (old f, last) (sym (count-suc (λ j. several l tally marks j && f (tallyAt l tally j)) i
-          ∙ rw (e, tally-is (and-left _ _ (and-left _ _ e))))))
-      sames false e f = rw (add-zero m) (old f ∙ sym (count-no (λ j. several l tally marks j && f (tallyAt l tally j)) i (rw e)))
-
-      pub pick-more : (o s : ℕ) → o ≡ bit more → s ≡ bit (eqb z next)
-          → Pick l tally marks room new (ones + bit alone) (m + o) (next + s) (i + 1)
-      pick-more o s eo es = rw (eo, es) (record {
-        long = simp length-set (h .long);
-        reached = omega arith;
-        firsts = rw (← first-is) (rw (h .firsts) (sym (count-suc (isFirst l) i)));
-        singles = rw (← asked (λ x. eqb x 1)) (rw (h .singles) (sym (count-suc (single l tally marks) i)));
-        short = omega (arith, h .short, bit-le more);
-        low = λ t tl. lows more t tl (after-set list m size t pick-room);
-        same = sames more (asked (λ x. not (eqb x 1)));
-      })
-
-pub pick-end : {l tally marks : List ℕ} {room : ℕ} {list : List ℕ} {ones m next i : ℕ} → Pick l tally marks room list ones m next i → length l ≤ i
-    → Picked l tally marks list ones m
-pick-end {l} {tally} {marks} {room} {list} {ones} {m} {next} {i} h e = record {
-  singles = h .singles ∙ ap (countWhere (single l tally marks)) whole;
-  short = omega (arith, h .short, h .reached);
-  low = h .low;
-  same = λ f. h .same f ∙ ap (below l tally marks f) whole;
+pub pick-end : {found : ℕ} {tally bytes : List ℕ} {room : ℕ} {list : List ℕ} {all m k : ℕ} → Pick found tally bytes room list all m k → found ≤ k
+    → Picked found tally bytes list (all - m) m
+pick-end {found} {tally} {bytes} {room} {list} {all} {m} {k} h e = record {
+  singles = omega (arith, h .split, ap (countWhere (single tally bytes)) whole);
+  short = omega (arith, h .split, h .few, h .reached);
+  same = λ f. h .same f ∙ ap (below tally bytes f) whole;
 }
   where
-    whole : i ≡ length l
+    whole : k ≡ found
     whole = le-antisymm (h .reached) e

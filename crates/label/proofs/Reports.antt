@@ -3,19 +3,19 @@ use Prim.Native.Nat.{ℕ, zero, suc, _+_, _≤_, _<_}
 use mathlib.Core.Path.{_≡_, refl, sym, ap, _∙_}
 use mathlib.Core.Bool.{Bool, true, false, not, cond, _&&_}
 use mathlib.Core.List.{List}
-use native.Mathlib.Nat.{lt-irrefl, le-trans}
+use native.Mathlib.Nat.{lt-irrefl, le-refl, le-trans, le-of-eq, lt-of-lt-of-le}
 use native.Mathlib.Omega.{arith}
 use borrow.Author.Count.{below-none, below-more}
-use borrow.Author.Tests.{eq-eqb, ne-eqb, eqb-true}
+use borrow.Author.Tests.{eq-eqb, ne-eqb, eqb-true, le-leb, leb-true}
 use lib.Dec.{eqb, leb}
 use lib.ListN.{length, getD, set, take, length-set}
 use lib.Seq.{length-take-le, getD-take, getD-set-same, getD-set-other}
 use Rattle.lemmas.specs.Bools.{and-no}
 use Rattle.lemmas.specs.Counts.{bit, countWhere, count-zero, count-pos, count-most, count-ext}
 use Rattle.paper.specs.Component.Sizes.{labelOf, isFirst, counted, sizeOf, ofSize, atLeast, Counted, Rank, Largest, Sized}
-use Rattle.laws.specs.Numbering.{Ranked}
-use Rattle.label.specs.Contract.{isOne}
-use Rattle.label.specs.Sizes.{tallyAt, single, several, Picked, Histogramming, onesPass, Histogram, allOrMore, Place, Top4}
+use Rattle.label.specs.Contract.{isOne, Countable}
+use Rattle.label.specs.Sizes.{Marking, Marked, single, several, Picked, Histogramming, onesPass, Histogram, allOrMore, Place, Top4}
+use Rattle.label.proofs.Numbers.{number-lt, by-number}
 use Rattle.label.proofs.Ranks.{top-ext}
 
 -- a component has a site
@@ -39,35 +39,52 @@ turn true false true b x y z e h = omega (arith, h)
 turn true false false b x y z e h = omega (arith, h)
 
 -- those of one site and the others are all
-parts : (l tally marks : List ℕ) (f : ℕ → Bool) (m : ℕ)
-    → onesPass (countWhere (single l tally marks) m) f + countWhere (λ i. several l tally marks i && f (tallyAt l tally i)) m
-    ≡ countWhere (λ i. counted (isOne marks) l i && f (tallyAt l tally i)) m
+parts : (tally bytes : List ℕ) (f : ℕ → Bool) (m : ℕ)
+    → onesPass (countWhere (single tally bytes) m) f + countWhere (λ k. several tally bytes k && f (getD tally k 0)) m
+    ≡ countWhere (λ k. isOne bytes k && f (getD tally k 0)) m
 unfolding countWhere
-parts l tally marks f zero = none (f 1)
+parts tally bytes f zero = none (f 1)
   where
     none : (b : Bool) → cond b 0 0 + 0 ≡ 0
     none true = refl
     none false = refl
-parts l tally marks f (suc m) =
-    turn (counted (isOne marks) l m) (eqb (tallyAt l tally m) 1) (f 1) (f (tallyAt l tally m)) _ _ _ (λ e. ap f (sym (eqb-true _ _ e)))
-    (parts l tally marks f m)
+parts tally bytes f (suc m) =
+    turn (isOne bytes m) (eqb (getD tally m 0) 1) (f 1) (f (getD tally m 0)) _ _ _ (λ e. ap f (sym (eqb-true _ _ e)))
+    (parts tally bytes f m)
+
+size-le : {l tally : List ℕ} → Sized l tally → (r : ℕ) → r < length l → getD tally r 0 ≤ length l
+unfolding sizeOf
+size-le {l} {tally} h r rl = le-trans (le-of-eq (h .each r rl)) (count-most _ (length l))
+
+-- there are not more numbers than sites
+module _ {l tally marks : List ℕ} {found counts sizes : ℕ} (g : Countable l found tally marks counts sizes) where
+  pub found-le : found ≤ length l
+  found-le = rw (g .firsts) (count-most (isFirst l) (length l))
+
+  label-lt : (i : ℕ) → i < length l → labelOf l i < length l
+  label-lt i il = lt-of-lt-of-le (number-lt l (g .ranked) i il) (count-most (isFirst l) (length l))
+
+  pub found-as : (k : ℕ) → k ≡ found → Countable l k tally marks counts sizes
+  found-as k e = rw e g
+
+  pub marking : Marking l marks 4096
+  marking = record { marked = g .marked; low = label-lt; fits = g .n-high }
 
 module _
-    {l tally marks list : List ℕ} {ones m : ℕ} (ranked : Ranked l) (z : Sized l tally) (p : Picked l tally marks list ones m) (fits : m ≤ length list)
+    {l tally marks bytes list : List ℕ} {found counts sizes ones m : ℕ} (g : Countable l found tally marks counts sizes) (w : Marked l marks bytes)
+    (p : Picked found tally bytes list ones m) (fits : m ≤ length list)
   where
     pub part-long : length (take m list) ≡ m
     part-long = length-take-le m list fits
 
-    -- a first's tally is its component's size
-    sized : (f : ℕ → Bool) (i : ℕ) → i < length l
-        → counted (isOne marks) l i && f (tallyAt l tally i) ≡ counted (isOne marks) l i && f (sizeOf l (labelOf l i))
-    sized f i il = go (isFirst l i) refl
+    -- at a first's number stand its byte and its component's size
+    at-first : (f : ℕ → Bool) (i : ℕ) → i < length l
+        → isFirst l i && (isOne bytes (labelOf l i) && f (getD tally (labelOf l i) 0)) ≡ counted (isOne marks) l i && f (sizeOf l (labelOf l i))
+    at-first f i il = go (isFirst l i) refl
       where
-        low : isFirst l i ≡ true → labelOf l i < length l
-        low e = omega (arith, eqb-true (labelOf l i) (countWhere (isFirst l) i) (sym (ranked i il) ∙ e), count-most (isFirst l) i)
-
-        go : (b : Bool) → isFirst l i ≡ b → (b && isOne marks i) && f (tallyAt l tally i) ≡ (b && isOne marks i) && f (sizeOf l (labelOf l i))
-        go true e = ap (λ (y : ℕ). isOne marks i && f y) (z .each (labelOf l i) (low e))
+        go : (b : Bool) → isFirst l i ≡ b
+            → b && (isOne bytes (labelOf l i) && f (getD tally (labelOf l i) 0)) ≡ (b && isOne marks i) && f (sizeOf l (labelOf l i))
+        go true e = rw (w i il e, g .sized .each (labelOf l i) (label-lt g i il)) refl
         go false e = refl
 
     -- as many of the list and of the sizes 1 pass a test as components
@@ -75,27 +92,45 @@ module _
         → onesPass ones f + countWhere (λ t. f (getD (take m list) t 0)) (length (take m list))
         ≡ countWhere (λ i. counted (isOne marks) l i && f (sizeOf l (labelOf l i))) (length l)
     passing f =
-        rw (p .singles, listed) (parts l tally marks f (length l))
-        ∙ count-ext (λ i. counted (isOne marks) l i && f (tallyAt l tally i)) (λ i. counted (isOne marks) l i && f (sizeOf l (labelOf l i))) (length l)
-        (sized f)
+        rw (p .singles, listed) (parts tally bytes f found)
+        ∙ (ap (countWhere test) (g .firsts)
+        ∙ (sym (by-number l (g .ranked) test (length l) (le-refl (length l)))
+        ∙ count-ext (λ i. isFirst l i && test (labelOf l i)) (λ i. counted (isOne marks) l i && f (sizeOf l (labelOf l i))) (length l) (at-first f)))
       where
-        listed : countWhere (λ t. f (getD (take m list) t 0)) (length (take m list))
-            ≡ countWhere (λ i. several l tally marks i && f (tallyAt l tally i)) (length l)
+        test : ℕ → Bool
+        test k = isOne bytes k && f (getD tally k 0)
+
+        listed : countWhere (λ t. f (getD (take m list) t 0)) (length (take m list)) ≡ countWhere (λ k. several tally bytes k && f (getD tally k 0)) found
         listed = rw part-long (count-ext (λ t. f (getD (take m list) t 0)) (λ t. f (getD list t 0)) m (λ t tl. ap f (getD-take m list t 0 tl))) ∙ p .same f
 
     few : ones ≤ length l
-    few = rw (p .singles) (count-most (single l tally marks) (length l))
+    few = le-trans (rw (p .singles) (count-most (single tally bytes) found)) (found-le g)
 
-    pub histogramming : length l ≤ 4096 → Histogramming (take m list) ones (length l + 1)
-    histogramming h = record {
-      few = omega (arith, part-long, p .short);
-      low = λ t tl. low t (rw part-long at tl);
-      few-ones = le-trans few h;
+    -- none that is listed is larger than all sites are, since no tally is
+    low : (t : ℕ) → t < m → getD list t 0 ≤ length l
+    low t tl = go (leb (getD list t 0) (length l)) refl
+      where
+        large : ℕ → Bool
+        large x = not (leb x (length l))
+
+        none : countWhere (λ k. several tally bytes k && large (getD tally k 0)) found ≡ 0
+        none = count-zero (λ k. several tally bytes k && large (getD tally k 0)) found
+            (λ k kl. rw (le-leb _ _ (size-le (g .sized) k (omega (arith, found-le g)))) (and-no (several tally bytes k)))
+
+        go : (b : Bool) → leb (getD list t 0) (length l) ≡ b → getD list t 0 ≤ length l
+        go true e = leb-true _ _ e
+        go false e = absurd (omega (arith, count-pos (λ t. large (getD list t 0)) m t tl (rw e refl), p .same large, none))
+
+    pub histogramming : Histogramming (take m list) ones (length l + 1)
+    histogramming = record {
+      few = omega (arith, part-long, p .short, found-le g, g .n-high);
+      low = λ t tl. below t (rw part-long at tl);
+      few-ones = le-trans few (g .n-high);
       ones-low = omega (arith, few);
     }
       where
-        low : (t : ℕ) → t < m → getD (take m list) t 0 < length l + 1
-        low t tl = rw (getD-take m list t 0 tl) (omega (arith, p .low t tl))
+        below : (t : ℕ) → t < m → getD (take m list) t 0 < length l + 1
+        below t tl = rw (getD-take m list t 0 tl) (omega (arith, low t tl))
 
     pub counted-are : {counts : List ℕ} → Histogram (take m list) ones counts (length l + 1) → Counted (isOne marks) l counts
     counted-are {counts} h = record { long = h .long; zeroth = each 0 (omega arith) ∙ no-empty (isOne marks) l; each = each }

@@ -5,10 +5,11 @@ use mathlib.Core.Bool.{Bool}
 use mathlib.Core.List.{List}
 use lib.Dec.{eqb}
 use lib.ListN.{length, getD}
+use Rattle.lemmas.specs.Counts.{countWhere}
 use Rattle.paper.specs.Panel.Input.{Graph}
 use Rattle.paper.specs.Component.Labels.{Labels}
 use Rattle.paper.specs.Component.Marks.{marked}
-use Rattle.paper.specs.Component.Sizes.{Sized, Counted, Largest}
+use Rattle.paper.specs.Component.Sizes.{isFirst, Sized, Counted, Largest}
 use Rattle.laws.specs.Numbering.{Ranked}
 
 abbrev pub graphOf : ℕ → ℕ → List ℕ → Graph
@@ -33,10 +34,11 @@ pub record Labelled (n d : ℕ) (fwd holds l tally : List ℕ) (found : ℕ) : T
 abbrev pub isOne : List ℕ → ℕ → Bool
 isOne marks r = eqb (getD marks r 0) 1
 
--- numbers with their tally, a byte for each site, and places for the counts and the four sizes
-pub record Countable (labels tally marks : List ℕ) (counts sizes : ℕ) : Type 0 where
+-- numbers, how many there are, their tally, a byte for each site, and places for the counts and the four sizes
+pub record Countable (labels : List ℕ) (found : ℕ) (tally marks : List ℕ) (counts sizes : ℕ) : Type 0 where
   pub n-high : length labels ≤ 4096
   pub ranked : Ranked labels
+  pub firsts : found ≡ countWhere (isFirst labels) (length labels)
   pub sized : Sized labels tally
   pub marked : length marks ≡ length labels
   pub counts-long : counts ≡ length labels + 1

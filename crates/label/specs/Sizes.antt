@@ -2,39 +2,42 @@
 use Prim.Native.Nat.{ℕ, _+_, _≤_, _<_}
 use mathlib.Core.Path.{_≡_}
 use mathlib.Core.Logic.{_⊎_}
-use mathlib.Core.Bool.{Bool, not, cond, _&&_}
+use mathlib.Core.Bool.{Bool, true, not, cond, _&&_}
 use mathlib.Core.List.{List}
 use lib.Dec.{eqb, leb}
 use lib.ListN.{length, getD}
 use Rattle.lemmas.specs.Counts.{bit, countWhere}
-use Rattle.paper.specs.Component.Sizes.{labelOf, counted, Sized}
-use Rattle.laws.specs.Numbering.{Ranked}
+use Rattle.paper.specs.Component.Sizes.{labelOf, isFirst}
 use Rattle.label.specs.Contract.{isOne}
 
-pub record Picking (l tally marks : List ℕ) (room : ℕ) : Type 0 where
-  pub n-high : length l ≤ 4096
-  pub ranked : Ranked l
-  pub sized : Sized l tally
+-- a byte for each site, and a place for each number; there are not more numbers than sites
+pub record Marking (l marks : List ℕ) (room : ℕ) : Type 0 where
   pub marked : length marks ≡ length l
+  pub low : (i : ℕ) → i < length l → labelOf l i < length l
   pub fits : length l ≤ room
 
--- what the tally has at the label of the site i
-abbrev pub tallyAt : List ℕ → List ℕ → ℕ → ℕ
-tallyAt l tally i = getD tally (labelOf l i) 0
+-- at each number stands the byte of its first site
+abbrev pub Marked : List ℕ → List ℕ → List ℕ → Type 0
+Marked l marks bytes = (i : ℕ) → i < length l → isFirst l i ≡ true → getD bytes (labelOf l i) 0 ≡ getD marks i 0
 
--- i is the smallest site of a counted component of one site; of another size
-abbrev pub single : List ℕ → List ℕ → List ℕ → ℕ → Bool
-single l tally marks i = counted (isOne marks) l i && eqb (tallyAt l tally i) 1
+pub record Picking (found : ℕ) (tally bytes : List ℕ) (room : ℕ) : Type 0 where
+  pub high : found ≤ 4096
+  pub tallied : found ≤ length tally
+  pub decided : found ≤ length bytes
+  pub fits : found ≤ room
 
-abbrev pub several : List ℕ → List ℕ → List ℕ → ℕ → Bool
-several l tally marks i = counted (isOne marks) l i && not (eqb (tallyAt l tally i) 1)
+-- the component k is counted and has one site; and has another size
+abbrev pub single : List ℕ → List ℕ → ℕ → Bool
+single tally bytes k = isOne bytes k && eqb (getD tally k 0) 1
+
+abbrev pub several : List ℕ → List ℕ → ℕ → Bool
+several tally bytes k = isOne bytes k && not (eqb (getD tally k 0) 1)
 
 -- so many counted components have one site, and the first m of the list are the tallies of the others: as many pass each test
-pub record Picked (l tally marks list : List ℕ) (ones m : ℕ) : Type 0 where
-  pub singles : ones ≡ countWhere (single l tally marks) (length l)
-  pub short : m ≤ length l
-  pub low : (t : ℕ) → t < m → getD list t 0 ≤ length l
-  pub same : (f : ℕ → Bool) → countWhere (λ t. f (getD list t 0)) m ≡ countWhere (λ i. several l tally marks i && f (tallyAt l tally i)) (length l)
+pub record Picked (found : ℕ) (tally bytes list : List ℕ) (ones m : ℕ) : Type 0 where
+  pub singles : ones ≡ countWhere (single tally bytes) found
+  pub short : m ≤ found
+  pub same : (f : ℕ → Bool) → countWhere (λ t. f (getD list t 0)) m ≡ countWhere (λ k. several tally bytes k && f (getD tally k 0)) found
 
 -- how many of so many sizes 1 pass a test
 abbrev pub onesPass : ℕ → (ℕ → Bool) → ℕ

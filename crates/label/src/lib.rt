@@ -10,7 +10,7 @@ ghost use Rattle.label.specs.Closure.{Only};
 ghost use Rattle.label.specs.Contract.{isOne, Given, Labelled, Countable, Reported, LabelLent, Seen};
 ghost use Rattle.label.specs.Forest.{Adds};
 ghost use Rattle.label.specs.Entry.{ExactLengths, Below, Answers};
-ghost use Rattle.label.specs.Sizes.{Picking, Picked, Started, Histogramming, Histogram};
+ghost use Rattle.label.specs.Sizes.{Marking, Marked, Picking, Picked, Started, Histogramming, Histogram};
 ghost use Rattle.label.specs.Steps.{Own, Climbing, Gathering, Gathered, Listing, Listed, Part, Block, Ends, Bonding, Flattening, Flattened};
 
 mod top;
@@ -180,32 +180,44 @@ pub fn label(
     uf_flatten_counts(labels, tally)
 }
 
+// Writes at each number the byte of its component's smallest site. The sites come in falling order, so that what stays is the smallest one's: no turn
+// waits for the one before, as it would in a pass that counts the numbers met so far to know a component's first site.
+fn component_marks(labels: &[u32], marks: &[u8], bytes: &mut [u8])
+    requires { ⌜ Marking (now labels) (now marks) (length (now bytes)) ⌝ }
+    ensures { λ _. ⌜ Marked (now (labels .entry)) (now (marks .entry)) (now (bytes .exit)) ⌝ }
+{
+    let mut i = labels.len();
+    while i > 0 {
+        i -= 1;
+        let r = wide(labels[i]);
+        bytes[r] = marks[i];
+    }
+}
+
 // How many of the counted components have one site, and how many others are listed.
 struct Split {
     ones: u32,
     len: usize,
 }
 
-// Counts the counted components of one site, and lists the sizes of the others as `gather` lists sites. A site is the first of its component exactly
-// if its number is the next one. Where few sites act most components have one site, and to count them size by size is a chain of stores to one place.
-fn gather_sizes(labels: &[u32], tally: &[u32], marks: &[u8], list: &mut [u32]) -> Split
-    requires { ⌜ Picking (now labels) (now tally) (now marks) (length (now list)) ⌝ }
-    ensures { λ r. ⌜ Picked (now (labels .entry)) (now (tally .entry)) (now (marks .entry)) (now (list .exit)) (r .ones) (r .len) ⌝ }
+// Counts the counted components of one site, and lists the sizes of the others as `gather` lists sites. Where few sites act most components have one
+// site, and to count them size by size is a chain of stores to one place. They are what is counted and not listed: a sum of their own costs more.
+fn gather_sizes(found: usize, tally: &[u32], bytes: &[u8], list: &mut [u32]) -> Split
+    requires { ⌜ Picking found (now tally) (now bytes) (length (now list)) ⌝ }
+    ensures { λ r. ⌜ Picked found (now (tally .entry)) (now (bytes .entry)) (now (list .exit)) (r .ones) (r .len) ⌝ }
 {
-    let mut ones: u32 = 0;
+    let mut all = 0;
     let mut len = 0;
-    let mut next = 0;
-    let mut i = 0;
-    while i < labels.len() {
-        let size = tally[next];
+    let mut r = 0;
+    while r < found {
+        let size = tally[r];
         list[len] = size;
-        let first = wide(labels[i]) == next;
-        let own = first & (marks[i] == 1);
-        ones += (own & (size == 1)) as u32;
+        let own = bytes[r] == 1;
+        all += one(own);
         len += one(own & (size != 1));
-        next += one(first);
-        i += 1;
+        r += 1;
     }
+    let ones = (all - len) as u32;
     Split { ones, len }
 }
 
@@ -235,13 +247,22 @@ fn uf_histogram(sizes: &[u32], ones: u32, counts: &mut [u32])
     }
 }
 
-// Writes the number of components of each size and the four largest sizes, of those whose smallest site has the mark 1.
-pub fn count(labels: &[u32], tally: &[u32], marks: &[u8], counts: &mut [u32], sizes: &mut [u32])
-    requires { ⌜ Countable (now labels) (now tally) (now marks) (length (now counts)) (length (now sizes)) ⌝ }
+// Writes the number of components of each size and the four largest sizes, of those whose smallest site has the mark 1; there are `found` in all.
+pub fn count(
+    labels: &[u32],
+    found: u32,
+    tally: &[u32],
+    marks: &[u8],
+    counts: &mut [u32],
+    sizes: &mut [u32],
+)
+    requires { ⌜ Countable (now labels) found (now tally) (now marks) (length (now counts)) (length (now sizes)) ⌝ }
     ensures { λ _. ⌜ Reported (isOne (now (marks .entry))) (now (labels .entry)) (now (counts .exit)) (now (sizes .exit)) ⌝ }
 {
+    let mut bytes = [0u8; 4096];
     let mut list = [0u32; 4096];
-    let s = gather_sizes(labels, tally, marks, &mut list);
+    component_marks(labels, marks, &mut bytes);
+    let s = gather_sizes(wide(found), tally, &bytes, &mut list);
     let ones = s.ones;
     let len = s.len;
     uf_histogram(&list[..len], ones, counts);
@@ -306,7 +327,7 @@ fn label_and_count(
         (now (labels .exit)) (now (counts .exit)) (now (sizes .exit)) r ⌝ }
 {
     let found = label(n, d, fwd, holds, labels, &mut tally[..n]);
-    count(labels, &tally[..n], counted, counts, sizes);
+    count(labels, found, &tally[..n], counted, counts, sizes);
     found
 }
 

@@ -95,8 +95,9 @@ fn label_task(
     let n = t.n;
     let some = column_rules::look(mode, n, spins, group, t.reference, cols, acts);
     hold(t, fwd, couplings, cuts, acts, cols, holds, grey);
-    found[0] = label::label(n, t.d, fwd, holds, labels, tally);
-    label::count(labels, tally, acts, counts, sizes);
+    let many = label::label(n, t.d, fwd, holds, labels, tally);
+    found[0] = many;
+    label::count(labels, many, tally, acts, counts, sizes);
     some
 }
 

@@ -1,53 +1,43 @@
 -- `gather_sizes` meets its contract.
-use Prim.Native.Nat.{ℕ, _-_, _≤_, _<_}
-use mathlib.Core.Bool.{Bool, not, _&&_}
+use Prim.Native.Nat.{_-_, _<_}
+use mathlib.Core.Bool.{Bool}
 use native.Mathlib.Omega.{arith}
-use lib.Dec.{eqb}
-use lib.ListN.{length, getD}
+use lib.ListN.{length}
 use Rattle.lemmas.specs.Counts.{bit-le}
 use Rattle.label.specs.Contract.{isOne}
-use Rattle.label.proofs.Picks.{Pick, pick-none, pick-room, next-le, ones-le, pick-more, pick-end}
+use Rattle.label.specs.Sizes.{several}
+use Rattle.label.proofs.Picks.{Pick, pick-none, pick-room, pick-more, pick-end}
 use borrow.Author.Needs.{needs}
 use Rattle.label.proofs.gather_sizes.Statement.{statement}
 use Rattle.label.proofs.gather_sizes.Tie as tie
 
 abbrev Inv-loop : tie.InvT-loop
-Inv-loop labels tally marks list₀ ones₀ len₀ next₀ i₀ list ones len next i = Pick labels tally marks (length list₀) list ones len next i
+Inv-loop found tally bytes list₀ all₀ len₀ r₀ list all len r = Pick found tally bytes (length list₀) list all len r
 
 abbrev μ-loop : tie.MeasureT-loop
-μ-loop labels tally marks list₀ ones₀ len₀ next₀ i₀ list ones len next i = length labels - i
+μ-loop found tally bytes list₀ all₀ len₀ r₀ list all len r = found - r
 
 abbrev S : tie.In-loop Inv-loop μ-loop → tie.Start Inv-loop μ-loop
-S c = c .before .before .before .before .before .before
+S c = c .before .before .before .before .before
 
 room : (c : tie.In-loop Inv-loop μ-loop) → c .before .loop .len < length (c .before .loop .list)
 room c = pick-room (c .before .loop .inv) (S c .pre) (c .loop-test .taken)
 
--- the next number is a place of the tally, and there are not too many components of one site
-next : (c : tie.In-loop Inv-loop μ-loop) → c .before .loop .next ≤ c .before .loop .i
-next c = next-le (c .before .loop .inv) (S c .pre) (c .loop-test .taken)
+-- the tests of a component: it is counted; so and has not one site
+abbrev own : tie.In-loop Inv-loop μ-loop → Bool
+own c = isOne (S c .args .bytes .now) (c .before .loop .r)
 
-ones : (c : tie.In-loop Inv-loop μ-loop) → c .before .loop .ones ≤ c .before .loop .i
-ones c = ones-le (c .before .loop .inv) (S c .pre) (c .loop-test .taken)
-
--- the tests of a site: it is the first of its component, and counted; so and alone; so and not alone
-abbrev first : tie.After-wide Inv-loop μ-loop → Bool
-first c = eqb (c .wide .result) (c .before .before .before .before .loop .next)
-
-abbrev size : tie.After-wide Inv-loop μ-loop → ℕ
-size c = let t = c .before .before .before in getD (S t .args .tally .now) (t .before .loop .next) 0
-
-abbrev own : tie.After-wide Inv-loop μ-loop → Bool
-own c = let t = c .before .before .before in first c && isOne (S t .args .marks .now) (t .before .loop .i)
+abbrev more : tie.In-loop Inv-loop μ-loop → Bool
+more c = several (S c .args .tally .now) (S c .args .bytes .now) (c .before .loop .r)
 
 loop-holds : tie.Need-loop-holds Inv-loop μ-loop
 loop-holds c = pick-none _ _ _ _
 
 mul-size : tie.Need-mul-size Inv-loop μ-loop
-mul-size c = omega (arith, next c, S c .pre .sized .long)
+mul-size c = search needs
 
 shared-slice-read-size : tie.Need-shared-slice-read-size Inv-loop μ-loop
-shared-slice-read-size c = omega (arith, next (c .before), S (c .before) .pre .sized .long)
+shared-slice-read-size c = search needs
 
 mul-list : tie.Need-mul-list Inv-loop μ-loop
 mul-list c = omega (arith, room (c .before))
@@ -55,50 +45,37 @@ mul-list c = omega (arith, room (c .before))
 slice-write-list : tie.Need-slice-write-list Inv-loop μ-loop
 slice-write-list c = room (c .before)
 
-mul-wide : tie.Need-mul-wide Inv-loop μ-loop
-mul-wide c = search needs
-
-shared-slice-read-wide : tie.Need-shared-slice-read-wide Inv-loop μ-loop
-shared-slice-read-wide c = search needs
-
-wide-requires : tie.Need-wide-requires Inv-loop μ-loop
-wide-requires c κs = search needs
-
 shared-slice-read-own : tie.Need-shared-slice-read-own Inv-loop μ-loop
-shared-slice-read-own c = let t = c .before .before .before .before in omega (arith, S t .pre .marked, t .loop-test .taken)
-
-cast-ones : tie.Need-cast-ones Inv-loop μ-loop
-cast-ones c = search needs
-
-add-ones : tie.Need-add-ones Inv-loop μ-loop
-add-ones c =
-    let w = c .before in
-    let t = w .before .before .before in
-    omega (arith, ones t, S t .pre .n-high, t .loop-test .taken, bit-le (own w && eqb (size w) 1))
+shared-slice-read-own c = search needs
 
 one-requires : tie.Need-one-requires Inv-loop μ-loop
 one-requires c κs = search needs
 
-add-len : tie.Need-add-len Inv-loop μ-loop
-add-len c = let w = c .before .before in omega (arith, room (w .before .before .before), bit-le (own w && not (eqb (size w) 1)))
+add-all : tie.Need-add-all Inv-loop μ-loop
+add-all c = let t = c .before .before .before in omega (arith, S t .pre .high, t .before .loop .inv .few, bit-le (own t))
 
 one-requires-2 : tie.Need-one-requires-2 Inv-loop μ-loop
 one-requires-2 c κs = search needs
 
-add-next : tie.Need-add-next Inv-loop μ-loop
-add-next c = let w = c .before .before .before in omega (arith, next (w .before .before .before), bit-le (first w))
+add-len : tie.Need-add-len Inv-loop μ-loop
+add-len c = let t = c .before .before .before .before in omega (arith, room t, bit-le (more t))
 
-add-i : tie.Need-add-i Inv-loop μ-loop
-add-i c = search needs
+add-r : tie.Need-add-r Inv-loop μ-loop
+add-r c = search needs
 
 loop-less : tie.Need-loop-less Inv-loop μ-loop
 loop-less c = search needs
 
 loop-again : tie.Need-loop-again Inv-loop μ-loop
 loop-again c =
-    let w = c .before .before .before in
-    let t = w .before .before .before in
-    pick-more (t .before .loop .inv) (S t .pre) (t .loop-test .taken) _ (w .wide .ensures) _ _ (c .before .one .ensures) (c .one2 .ensures)
+    let t = c .before .before .before .before in
+    pick-more (t .before .loop .inv) (S t .pre) (t .loop-test .taken) _ _ (c .before .one .ensures) (c .one2 .ensures)
+
+sub-ones : tie.Need-sub-ones Inv-loop μ-loop
+sub-ones c = search needs
+
+cast-ones : tie.Need-cast-ones Inv-loop μ-loop
+cast-ones c = search needs
 
 same-length : tie.Need-same-length Inv-loop μ-loop
 same-length c = search needs
@@ -117,18 +94,15 @@ gather-sizes-spec =
     shared-slice-read-size
     mul-list
     slice-write-list
-    mul-wide
-    shared-slice-read-wide
-    wide-requires
     shared-slice-read-own
-    cast-ones
-    add-ones
     one-requires
-    add-len
+    add-all
     one-requires-2
-    add-next
-    add-i
+    add-len
+    add-r
     loop-less
     loop-again
+    sub-ones
+    cast-ones
     same-length
     returns)

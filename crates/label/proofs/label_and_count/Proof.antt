@@ -4,7 +4,7 @@ use native.Mathlib.Omega.{arith}
 use lib.ListN.{length, take}
 use lib.Seq.{length-take-le, take-at}
 use borrow.Author.Needs.{needs}
-use Rattle.laws.specs.Numbering.{ranked}
+use Rattle.laws.specs.Numbering.{ranked, found-firsts}
 use Rattle.label.proofs.label_and_count.Statement.{statement}
 use Rattle.label.proofs.label_and_count.Tie as tie
 
@@ -41,6 +41,7 @@ count-requires c κs =
     rw (take-at (l .label .last .1 .1 .1 .1 .1 .0) _ _ (tally-long l)) (record {
       n-high = omega (arith, l .label .ensures .labels .long, s .pre .given .n-high);
       ranked = ranked (l .label .ensures .labels);
+      firsts = rw (l .label .ensures .labels .long) (found-firsts (l .label .ensures .labels));
       sized = l .label .ensures .sized;
       marked = omega (arith, s .pre .marks-long, l .label .ensures .labels .long);
       counts-long = omega (arith, l .label .ensures .labels .long, s .pre .counts-long);

@@ -2,7 +2,7 @@
 use borrow.Author.Needs.{needs}
 use native.Mathlib.Omega.{arith}
 use denote.Ref.{now}
-use Rattle.laws.specs.Numbering.{ranked}
+use Rattle.laws.specs.Numbering.{ranked, found-firsts}
 use Rattle.moves.specs.Tested.{sighted}
 use Rattle.moves.specs.Held.{label-leaves}
 use Rattle.moves.proofs.label_task.Statement.{statement}
@@ -69,6 +69,7 @@ count-requires c κs =
       n-high = omega (arith, long, p .tested .n-high);
       sized = l .label .ensures .sized;
       ranked = ranked (l .label .ensures .labels);
+      firsts = rw long (found-firsts (l .label .ensures .labels));
       marked = omega (arith, long, K (H l) .look .ensures .flagged .long);
       counts-long = omega (arith, long, p .lent .counts-long);
       sizes-long = p .lent .sizes-long;
