@@ -1,15 +1,16 @@
 /* A small panel through the C interface: a torus of 4 by 4 sites, four systems at two temperatures, one sweep of each
  * mode in the all-clusters form, a sweep that is refused, and one that grows a cluster in each task. Behind each of the first
  * stand the components that were found in its tasks, and the first task's sites by their numbers. The sweeps keep each
- * system's energy as a total, which is metered before them, handed over, and held to the meter after each. The couplings
- * come from an edge list, in the file that is named behind the program, or else in examples/panel.edges; every choice is
- * drawn from one seed, so that each run is the same. panel.rs is the same program in Rust; both print panel.out. */
+ * system's energy as a total, which is metered before them, handed over, and held to the meter after each. Last, a group of
+ * five is moved by permutations that are lent as numbers, and once more by their rows. The couplings come from an edge list,
+ * in the file that is named behind the program, or else in examples/panel.edges; every choice is drawn from one seed, so that
+ * each run is the same. panel.rs is the same program in Rust; both print panel.out. */
 #include "tsorvenk.h"
 #include <stdio.h>
 #include <stdlib.h>
 #include <string.h>
 
-enum { SIDE = 4, N = SIDE * SIDE, D = 2, S = 4, T = 2, R = 2, MEMBERS = 2, TASKS = T * (R / MEMBERS) };
+enum { FIVE = 5, SIDE = 4, N = SIDE * SIDE, D = 2, S = 4, T = 2, R = 2, MEMBERS = 2, TASKS = T * (R / MEMBERS) };
 
 static const char *const NAMES[] = {"houd", "pair", "perm", "gperm", "jorg", "cmr"};
 static const float TEMPERATURES[T] = {1.0f, 2.5f};
@@ -231,6 +232,38 @@ static void print_sweep(uint8_t mode, uint8_t code, const struct outputs *o) {
         print_numbers("grey found", o->grey_found, o->grey_labels);
 }
 
+static uint8_t permute(uint8_t coding, const uint8_t *perms, size_t perms_len, int8_t *spins, struct outputs *o) {
+    static const uint32_t group[FIVE] = {0, 1, 2, 3, 4};
+    struct tsorvenk_step_args args = {
+        .mode = TSORVENK_PERM, .form = TSORVENK_SW, .coding = coding,
+        .n = N, .d = D, .s = FIVE, .spins = spins, .spins_len = FIVE * N,
+        .fwd = fwd, .fwd_len = N * D, .bwd = bwd, .bwd_len = N * D, .group = group, .group_len = FIVE,
+        .perms = perms, .perms_len = perms_len,
+        .labels = o->labels, .labels_len = N, .counts = o->counts, .counts_len = N + 1,
+        .sizes = o->sizes, .sizes_len = 4, .found = o->found, .found_len = 1,
+    };
+    return tsorvenk_step_with(&args);
+}
+
+/* five systems are moved by numbers, a byte for each choice, and once more by the rows of these, five bytes each */
+static void move_five(struct outputs *o) {
+    uint8_t coins[FIVE * N], numbers[N], rows[FIVE * N], number = 0;
+    int8_t spins[FIVE * N], again[FIVE * N];
+    drawn(tsorvenk_fill_flips(source, 4, coins, FIVE * N));
+    drawn(tsorvenk_fill_numbers(source, 4, numbers, N));
+    for (int k = 0; k < N; k++)
+        tsorvenk_row_of(numbers[k], rows + k * FIVE, FIVE);
+    for (int k = 0; k < FIVE * N; k++)
+        spins[k] = again[k] = coins[k] ? 1 : -1;
+    if (permute(TSORVENK_BY_NUMBERS, numbers, N, spins, o) || permute(TSORVENK_BY_ROWS, rows, FIVE * N, again, o)) {
+        fprintf(stderr, "a move of five is refused\n");
+        exit(1);
+    }
+    printf("five by %d numbers, and by their rows: %s spins\n", N, memcmp(spins, again, sizeof spins) ? "other" : "the same");
+    tsorvenk_number_of(rows, FIVE, &number, 1);
+    printf("  the first row is %u %u %u %u %u, and its number %u\n", rows[0], rows[1], rows[2], rows[3], rows[4], number);
+}
+
 int main(int argc, char **argv) {
     struct outputs o, before;
     struct choices c;
@@ -253,5 +286,6 @@ int main(int argc, char **argv) {
     make_choices(&c);
     print_grown(grow(&c, member_sites, &o), member_sites, &o);
     print_totals(&o);
+    move_five(&o);
     return 0;
 }

@@ -15,8 +15,9 @@
  *
  * Refusals, tested in this order. A refusal returns its number, and every buffer keeps its bytes:
  *
- *   1  n not 1 to 4096, d not 1 to 4, s not 1 to 64, group size not 2 to 8, or not 2 in CMR; a mode above 5, a form
- *      above 3, keeps above 1; in a sweep t * r not s, or members above r
+ *   1  n not 1 to 4096, d not 1 to 4, s not 1 to 64, group size not 2 to 8, or not 2 in CMR, or not 5 where permutations
+ *      are numbers; a mode above 5, a form above 3, a coding above 1, keeps above 1; in a sweep t * r not s, or members
+ *      above r
  *   2  a buffer's length is not the exact one
  *   3  a spin of any system is not +1 or -1
  *   4  a neighbour is n or more, or fwd and bwd are not inverse
@@ -24,7 +25,7 @@
  *   6  a coupling's size is above 1,000,000
  *   7  a temperature is not from 1/1024 to 1,048,576, or not a number
  *   8  a cut is below 0, infinite or not a number
- *   9  a permutation, flip, grey number, reference site or mask byte is out of its set
+ *   9  a permutation or its number, a flip, grey number, reference site or mask byte is out of its set
  *  10  a seed is n or more; or, outside CMR, some site acts and the seed does not
  *  12  of the draws alone: the four words of a source are all 0, m is not 1 to 4096 (for bytes not 1 to 256), the members
  *      are not 2 to 8, or 64 words in a row are taken again
@@ -42,6 +43,13 @@
  *
  * Grow moves what Wolff moves, given the same seed, cuts and choices, and answers and refuses alike. It looks only at what the
  * seed's component reaches, and writes the sites of that component in place of labels, counts and sizes.
+ *
+ * Coding: 0 rows, 1 numbers: how perms spells permutations, where the mode and form take them. A row is N bytes. A number is
+ * one byte, of a group of five: the place, 0 to 119, of its row among the 120 permutations of 0 to 4 in ascending order as
+ * words, so that 0 is 0 1 2 3 4 and 119 is 4 3 2 1 0. A call by numbers is the call by their rows, refusals too: a number
+ * above 119 is 9, and so is 0, the identity, in Wolff and grow; a group of another size is 1. tsorvenk_row_of and
+ * tsorvenk_number_of lead from one to the other. Where no permutations are taken the coding is ignored; it is 0 or 1 there
+ * too.
  *
  * Keeps: 0 nothing, 1 totals. A call that keeps totals is lent each system's energy beside the spins and brings these totals
  * current. It takes couplings in every mode. It does not meter: a total changes by what the move changed, so that totals
@@ -61,6 +69,7 @@ extern "C" {
 
 enum { TSORVENK_HOUD, TSORVENK_PAIR, TSORVENK_PERM, TSORVENK_GPERM, TSORVENK_JORG, TSORVENK_CMR };
 enum { TSORVENK_SW, TSORVENK_WOLFF, TSORVENK_OBSERVE, TSORVENK_GROW };
+enum { TSORVENK_BY_ROWS, TSORVENK_BY_NUMBERS };
 enum { TSORVENK_KEEPS_NOTHING, TSORVENK_KEEPS_TOTALS };
 
 /* Numbers that are no refusals: of a step with no acting site, and of frames for whose answer there is no room. */
@@ -81,12 +90,13 @@ enum { TSORVENK_IDLE = 64, TSORVENK_NO_ROOM = 65 };
  *   flips        n, each 0 or 1                                    SW of houd, pair, Joerg, CMR
  *   perms        SW: n rows of N, Wolff and grow: one row of N that is not the identity; each row a permutation of 0 to
  *                N - 1: replica k gets the old spin of replica p(k)
+ *                by numbers SW: n, each 0 to 119; Wolff and grow: one, 1 to 119
  *                                                                  SW, Wolff, grow of perm, gperm
  *   greys        SW: n, each 0 to 3; Wolff and grow: one, 1 to 3; bit 0 flips the first replica, bit 1 the second
  *                                                                  SW, Wolff, grow of CMR
  *
- * In SW a component's choice is the entry, of perms the row, at its number (CMR: flips at the blue number, greys at the grey
- * one). Entries that no component uses are tested too.
+ * In SW a component's choice is the entry, of perms the row or the number that stands for it, at the component's number (CMR:
+ * flips at the blue number, greys at the grey one). Entries that no component uses are tested too.
  * Written, unless refused:
  *
  *   labels       n: the number of each site's component (CMR: of its blue one). Components are numbered 0, 1, 2 .. in the order
@@ -108,7 +118,7 @@ enum { TSORVENK_IDLE = 64, TSORVENK_NO_ROOM = 65 };
  *                energy before; those of others stay                SW, Wolff, grow where keeps is 1
  *
  * Returns 0 if some site acts (CMR: always), TSORVENK_IDLE if none does, else the refusal 1 to 10 or 14. */
-uint8_t tsorvenk_step(uint8_t mode, uint8_t form, uint8_t keeps, size_t n, size_t d, size_t s,
+uint8_t tsorvenk_step(uint8_t mode, uint8_t form, uint8_t coding, uint8_t keeps, size_t n, size_t d, size_t s,
     int8_t *spins, size_t spins_len, int64_t *totals, size_t totals_len,
     const uint32_t *fwd, size_t fwd_len, const uint32_t *bwd, size_t bwd_len,
     const int32_t *couplings, size_t couplings_len, const uint32_t *group, size_t group_len,
@@ -134,6 +144,7 @@ uint8_t tsorvenk_step(uint8_t mode, uint8_t form, uint8_t keeps, size_t n, size_
  *   seeds         K                                                Wolff, grow
  *   flips         K * n                                            SW of houd, pair, Joerg, CMR
  *   perms         SW: K * n * N, Wolff and grow: K * N             SW, Wolff, grow of perm, gperm
+ *                 by numbers SW: K * n, Wolff and grow: K
  *   greys         SW: K * n, Wolff and grow: K                     SW, Wolff, grow of CMR
  *
  * Written, unless refused:
@@ -153,7 +164,7 @@ uint8_t tsorvenk_step(uint8_t mode, uint8_t form, uint8_t keeps, size_t n, size_
  * unmasked task in ascending order, and 14 after all of these; all before anything is written.
  *
  * Returns 0 if swept, else the refusal 1 to 10 or 14. */
-uint8_t tsorvenk_sweep(uint8_t mode, uint8_t form, uint8_t keeps, size_t n, size_t d, size_t s,
+uint8_t tsorvenk_sweep(uint8_t mode, uint8_t form, uint8_t coding, uint8_t keeps, size_t n, size_t d, size_t s,
     size_t t, size_t r, size_t members, int8_t *spins, size_t spins_len, int64_t *totals, size_t totals_len,
     const uint32_t *fwd, size_t fwd_len, const uint32_t *bwd, size_t bwd_len,
     const int32_t *couplings, size_t couplings_len, const uint32_t *order, size_t order_len,
@@ -188,6 +199,21 @@ uint8_t tsorvenk_hand_over(size_t n, size_t d, size_t s,
     const int8_t *spins, size_t spins_len, const int64_t *totals, size_t totals_len,
     const uint32_t *fwd, size_t fwd_len, const uint32_t *bwd, size_t bwd_len,
     const int32_t *couplings, size_t couplings_len);
+
+/* The row of a permutation of five, of its number 0 to 119: see the coding above.
+ *
+ *   row          5: written unless refused
+ *
+ * Returns 0, or the refusal 2 (row_len is not 5) or 9 (a number above 119), in this order. */
+uint8_t tsorvenk_row_of(uint8_t number, uint8_t *row, size_t row_len);
+
+/* The number of a row: the one of which tsorvenk_row_of writes it.
+ *
+ *   row          5
+ *   number       1: written unless refused
+ *
+ * Returns 0, or the refusal 2 (row_len is not 5, or number_len not 1) or 9 (no permutation of 0 to 4), in this order. */
+uint8_t tsorvenk_number_of(const uint8_t *row, size_t row_len, uint8_t *number, size_t number_len);
 
 /* The components of the bonds whose byte in holds is 1.
  *
@@ -249,7 +275,11 @@ uint8_t tsorvenk_frames(const uint8_t *text, size_t text_len, uint8_t *out, size
  *   tsorvenk_wolff_permutation   rows, as above: a permutation each that is not the identity. A permutation that is is
  *                                drawn again as a whole, and the 64th in a row is refused
  *   tsorvenk_wolff_grey          greys, any length: 1 to 3 each, 1 more than a number below 3
+ *   tsorvenk_fill_numbers        perms, any length: a number below 120 each, of a permutation of five
+ *   tsorvenk_wolff_numbers       perms, any length: 1 to 119 each, 1 more than a number below 119
  *
+ * The last two are for calls by numbers: a number is drawn by one word, where a row of five is drawn by four, so that from the
+ * same source a fill of numbers is not that of rows.
  * A fill leaves what its draws one by one would leave, from the first entry to the last, and the same source.
  *
  * Each returns 0 or a refusal, tested in this order: 2 if source_len is not 4; 12 if the source's words are all 0, m or
@@ -265,6 +295,8 @@ uint8_t tsorvenk_fill_bytes_below(uint32_t m, uint64_t *source, size_t source_le
 uint8_t tsorvenk_fill_permutations(size_t members, uint64_t *source, size_t source_len, uint8_t *rows, size_t rows_len);
 uint8_t tsorvenk_wolff_permutation(size_t members, uint64_t *source, size_t source_len, uint8_t *rows, size_t rows_len);
 uint8_t tsorvenk_wolff_grey(uint64_t *source, size_t source_len, uint8_t *greys, size_t greys_len);
+uint8_t tsorvenk_fill_numbers(uint64_t *source, size_t source_len, uint8_t *perms, size_t perms_len);
+uint8_t tsorvenk_wolff_numbers(uint64_t *source, size_t source_len, uint8_t *perms, size_t perms_len);
 
 /* The couplings from an edge list, and back. docs/EDGES.md has the form, an example and what becomes of double bonds.
  *
@@ -312,7 +344,7 @@ enum { TSORVENK_EDGES_ROOM = 302451 };
  * initialised by name, or to 0 and then field by field, needs no change where a field is added. The functions are inline:
  * the struct is no part of what is linked. */
 struct tsorvenk_step_args {
-    uint8_t mode, form, keeps;
+    uint8_t mode, form, coding, keeps;
     size_t n, d, s;
     int8_t *spins;
     size_t spins_len;
@@ -353,7 +385,7 @@ struct tsorvenk_step_args {
 };
 
 struct tsorvenk_sweep_args {
-    uint8_t mode, form, keeps;
+    uint8_t mode, form, coding, keeps;
     size_t n, d, s, t, r, members;
     int8_t *spins;
     size_t spins_len;
@@ -471,6 +503,8 @@ struct tsorvenk_draw_args {
     size_t rows_len;
     uint8_t *greys;
     size_t greys_len;
+    uint8_t *perms;
+    size_t perms_len;
 };
 
 struct tsorvenk_read_edges_args {
@@ -510,8 +544,8 @@ static inline uint8_t tsorvenk_step_with(const struct tsorvenk_step_args *args) 
     uint32_t no_u32 = 0;
     int64_t no_i64 = 0;
     float no_f32 = 0;
-    return tsorvenk_step(args->mode, args->form, args->keeps, args->n, args->d, args->s, TSORVENK_LENT(spins, no_i8),
-        TSORVENK_LENT(totals, no_i64), TSORVENK_LENT(fwd, no_u32), TSORVENK_LENT(bwd, no_u32),
+    return tsorvenk_step(args->mode, args->form, args->coding, args->keeps, args->n, args->d, args->s,
+        TSORVENK_LENT(spins, no_i8), TSORVENK_LENT(totals, no_i64), TSORVENK_LENT(fwd, no_u32), TSORVENK_LENT(bwd, no_u32),
         TSORVENK_LENT(couplings, no_i32), TSORVENK_LENT(group, no_u32), args->temperature, TSORVENK_LENT(cuts, no_f32),
         args->reference, args->seed, TSORVENK_LENT(flips, no_u8), TSORVENK_LENT(perms, no_u8), TSORVENK_LENT(greys, no_u8),
         TSORVENK_LENT(labels, no_u32), TSORVENK_LENT(grey_labels, no_u32), TSORVENK_LENT(counts, no_u32),
@@ -526,8 +560,9 @@ static inline uint8_t tsorvenk_sweep_with(const struct tsorvenk_sweep_args *args
     uint32_t no_u32 = 0;
     int64_t no_i64 = 0;
     float no_f32 = 0;
-    return tsorvenk_sweep(args->mode, args->form, args->keeps, args->n, args->d, args->s, args->t, args->r, args->members,
-        TSORVENK_LENT(spins, no_i8), TSORVENK_LENT(totals, no_i64), TSORVENK_LENT(fwd, no_u32), TSORVENK_LENT(bwd, no_u32),
+    return tsorvenk_sweep(args->mode, args->form, args->coding, args->keeps, args->n, args->d, args->s,
+        args->t, args->r, args->members, TSORVENK_LENT(spins, no_i8),
+        TSORVENK_LENT(totals, no_i64), TSORVENK_LENT(fwd, no_u32), TSORVENK_LENT(bwd, no_u32),
         TSORVENK_LENT(couplings, no_i32), TSORVENK_LENT(order, no_u32), TSORVENK_LENT(masks, no_u8),
         TSORVENK_LENT(temperatures, no_f32), TSORVENK_LENT(cuts, no_f32), TSORVENK_LENT(references, no_u32),
         TSORVENK_LENT(seeds, no_u32), TSORVENK_LENT(flips, no_u8), TSORVENK_LENT(perms, no_u8),
@@ -621,6 +656,18 @@ static inline uint8_t tsorvenk_wolff_grey_with(const struct tsorvenk_draw_args *
     return tsorvenk_wolff_grey(TSORVENK_LENT(source, no_u64), TSORVENK_LENT(greys, no_u8));
 }
 
+static inline uint8_t tsorvenk_fill_numbers_with(const struct tsorvenk_draw_args *args) {
+    uint64_t no_u64 = 0;
+    uint8_t no_u8 = 0;
+    return tsorvenk_fill_numbers(TSORVENK_LENT(source, no_u64), TSORVENK_LENT(perms, no_u8));
+}
+
+static inline uint8_t tsorvenk_wolff_numbers_with(const struct tsorvenk_draw_args *args) {
+    uint64_t no_u64 = 0;
+    uint8_t no_u8 = 0;
+    return tsorvenk_wolff_numbers(TSORVENK_LENT(source, no_u64), TSORVENK_LENT(perms, no_u8));
+}
+
 static inline uint8_t tsorvenk_read_edges_with(const struct tsorvenk_read_edges_args *args) {
     uint8_t no_u8 = 0;
     int32_t no_i32 = 0;
@@ -644,7 +691,7 @@ static inline uint8_t tsorvenk_write_edges_with(const struct tsorvenk_write_edge
 static inline const char *tsorvenk_refusal_words(int number) {
     switch (number) {
     case 0: return "not refused";
-    case 1: return "a size, a group's size, the mode, the form or what is kept is out of its range";
+    case 1: return "a size, a group's size, the mode, the form, the coding or what is kept is out of its range";
     case 2: return "a buffer's length is not the exact one";
     case 3: return "a spin is not +1 or -1";
     case 4: return "a neighbour is n or more, or the forward and backward tables are not inverse";
@@ -652,7 +699,9 @@ static inline const char *tsorvenk_refusal_words(int number) {
     case 6: return "a coupling's size is above 1,000,000";
     case 7: return "a temperature is not from 1/1024 to 1,048,576";
     case 8: return "a cut is below 0, infinite or not a number";
-    case 9: return "a permutation, flip, grey number, reference site, mask byte, or byte of holds or counted is out of its set";
+    case 9:
+        return "a permutation or its number, flip, grey number, reference site, mask byte, or byte of holds or counted is out of "
+               "its set";
     case 10: return "a seed is n or more, or does not act although some site does";
     case 11: return "a frame is missing, misplaced, misspelt or of the wrong length, or there is one too many";
     case 12: return "a source of draws is all 0, m or the members are out of range, or 64 words in a row were taken again";

@@ -1,6 +1,8 @@
 //! Calls with buffers of their own.
 use crate::model::Lengths;
-use calls::{Answer, Form, HandOver, Keeps, Label, Meter, Mode, Port, Step, Sweep, SweepAnswer};
+use calls::{
+    Answer, Coding, Form, HandOver, Keeps, Label, Meter, Mode, Port, Step, Sweep, SweepAnswer,
+};
 
 /// The buffers that a call may write.
 #[derive(Clone, Debug, Default, PartialEq, Eq)]
@@ -39,6 +41,7 @@ impl Lent {
 pub struct Panel {
     pub mode: Mode,
     pub form: Form,
+    pub coding: Coding,
     pub keeps: Keeps,
     pub n: usize,
     pub d: usize,
@@ -52,6 +55,11 @@ impl Panel {
     /// Whether a call on it takes totals.
     pub fn keeping(&self) -> bool {
         self.keeps.totals(self.form)
+    }
+
+    /// Whether a call on it takes numbers for permutations.
+    pub fn numbers(&self) -> bool {
+        self.coding.numbers(self.mode, self.form)
     }
 
     pub fn meter<'a>(&'a self, spins: &'a [i8], system: usize) -> Meter<'a> {
@@ -150,6 +158,7 @@ macro_rules! call_of {
         $call {
             mode: $case.panel.mode,
             form: $case.panel.form,
+            coding: $case.panel.coding,
             keeps: $case.panel.keeps,
             n: $case.panel.n,
             d: $case.panel.d,

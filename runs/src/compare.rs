@@ -8,6 +8,7 @@ use published_patched::Branch;
 use std::fmt::{Debug, Write};
 use std::panic::{catch_unwind, AssertUnwindSafe};
 
+mod coded;
 mod labelling;
 
 pub use labelling::{damaged_labelling, labelling};
@@ -29,6 +30,9 @@ pub struct Line {
     pub damaged: usize,
     /// Damaged calls by the model's refusal number; entry 0 those that are accepted all the same.
     pub refused: [usize; 15],
+    /// Calls by rows of five that are made again by numbers, and calls by numbers whose group is not of five.
+    pub by_number: usize,
+    pub not_of_five: usize,
     /// Calls that keep totals.
     pub kept: usize,
     /// What the model answers to a hand-over of the panel, good or damaged, by number.
@@ -223,6 +227,7 @@ pub fn single(case: &Single, port: Option<&mut Box<dyn Port>>, line: &mut Line) 
             text += &report("single move, model against port", case, &found);
         }
     }
+    text += &coded::single(case, (answer, &lent), port.as_deref_mut(), line);
     if case.panel.form == Form::Grow {
         let found = beside_wolff(port, line, |side| grown::single(case, side));
         if !found.is_empty() {
@@ -313,6 +318,7 @@ pub fn swept(case: &Swept, port: Option<&mut Box<dyn Port>>, line: &mut Line) ->
             text += &report("sweep, model against port", case, &found);
         }
     }
+    text += &coded::swept(case, (answer, &lent), port.as_deref_mut(), line);
     if case.panel.form == Form::Grow {
         let found = beside_wolff(port, line, |side| grown::swept(case, side));
         if !found.is_empty() {
@@ -342,6 +348,7 @@ pub fn damaged_single(
     if let Some(port) = port.as_deref_mut() {
         text += &single_port(case, answer, &lent, port.as_mut());
     }
+    text += &coded::single(case, (answer, &lent), port.as_deref_mut(), line);
     if case.panel.form == Form::Grow {
         text += &beside_wolff(port, line, |side| grown::single(case, side));
     }
@@ -371,6 +378,7 @@ pub fn damaged_sweep(
         differ(&mut text, "answer", answer, port_answer);
         differ_lent(&mut text, &lent, &port_lent);
     }
+    text += &coded::swept(case, (answer, &lent), port.as_deref_mut(), line);
     if case.panel.form == Form::Grow {
         text += &beside_wolff(port, line, |side| grown::swept(case, side));
     }

@@ -2,6 +2,7 @@
 use crate::case::{Bonds, Choices, Lent, Panel, Single, Swept};
 use crate::model::LARGEST;
 use crate::rand::Rand;
+use calls::Coding;
 
 fn longer_or_shorter<T: Copy + Default>(rand: &mut Rand, buffer: &mut Vec<T>) {
     match rand.once_in(2) {
@@ -46,7 +47,7 @@ fn table(rand: &mut Rand, table: &mut [u32], n: usize, d: usize) {
 }
 
 fn panel(rand: &mut Rand, panel: &mut Panel, lent: &mut Lent) {
-    match rand.range(0, 11) {
+    match rand.range(0, 12) {
         0 => size(rand, &mut panel.n, 4096),
         1 => size(rand, &mut panel.d, 4),
         2 => size(rand, &mut panel.s, 64),
@@ -60,6 +61,7 @@ fn panel(rand: &mut Rand, panel: &mut Panel, lent: &mut Lent) {
             &mut panel.couplings,
             &[1_000_001, -1_000_001, i32::MIN, i32::MAX, 1_000_000],
         ),
+        10 => panel.coding = rand.pick(&Coding::ALL),
         _ => set(rand, &mut lent.spins, &[0, 2, -2, 127, -128, 3]),
     }
 }
@@ -88,7 +90,7 @@ fn outputs(rand: &mut Rand, lent: &mut Lent) {
     }
 }
 
-fn choices(rand: &mut Rand, choices: &mut Choices) {
+fn choices(rand: &mut Rand, choices: &mut Choices, numbers: bool) {
     let faulty = [
         f32::NAN,
         f32::INFINITY,
@@ -104,6 +106,7 @@ fn choices(rand: &mut Rand, choices: &mut Choices) {
         3 => longer_or_shorter(rand, &mut choices.greys),
         4 | 5 => set(rand, &mut choices.cuts, &faulty),
         6 | 7 => set(rand, &mut choices.flips, &[2, 255, 128]),
+        8 | 9 if numbers => set(rand, &mut choices.perms, &[0, 119, 120, 128, 255]),
         8 | 9 => set(rand, &mut choices.perms, &[0, 1, 2, 8, 255]),
         _ => set(rand, &mut choices.greys, &[0, 4, 255, 3]),
     }
@@ -136,7 +139,7 @@ pub fn single(rand: &mut Rand, case: &mut Single) {
         match rand.range(0, 9) {
             0..=2 => panel(rand, &mut case.panel, &mut case.lent),
             3 => outputs(rand, &mut case.lent),
-            4 | 5 => choices(rand, &mut case.choices),
+            4 | 5 => choices(rand, &mut case.choices, case.panel.numbers()),
             6 => match rand.range(0, 3) {
                 0 => longer_or_shorter(rand, &mut case.group),
                 1 => case.group = (0..rand.range(0, 10) as u32).collect(),
@@ -184,7 +187,7 @@ pub fn swept(rand: &mut Rand, case: &mut Swept) {
         match rand.range(0, 7) {
             0 | 1 => panel(rand, &mut case.panel, &mut case.lent),
             2 => outputs(rand, &mut case.lent),
-            3 | 4 => choices(rand, &mut case.choices),
+            3 | 4 => choices(rand, &mut case.choices, case.panel.numbers()),
             5 => sweep_sizes(rand, case),
             _ => sweep_lists(rand, case),
         }

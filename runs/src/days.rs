@@ -6,7 +6,7 @@ use crate::damage;
 use crate::make::{self, Size};
 use crate::model::{energies, Model};
 use crate::rand::Rand;
-use calls::{Answer, Form, Keeps, Mode, Port, SweepAnswer};
+use calls::{Answer, Coding, Form, Keeps, Mode, Port, SweepAnswer};
 use std::fmt::Debug;
 
 pub const CALLS: usize = 1000;
@@ -19,6 +19,8 @@ pub struct Tally {
     pub idle: usize,
     pub observed: usize,
     pub swept: usize,
+    /// Calls whose permutations are numbers, refused ones too.
+    pub by_number: usize,
     /// By number.
     pub refused: [usize; 15],
     pub differences: usize,
@@ -37,7 +39,7 @@ fn day(rand: &mut Rand) -> Day {
     let s = rand.pick(&[8, 9, 12, 16]);
     // of a mode that draws, so that it has couplings
     let mut panel = make::panel(rand, Mode::Jorg, Form::Sw, size, s);
-    panel.keeps = Keeps::Totals;
+    (panel.coding, panel.keeps) = (Coding::Rows, Keeps::Totals);
     let spins = make::spins(rand, panel.n, s);
     let right = rand.once_in(2);
     // a small panel's energies leave room for these
@@ -65,12 +67,21 @@ impl Day {
         (panel, members)
     }
 
+    /// Whether a call's permutations, which are rows, become numbers: in half of those of five.
+    fn coded(rand: &Rand, panel: &Panel, members: usize) -> bool {
+        let takes = Coding::Numbers.numbers(panel.mode, panel.form);
+        takes && members == 5 && rand.aside().once_in(2)
+    }
+
     fn single(&self, rand: &mut Rand) -> Single {
         let (panel, members) = self.any(rand);
         let spins = |_: &mut Rand| self.lent.spins.clone();
         let mut case = make::single_on(rand, panel, members, spins);
         case.lent.totals = self.lent.totals.clone();
-        case
+        match Day::coded(rand, &case.panel, members) {
+            true => case.by_number(),
+            false => case,
+        }
     }
 
     fn swept(&self, rand: &mut Rand) -> Swept {
@@ -82,7 +93,10 @@ impl Day {
         let spins = |_: &mut Rand| self.lent.spins.clone();
         let mut case = make::swept_on(rand, panel, members, masks, spins);
         case.lent.totals = self.lent.totals.clone();
-        case
+        match Day::coded(rand, &case.panel, members) {
+            true => case.by_number(),
+            false => case,
+        }
     }
 
     /// Whether a call of this mode leaves the sum over its groups, and so over all systems.
@@ -146,6 +160,7 @@ fn single(
             return text;
         }
     }
+    tally.by_number += usize::from(case.panel.numbers());
     let (answer, lent) = both(&mut text, &case, port, Single::run);
     match answer {
         Answer::Refused(number) => {
@@ -176,6 +191,7 @@ fn swept(
             return text;
         }
     }
+    tally.by_number += usize::from(case.panel.numbers());
     let (answer, lent) = both(&mut text, &case, port, Swept::run);
     match answer {
         SweepAnswer::Refused(number) => {

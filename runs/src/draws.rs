@@ -1,4 +1,5 @@
-//! Request 1/14 in plain Rust, written from its text: xoshiro256**, coins, numbers below m, permutations, and buffers of them.
+//! Request 1/14 in plain Rust, written from its text: xoshiro256**, coins, numbers below m, permutations, and buffers of them; and numbers
+//! of permutations of five for 8/14.
 pub mod backwards;
 pub mod make;
 pub mod port;
@@ -76,6 +77,8 @@ pub enum Draw {
     Rows(usize),
     WolffRows(usize),
     WolffGreys,
+    Orders,
+    WolffOrders,
 }
 
 /// What is lent to be written, in the element that the draw takes.
@@ -145,6 +148,14 @@ impl Draw {
             Draw::WolffGreys => {
                 let grey = |_| number(3).map(|v| v as u8 + 1);
                 Out::Bytes((0..length).map(grey).collect::<Option<_>>()?)
+            }
+            Draw::Orders => {
+                let order = |_| number(120).map(|v| v as u8);
+                Out::Bytes((0..length).map(order).collect::<Option<_>>()?)
+            }
+            Draw::WolffOrders => {
+                let order = |_| number(119).map(|v| v as u8 + 1);
+                Out::Bytes((0..length).map(order).collect::<Option<_>>()?)
             }
             Draw::Permutation(members) | Draw::Rows(members) => {
                 let row = |_| source.permutation(members);

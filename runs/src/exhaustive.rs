@@ -3,7 +3,7 @@ use crate::case::{Choices, Lent, Panel, Single};
 use crate::lattices::backward;
 use crate::make::{UNTOUCHED, UNTOUCHED_BYTE};
 use crate::model::lengths;
-use calls::{Form, Keeps, Mode};
+use calls::{Coding, Form, Keeps, Mode};
 
 /// All orders of 0 to len-1.
 fn orders(len: usize) -> Vec<Vec<u8>> {
@@ -92,6 +92,7 @@ fn case(mode: Mode, form: Form, n: usize, members: usize, number: usize) -> (Sin
         panel: Panel {
             mode,
             form,
+            coding: Coding::Rows,
             keeps: Keeps::Totals,
             n,
             d: 1,

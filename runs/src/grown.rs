@@ -69,7 +69,7 @@ pub fn single(case: &Single, side: &mut dyn Port) -> Option<&'static str> {
 }
 
 impl Swept {
-    fn tasks(&self) -> usize {
+    pub fn tasks(&self) -> usize {
         let groups = self.r.checked_div(self.members).unwrap_or(0);
         self.t.saturating_mul(groups)
     }

@@ -1,5 +1,6 @@
 //! The comparison runs: the model of document 01, the published Rust, and the port.
 pub mod case;
+pub mod coded;
 pub mod compare;
 pub mod damage;
 pub mod days;
@@ -13,5 +14,6 @@ pub mod make;
 pub mod model;
 pub mod port;
 pub mod rand;
+pub mod raw;
 pub mod replay;
 pub mod timing;

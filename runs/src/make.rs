@@ -4,7 +4,7 @@ pub use crate::lattices::Size;
 use crate::lattices::{self, backward};
 use crate::model::{self, lengths, Lengths};
 use crate::rand::Rand;
-use calls::{Form, Keeps, Mode};
+use calls::{Coding, Form, Keeps, Mode};
 
 mod kept;
 
@@ -169,12 +169,21 @@ pub fn members(rand: &mut Rand, mode: Mode) -> usize {
     }
 }
 
+/// Rows where permutations are taken, and else either.
+fn ignored_coding(rand: &Rand, mode: Mode, form: Form) -> Coding {
+    match mode.permutes() && form != Form::Observe {
+        true => Coding::Rows,
+        false => rand.aside().pick(&Coding::ALL),
+    }
+}
+
 pub fn panel(rand: &mut Rand, mode: Mode, form: Form, size: Size, s: usize) -> Panel {
     let lattice = lattices::any(rand, size);
     let (n, d) = (lattice.n, lattice.d);
     Panel {
         mode,
         form,
+        coding: ignored_coding(rand, mode, form),
         keeps: Keeps::Nothing,
         n,
         d,
@@ -199,6 +208,11 @@ fn seed(rand: &mut Rand, active: &[bool]) -> usize {
 
 pub fn single(rand: &mut Rand, mode: Mode, form: Form, size: Size) -> Single {
     let members = members(rand, mode);
+    single_of(rand, mode, form, size, members)
+}
+
+/// A move of a group of this size.
+pub fn single_of(rand: &mut Rand, mode: Mode, form: Form, size: Size, members: usize) -> Single {
     let s = match rand.range(0, 15) {
         0 => 64,
         1..=3 => rand.range(members, 64),
@@ -298,6 +312,11 @@ pub fn spoil_masked(case: &mut Swept) {
 
 pub fn swept(rand: &mut Rand, mode: Mode, form: Form, size: Size) -> Swept {
     let members = members(rand, mode);
+    swept_of(rand, mode, form, size, members)
+}
+
+/// A sweep of groups of this size.
+pub fn swept_of(rand: &mut Rand, mode: Mode, form: Form, size: Size, members: usize) -> Swept {
     let (t, r, masks) = sweep_shape(rand, members, size);
     let panel = panel(rand, mode, form, size, t * r);
     let (n, s) = (panel.n, panel.s);

@@ -1,8 +1,9 @@
 //! Document 01 in plain Rust, written from its text and not from overlap.rs: every sentence once, no speed. Counts and sizes are those of
-//! request 4/14, the form that grows is that of request 5/14, the totals are those of 6/14, and the components are numbered as in 7/14.
+//! request 4/14, the form that grows is that of request 5/14, the totals are those of 6/14, the components are numbered as in 7/14, and
+//! permutations may be numbers as in 8/14.
 use crate::case;
 use calls::{Answer, HandOver, Label, Meter, MeterAnswer, Port, Step, Sweep, SweepAnswer};
-use calls::{Form, Mode};
+use calls::{Coding, Form, Mode};
 
 /// What a call of any kind lends of the panel.
 macro_rules! panel_of {
@@ -23,6 +24,7 @@ mod bonds;
 mod components;
 mod grow;
 mod moves;
+mod orders;
 mod refusals;
 mod sweeps;
 mod totals;
@@ -31,6 +33,7 @@ use bonds::acts;
 use components::Components;
 use grow::{grown, Grown};
 use moves::{outcome, Outcome};
+pub use orders::{number_of, orders, row_of};
 use refusals::*;
 pub use refusals::{lengths, Lengths};
 use sweeps::{sweep_refusal, sweep_task, unmasked};
@@ -54,6 +57,7 @@ struct Panel<'a> {
 struct Task<'a> {
     mode: Mode,
     form: Form,
+    coding: Coding,
     group: Vec<usize>,
     temperature: f32,
     cuts: &'a [f32],
@@ -104,6 +108,7 @@ fn single_task<'a>(call: &'a Step) -> Task<'a> {
     Task {
         mode: call.mode,
         form: call.form,
+        coding: call.coding,
         group: systems(call.group),
         temperature: call.temperature,
         cuts: call.cuts,
@@ -116,7 +121,9 @@ fn single_task<'a>(call: &'a Step) -> Task<'a> {
 }
 
 fn single_length_refused(call: &Step) -> bool {
-    let exact = lengths(call.mode, call.form, call.n, call.d, call.group.len(), 1);
+    let members = call.group.len();
+    let exact =
+        lengths(call.mode, call.form, call.n, call.d, members, 1).spelt(call.coding, members);
     panel_length_refused(panel_of!(call))
         || differs(exact.couplings, call.couplings.len())
         || differs(exact.cuts, call.cuts.len())
@@ -135,7 +142,11 @@ fn single_length_refused(call: &Step) -> bool {
 fn single_refusal(call: &Step) -> Option<u8> {
     let (draws, keeping) = (call.mode.draws(), call.keeps.totals(call.form));
     let panel = panel_of!(call);
-    if sizes_refused(call.n, call.d, call.s) || members_refused(call.mode, call.group.len()) {
+    let members = call.group.len();
+    if sizes_refused(call.n, call.d, call.s)
+        || members_refused(call.mode, members)
+        || coding_refused(call.coding.numbers(call.mode, call.form), members)
+    {
         return Some(1);
     }
     if single_length_refused(call) || totals_length_refused(keeping, panel, call.totals) {

@@ -12,7 +12,7 @@ pub fn linked() -> Option<Box<dyn Port>> {
 /// The calls of the runs as those of the crate `tsorvenk`, and its answers as those of the runs.
 #[cfg(port)]
 mod linked {
-    use calls::{Answer, Form, HandOver, Keeps, Label, Meter, MeterAnswer, Mode, Port};
+    use calls::{Answer, Coding, Form, HandOver, Keeps, Label, Meter, MeterAnswer, Mode, Port};
     use calls::{Step, Sweep, SweepAnswer};
 
     pub struct Linked;
@@ -37,6 +37,13 @@ mod linked {
         }
     }
 
+    fn coding(coding: Coding) -> tsorvenk::Coding {
+        match coding {
+            Coding::Rows => tsorvenk::Coding::Rows,
+            Coding::Numbers => tsorvenk::Coding::Numbers,
+        }
+    }
+
     fn keeps(keeps: Keeps) -> tsorvenk::Keeps {
         match keeps {
             Keeps::Nothing => tsorvenk::Keeps::Nothing,
@@ -50,6 +57,7 @@ mod linked {
             tsorvenk::$call {
                 mode: mode($from.mode),
                 form: form($from.form),
+                coding: coding($from.coding),
                 keeps: keeps($from.keeps),
                 n: $from.n,
                 d: $from.d,

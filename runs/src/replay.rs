@@ -46,7 +46,7 @@
 //! call and compare all of them after it. n, S and N are at most 8, n*D at most 12, D, K and t at most 4.
 use crate::case::{Choices, Lent, Panel, Single, Swept};
 use crate::model::lengths;
-use calls::{Form, Keeps, Mode};
+use calls::{Coding, Form, Keeps, Mode};
 use std::fmt::Write;
 
 /// What an output that must be left alone holds.
@@ -255,6 +255,7 @@ impl<'a> Reader<'a> {
         let panel = Panel {
             mode,
             form,
+            coding: Coding::Rows,
             keeps: Keeps::Nothing,
             n,
             d,

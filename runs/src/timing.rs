@@ -3,7 +3,7 @@ use crate::case::{Choices, Lent, Panel, Single, Swept};
 use crate::lattices::backward;
 use crate::model::{self, lengths};
 use crate::rand::Rand;
-use calls::{Form, Keeps, Mode};
+use calls::{Coding, Form, Keeps, Mode};
 use std::time::Instant;
 
 pub mod pieces;
@@ -76,6 +76,7 @@ pub fn panel_of(rand: &mut Rand, mode: Mode, form: Form, n: usize, d: usize, s: 
     Panel {
         mode,
         form,
+        coding: Coding::Rows,
         keeps: Keeps::Nothing,
         n,
         d,

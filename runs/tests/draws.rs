@@ -90,6 +90,21 @@ fn places_are_exchanged_from_the_last_one_down() {
 }
 
 #[test]
+fn a_permutation_by_number_is_one_word() {
+    // 2^32 is 16 more than a multiple of 120, and 18 more than one of 119
+    let limit = (1 << 32) - 16;
+    let source = giving([high(limit - 1), high(limit), high(120), high(59)]);
+    assert_eq!(drawn(Draw::Orders, source, 3), Out::Bytes(vec![119, 0, 59]));
+    let limit = (1 << 32) - 18;
+    let source = giving([high(limit - 1), high(limit), high(119), high(59)]);
+    let numbers = drawn(Draw::WolffOrders, source, 3);
+    assert_eq!(numbers, Out::Bytes(vec![119, 1, 60]));
+    // the same words are one row of five
+    let row = drawn(Draw::Rows(5), source, 5);
+    assert_ne!(row, drawn(Draw::Orders, source, 5));
+}
+
+#[test]
 fn an_identity_is_drawn_again_as_a_whole() {
     // of 0 1 2: place 2 with 2 and 1 with 1 is the identity; then place 2 with 2 and 1 with 0
     let source = giving([high(2), high(1), high(2), high(0)]);
@@ -106,11 +121,15 @@ fn the_first_fault_in_order_refuses() {
     for source in [&[][..], &[0; 3], &[0; 5]] {
         refused(2, Draw::Below(0), source, 0);
         refused(2, Draw::Rows(1), source, 3);
+        refused(2, Draw::Orders, source, 3);
+        refused(2, Draw::WolffOrders, source, 3);
     }
     // then 12, before the length of the buffer
     refused(12, Draw::Word, &zero, 0);
     refused(12, Draw::Flips, &zero, 0);
     refused(12, Draw::WolffGreys, &zero, 4);
+    refused(12, Draw::Orders, &zero, 4);
+    refused(12, Draw::WolffOrders, &zero, 0);
     for m in [0, 4097] {
         refused(12, Draw::Below(m), &good, 0);
         refused(12, Draw::Numbers(m), &good, 4);

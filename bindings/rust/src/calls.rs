@@ -60,6 +60,23 @@ impl Form {
     }
 }
 
+/// How `perms` spells permutations, where the mode and form take them.
+#[derive(Clone, Copy, Debug, Default, PartialEq, Eq, Hash)]
+pub enum Coding {
+    /// A permutation is its row of N bytes.
+    #[default]
+    Rows = 0,
+    /// A permutation of five is one byte: the place, 0 to 119, of its row among all 120 in ascending order as words, so that
+    /// 0 is 0 1 2 3 4 and 119 is 4 3 2 1 0. A call by numbers is the call by their rows; a group of another size is refused
+    /// with 1. [`row_of`](crate::row_of) and [`number_of`](crate::number_of) lead from one to the other.
+    Numbers = 1,
+}
+
+impl Coding {
+    /// Both.
+    pub const ALL: [Coding; 2] = [Coding::Rows, Coding::Numbers];
+}
+
 /// What a call keeps beside the spins.
 #[derive(Clone, Copy, Debug, Default, PartialEq, Eq, Hash)]
 pub enum Keeps {
@@ -79,14 +96,16 @@ impl Keeps {
 /// One move or observation of one group, of N = `group.len()` systems.
 ///
 /// Behind each field stands its exact length, and which modes and forms take it if not all do. In SW a component's choice is
-/// the entry, of `perms` the row, at its number (CMR: `flips` at the blue number, `greys` at the grey one), and entries that no
-/// component uses are tested too.
+/// the entry, of `perms` the row or the number that stands for it, at the component's number (CMR: `flips` at the blue number,
+/// `greys` at the grey one), and entries that no component uses are tested too.
 #[derive(Debug, Default)]
 pub struct Step<'a> {
     /// Houd if left out.
     pub mode: Mode,
     /// SW if left out.
     pub form: Form,
+    /// Rows if left out.
+    pub coding: Coding,
     /// Nothing if left out.
     pub keeps: Keeps,
     /// Sites, 1 to 4096.
@@ -120,7 +139,8 @@ pub struct Step<'a> {
     /// n, each 0 or 1. SW of houd, pair, Jörg, CMR.
     pub flips: &'a [u8],
     /// SW: n rows of N; Wolff and grow: one row of N that is not the identity. Each row is a permutation of 0 to N - 1:
-    /// replica k gets the old spin of replica p(k). SW, Wolff and grow of perm, gperm.
+    /// replica k gets the old spin of replica p(k). By numbers SW: n, each 0 to 119; Wolff and grow: one, 1 to 119. SW, Wolff
+    /// and grow of perm, gperm.
     pub perms: &'a [u8],
     /// SW: n, each 0 to 3; Wolff and grow: one, 1 to 3. Bit 0 flips the first replica, bit 1 the second. SW, Wolff and grow
     /// of CMR.
@@ -156,6 +176,8 @@ pub struct Sweep<'a> {
     pub mode: Mode,
     /// SW if left out.
     pub form: Form,
+    /// Rows if left out.
+    pub coding: Coding,
     /// Nothing if left out.
     pub keeps: Keeps,
     /// Sites, 1 to 4096.
@@ -194,7 +216,7 @@ pub struct Sweep<'a> {
     pub seeds: &'a [u32],
     /// K * n. SW of houd, pair, Jörg, CMR.
     pub flips: &'a [u8],
-    /// SW: K * n * N; Wolff and grow: K * N. SW, Wolff and grow of perm, gperm.
+    /// SW: K * n * N; Wolff and grow: K * N. By numbers SW: K * n; Wolff and grow: K. SW, Wolff and grow of perm, gperm.
     pub perms: &'a [u8],
     /// SW: K * n; Wolff and grow: K. SW, Wolff and grow of CMR.
     pub greys: &'a [u8],

@@ -141,6 +141,25 @@ impl Source {
         told(number, ())
     }
 
+    /// The number of a permutation of five into each byte, a number below 120: permutations of SW by
+    /// [numbers](crate::Coding::Numbers). It is one word each, and not the draw of a row.
+    #[inline]
+    pub fn fill_numbers(&mut self, perms: &mut [u8]) -> Result<(), Refusal> {
+        let number = unsafe {
+            tsorvenk_fill_numbers(self.words.as_mut_ptr(), self.words.len(), perms.as_mut_ptr(), perms.len())
+        };
+        told(number, ())
+    }
+
+    /// 1 to 119 into each byte, 1 more than a number below 119: permutations of Wolff by numbers.
+    #[inline]
+    pub fn wolff_numbers(&mut self, perms: &mut [u8]) -> Result<(), Refusal> {
+        let number = unsafe {
+            tsorvenk_wolff_numbers(self.words.as_mut_ptr(), self.words.len(), perms.as_mut_ptr(), perms.len())
+        };
+        told(number, ())
+    }
+
     /// 1 to 3 into each byte, 1 more than a number below 3: grey numbers of Wolff.
     #[inline]
     pub fn wolff_grey(&mut self, greys: &mut [u8]) -> Result<(), Refusal> {

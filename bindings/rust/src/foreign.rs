@@ -2,7 +2,7 @@
 #[rustfmt::skip]
 extern "C" {
     pub fn tsorvenk_step(
-        mode: u8, form: u8, keeps: u8, n: usize, d: usize, s: usize,
+        mode: u8, form: u8, coding: u8, keeps: u8, n: usize, d: usize, s: usize,
         spins: *mut i8, spins_len: usize, totals: *mut i64, totals_len: usize,
         fwd: *const u32, fwd_len: usize, bwd: *const u32, bwd_len: usize,
         couplings: *const i32, couplings_len: usize, group: *const u32, group_len: usize,
@@ -14,7 +14,7 @@ extern "C" {
         found: *mut u32, found_len: usize, grey_found: *mut u32, grey_found_len: usize,
     ) -> u8;
     pub fn tsorvenk_sweep(
-        mode: u8, form: u8, keeps: u8, n: usize, d: usize, s: usize, t: usize, r: usize, members: usize,
+        mode: u8, form: u8, coding: u8, keeps: u8, n: usize, d: usize, s: usize, t: usize, r: usize, members: usize,
         spins: *mut i8, spins_len: usize, totals: *mut i64, totals_len: usize,
         fwd: *const u32, fwd_len: usize, bwd: *const u32, bwd_len: usize,
         couplings: *const i32, couplings_len: usize, order: *const u32, order_len: usize,
@@ -38,6 +38,8 @@ extern "C" {
         spins: *const i8, spins_len: usize, totals: *const i64, totals_len: usize,
         fwd: *const u32, fwd_len: usize, bwd: *const u32, bwd_len: usize, couplings: *const i32, couplings_len: usize,
     ) -> u8;
+    pub fn tsorvenk_row_of(number: u8, row: *mut u8, row_len: usize) -> u8;
+    pub fn tsorvenk_number_of(row: *const u8, row_len: usize, number: *mut u8, number_len: usize) -> u8;
     pub fn tsorvenk_label(
         n: usize, d: usize, fwd: *const u32, fwd_len: usize, holds: *const u8, holds_len: usize,
         counted: *const u8, counted_len: usize,
@@ -76,6 +78,12 @@ extern "C" {
     ) -> u8;
     pub fn tsorvenk_wolff_grey(
         source: *mut u64, source_len: usize, greys: *mut u8, greys_len: usize,
+    ) -> u8;
+    pub fn tsorvenk_fill_numbers(
+        source: *mut u64, source_len: usize, perms: *mut u8, perms_len: usize,
+    ) -> u8;
+    pub fn tsorvenk_wolff_numbers(
+        source: *mut u64, source_len: usize, perms: *mut u8, perms_len: usize,
     ) -> u8;
     pub fn tsorvenk_read_edges(
         n: usize, d: usize, fwd: *const u32, fwd_len: usize, bwd: *const u32, bwd_len: usize,

@@ -9,7 +9,7 @@
 //! A move draws nothing itself (cuts, flips, permutations and seeds are lent), allocates nothing and keeps nothing between
 //! calls, so calls on different buffers may run at the same time. A `Source` draws such choices, all but the cuts, from a
 //! seed of four words, so that a day can be repeated. A move or sweep may keep each system's energy current beside the
-//! spins ([`Keeps::Totals`]).
+//! spins ([`Keeps::Totals`]). A permutation of five may be lent as one byte, its number ([`Coding::Numbers`]).
 //!
 //! ```
 //! use tsorvenk::{step, Form, Mode, Refusal, Step, Stepped};
@@ -55,14 +55,18 @@ mod draws;
 #[cfg(linked)]
 mod foreign;
 #[cfg(linked)]
+mod orders;
+#[cfg(linked)]
 mod safe;
 
 pub use answers::{refusal_words, NoRoom, Refusal, Stepped, Swept};
 pub use calls::{
-    Energy, Form, Frames, HandOver, Keeps, Label, MeterAll, Mode, ReadEdges, Step, Sweep,
+    Coding, Energy, Form, Frames, HandOver, Keeps, Label, MeterAll, Mode, ReadEdges, Step, Sweep,
     WriteEdges, EDGES_ROOM, FRAMES_ROOM,
 };
 #[cfg(linked)]
 pub use draws::Source;
+#[cfg(linked)]
+pub use orders::{number_of, row_of};
 #[cfg(linked)]
 pub use safe::{energy, frames, hand_over, label, meter_all, read_edges, step, sweep, write_edges};

@@ -36,7 +36,7 @@ use crate::foreign::*;
 pub fn step(call: Step) -> Result<Stepped, Refusal> {
     let number = unsafe {
         tsorvenk_step(
-            call.mode as u8, call.form as u8, call.keeps as u8, call.n, call.d, call.s,
+            call.mode as u8, call.form as u8, call.coding as u8, call.keeps as u8, call.n, call.d, call.s,
             call.spins.as_mut_ptr(), call.spins.len(), call.totals.as_mut_ptr(), call.totals.len(),
             call.fwd.as_ptr(), call.fwd.len(), call.bwd.as_ptr(), call.bwd.len(),
             call.couplings.as_ptr(), call.couplings.len(), call.group.as_ptr(), call.group.len(),
@@ -96,7 +96,8 @@ pub fn sweep(call: Sweep) -> Result<Swept, Refusal> {
     let mut outcomes = [0u32; 2];
     let number = unsafe {
         tsorvenk_sweep(
-            call.mode as u8, call.form as u8, call.keeps as u8, call.n, call.d, call.s, call.t, call.r, call.members,
+            call.mode as u8, call.form as u8, call.coding as u8, call.keeps as u8,
+            call.n, call.d, call.s, call.t, call.r, call.members,
             call.spins.as_mut_ptr(), call.spins.len(), call.totals.as_mut_ptr(), call.totals.len(),
             call.fwd.as_ptr(), call.fwd.len(), call.bwd.as_ptr(), call.bwd.len(),
             call.couplings.as_ptr(), call.couplings.len(), call.order.as_ptr(), call.order.len(),

@@ -177,7 +177,7 @@ fn a_refusal_is_an_error_with_words() {
     let refusal: Box<dyn Error> = sweep(Sweep::default()).unwrap_err().into();
     assert_eq!(
         refusal.to_string(),
-        "refused with 1: a size, a group's size, the mode, the form or what is kept is out of its range"
+        "refused with 1: a size, a group's size, the mode, the form, the coding or what is kept is out of its range"
     );
     let no_room: Box<dyn Error> = NoRoom.into();
     assert_eq!(no_room.to_string(), "there is no room for the answer");

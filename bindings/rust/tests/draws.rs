@@ -56,6 +56,18 @@ fn a_fill_is_its_draws_one_by_one() {
         greys,
         std::array::from_fn(|_| 1 + single.below(3).unwrap() as u8)
     );
+    let mut perms = [9; 40];
+    filled.fill_numbers(&mut perms).unwrap();
+    assert_eq!(
+        perms,
+        std::array::from_fn(|_| single.below(120).unwrap() as u8)
+    );
+    let mut perms = [9; 40];
+    filled.wolff_numbers(&mut perms).unwrap();
+    assert_eq!(
+        perms,
+        std::array::from_fn(|_| 1 + single.below(119).unwrap() as u8)
+    );
     let mut rows = [9; 40];
     filled.fill_permutations(5, &mut rows).unwrap();
     for row in rows.chunks(5) {
@@ -84,6 +96,8 @@ fn what_is_empty_is_filled_by_no_word() {
     source.fill_permutations(8, &mut []).unwrap();
     source.wolff_permutation(2, &mut []).unwrap();
     source.wolff_grey(&mut []).unwrap();
+    source.fill_numbers(&mut []).unwrap();
+    source.wolff_numbers(&mut []).unwrap();
     assert_eq!(source.words(), SEED);
 }
 

@@ -18,8 +18,8 @@ use Rattle.draws.specs.Words.{source, stepped, isBlank}
 use Rattle.draws.specs.Draw.{left, number, flipped, within, newOf, wordOf, coinOf, belowOf}
 use Rattle.draws.specs.Rows.{refusedRow, permuted, rowBy, permutationOf}
 use Rattle.draws.specs.Promise.{WordDrawn, CoinDrawn, BelowDrawn, PermutationDrawn, FlipsFilled, BelowFilled, BytesFilled}
-use Rattle.draws.specs.Promise.{PermutationsFilled, WolffFilled, GreysFilled}
-use Rattle.draws.specs.Fill.{Written, Fills, FillsBy, FillsRows, numberAt, entryAt, stop, goOn, goDown, grey, wordRules, numberRules, rowRules}
+use Rattle.draws.specs.Promise.{PermutationsFilled, WolffFilled, GreysFilled, NumbersFilled, WolffNumbersFilled}
+use Rattle.draws.specs.Fill.{Written, Fills, FillsBy, FillsRows, numberAt, entryAt, stop, goOn, goDown, fromOne, wordRules, numberRules, rowRules}
 
 pub new-determined : (a b c d : ℕ) (x y : Left) → x ≡ newOf (source a b c d) → y ≡ newOf (source a b c d) → x ≡ y
 new-determined a b c d x y = one-value
@@ -143,7 +143,13 @@ module _ (s : Source) (xs : List ℕ) (x y : Left) (ys zs : List ℕ) where
   fill-bytes-below-determined m = by-draws (number m) (numberRules true 256 m (length xs) s)
 
   pub wolff-greys-determined : GreysFilled s xs x ys → GreysFilled s xs y zs → Same x y ys zs
-  wolff-greys-determined = by-draws grey (numberRules true 3 3 (length xs) s)
+  wolff-greys-determined = by-draws (fromOne 3) (numberRules true 3 3 (length xs) s)
+
+  pub fill-numbers-determined : NumbersFilled s xs x ys → NumbersFilled s xs y zs → Same x y ys zs
+  fill-numbers-determined = fill-bytes-below-determined 120
+
+  pub wolff-numbers-determined : WolffNumbersFilled s xs x ys → WolffNumbersFilled s xs y zs → Same x y ys zs
+  wolff-numbers-determined = by-draws (fromOne 119) (numberRules true 119 119 (length xs) s)
 
   pub one-permutation-determined : (m : ℕ) → PermutationDrawn m s xs x ys → PermutationDrawn m s xs y zs → Same x y ys zs
   one-permutation-determined m = by-rows false m (rowRules true false m (length xs) s)

@@ -86,6 +86,6 @@ abbrev pub rowRules : Bool → Bool → ℕ → ℕ → Source → List Rule
 rowRules single moving n len s =
     rule 12 (Live s) ∷ rule 12 (Within 2 8 n) ∷ rule 2 (rowsFit single n len ≡ true) ∷ rule 12 (RowsGo moving n (len / n) s) ∷ []
 
--- 1 plus a number below 3
-abbrev pub grey : Source → Drawn
-grey s = drawn (number 3 s .refusal) (number 3 s .value + 1) (number 3 s .source)
+-- 1 plus a number below m
+abbrev pub fromOne : ℕ → Source → Drawn
+fromOne m s = drawn (number m s .refusal) (number m s .value + 1) (number m s .source)

@@ -18,8 +18,8 @@ use Rattle.draws.specs.declared.Left.{Left}
 use Rattle.draws.specs.Words.{source, rotl, word, next, after, isBlank, Live, drawn}
 use Rattle.draws.specs.Draw.{flipped, number, high, limit, tried, refused}
 use Rattle.draws.specs.Rows.{firstRow, swapped, shuffled, permuted, isIdentity, retried, rowBy, refusedRow}
-use Rattle.draws.specs.Fill.{stop, goOn, goDown, grey, Fills, entryAt, numberAt, numberRules, rowRules}
-use Rattle.draws.specs.Promise.{PermutationsFilled, WolffFilled, GreysFilled}
+use Rattle.draws.specs.Fill.{stop, goOn, goDown, fromOne, Fills, entryAt, numberAt, numberRules, rowRules}
+use Rattle.draws.specs.Promise.{PermutationsFilled, WolffFilled, GreysFilled, NumbersFilled, WolffNumbersFilled}
 
 -- ---- a live source stays live
 
@@ -249,7 +249,13 @@ module _ (s : Source) (xs : List ℕ) (l : Left) (ys : List ℕ) where
   wolff-permutations-words n = fills-words (rowRules false true n (length xs) s) (entryAt true n s) (rows-words true n (length xs / n) s)
 
   pub wolff-greys-words : GreysFilled s xs l ys → Words s (l .source)
-  wolff-greys-words = fills-words (numberRules true 3 3 (length xs) s) (numberAt grey s) (numbers-words 3 (length xs) s)
+  wolff-greys-words = fills-words (numberRules true 3 3 (length xs) s) (numberAt (fromOne 3) s) (numbers-words 3 (length xs) s)
+
+  pub fill-numbers-words : NumbersFilled s xs l ys → Words s (l .source)
+  fill-numbers-words = fills-words (numberRules true 256 120 (length xs) s) (numberAt (number 120) s) (numbers-words 120 (length xs) s)
+
+  pub wolff-numbers-words : WolffNumbersFilled s xs l ys → Words s (l .source)
+  wolff-numbers-words = fills-words (numberRules true 119 119 (length xs) s) (numberAt (fromOne 119) s) (numbers-words 119 (length xs) s)
 
 -- from the words 1, 2, 3, 4
 pub first-words : (word (source 1 2 3 4) ≡ 11520) × (word (next (source 1 2 3 4)) ≡ 0)

@@ -1,4 +1,4 @@
--- Laws of rows: what is drawn is a permutation, Wolff's is not the identity, and so filled rows pass test 9.
+-- Laws of permutations: a row that is drawn is one, Wolff's is not the identity, and so filled rows pass test 9. The same of filled numbers.
 use Prim.Native.Nat.{ℕ, zero, suc, _+_, _-_, _*_, _/_, _≤_, _<_}
 use mathlib.Core.Path.{_≡_, refl, sym, ap, _∙_}
 use mathlib.Core.Bool.{Bool, true, false, cond, _&&_}
@@ -11,12 +11,15 @@ use lib.Arith.{digits-div, digits-mod}
 use lib.Dec.{eqb}
 use lib.ListN.{length, getD, set, length-set}
 use lib.Seq.{getD-set-same, getD-set-other}
+use Rattle.paper.specs.Refusal.Rule.{Rule}
 use Rattle.paper.specs.Refusal.Rules.{Permutes, NotIdentity}
 use Rattle.draws.specs.declared.Source.{Source}
 use Rattle.draws.specs.declared.Row.{Row}
+use Rattle.draws.specs.declared.Left.{Left}
 use Rattle.draws.specs.Draw.{number}
 use Rattle.draws.specs.Rows.{firstRow, swapped, shuffled, permuted, isIdentity, retried, rowBy, refusedRow, Members}
-use Rattle.draws.specs.Fill.{stop, goDown, RowsGo, entryAt, Written}
+use Rattle.draws.specs.Fill.{stop, goOn, goDown, RowsGo, entryAt, numberAt, fromOne, numberRules, Written, Fills}
+use Rattle.draws.specs.Promise.{NumbersFilled, WolffNumbersFilled}
 use Rattle.draws.specs.Numbers.{tried-below}
 
 abbrev pub at : List ℕ → ℕ → ℕ
@@ -188,3 +191,42 @@ module _ (moving : Bool) (n k : ℕ) (s t u : Source) (xs ys : List ℕ) (m : Me
 
       same : (a : ℕ) → a < n → getD ys (i * n + a) 0 ≡ at (rowBy moving n (stop (goDown moving n) i s) .row) a
       same a la = w .each (i * n + a) (omega (arith, row-inside i k n l, long)) ∙ sym (entry-of moving n s i a la)
+
+-- ---- the numbers that are filled
+
+written :
+    (rs : List Rule) (at : ℕ → ℕ) (t s : Source) (xs : List ℕ) (r : ℕ) {u : Source} {ys : List ℕ} → Fills rs at t s xs r u ys → r ≡ 0
+    → Written at t xs u ys
+written rs at t s xs zero f e = f .written
+written rs at t s xs (suc c) f e = absurd (omega arith)
+
+-- the number of a permutation of five, and where Wolff asks for it another than the identity's
+pub record DrawableNumber (moving : Bool) (v : ℕ) : Type 0 where
+  pub small : v < 120
+  pub moves : moving ≡ true → v ≡ 0 → ⊥
+
+module _ (s : Source) (xs : List ℕ) (l : Left) (ys : List ℕ) (e : l .refusal ≡ 0) where
+  pub filled-numbers : NumbersFilled s xs l ys → (j : ℕ) → j < length ys → DrawableNumber false (getD ys j 0)
+  filled-numbers f j h = record {
+    small = rw is (tried-below from 64 120 from (omega arith));
+    moves = λ p. absurd (let z : _≡_ {A = ℕ} 0 1 = cc in omega arith);
+  }
+    where
+      from : Source
+      from = stop (goOn (number 120)) j s
+
+      is : getD ys j 0 ≡ number 120 from .value
+      is =
+          let w = written (numberRules true 256 120 (length xs) s) (numberAt (number 120) s) (stop (goOn (number 120)) (length xs) s) s xs (l .refusal) f e in
+          w .each j (omega (arith, w .long))
+
+  pub filled-wolff-numbers : WolffNumbersFilled s xs l ys → (j : ℕ) → j < length ys → DrawableNumber true (getD ys j 0)
+  filled-wolff-numbers f j h = record { small = omega (arith, is, tried-below from 64 119 from (omega arith)); moves = λ _ z. omega (arith, is) }
+    where
+      from : Source
+      from = stop (goOn (fromOne 119)) j s
+
+      is : getD ys j 0 ≡ number 119 from .value + 1
+      is =
+          let w = written (numberRules true 119 119 (length xs) s) (numberAt (fromOne 119) s) (stop (goOn (fromOne 119)) (length xs) s) s xs (l .refusal) f e in
+          w .each j (omega (arith, w .long))

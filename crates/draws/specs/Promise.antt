@@ -8,7 +8,7 @@ use Rattle.draws.specs.declared.Source.{Source}
 use Rattle.draws.specs.declared.Left.{Left}
 use Rattle.draws.specs.Words.{stepped}
 use Rattle.draws.specs.Draw.{flipped, number}
-use Rattle.draws.specs.Fill.{FillsBy, FillsRows, grey, wordRules, numberRules, rowRules}
+use Rattle.draws.specs.Fill.{FillsBy, FillsRows, fromOne, wordRules, numberRules, rowRules}
 
 -- one draw, into a buffer of one; a permutation of n into a buffer of n
 abbrev pub WordDrawn : Source → List ℕ → Left → List ℕ → Type 0
@@ -42,4 +42,11 @@ abbrev pub WolffFilled : ℕ → Source → List ℕ → Left → List ℕ → T
 WolffFilled n s xs l ys = FillsRows true n (rowRules false true n (length xs) s) s xs l ys
 
 abbrev pub GreysFilled : Source → List ℕ → Left → List ℕ → Type 0
-GreysFilled s xs l ys = FillsBy grey (numberRules true 3 3 (length xs) s) s xs l ys
+GreysFilled s xs l ys = FillsBy (fromOne 3) (numberRules true 3 3 (length xs) s) s xs l ys
+
+-- permutations of five as numbers: any, and Wolff's of 1 to 119, since 0 is the identity
+abbrev pub NumbersFilled : Source → List ℕ → Left → List ℕ → Type 0
+NumbersFilled s xs l ys = BytesFilled 120 s xs l ys
+
+abbrev pub WolffNumbersFilled : Source → List ℕ → Left → List ℕ → Type 0
+WolffNumbersFilled s xs l ys = FillsBy (fromOne 119) (numberRules true 119 119 (length xs) s) s xs l ys

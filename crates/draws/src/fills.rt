@@ -12,11 +12,13 @@ use super::passes::write_numbers;
 use super::passes::write_rows;
 use super::step;
 use super::wide;
+ghost use Prim.Native.Nat.{_≤_};
+ghost use mathlib.Core.Bool.{true};
 ghost use lib.ListN.{length};
 ghost use Rattle.draws.specs.Draw.{number, flipped};
-ghost use Rattle.draws.specs.Fill.{FillsBy, FillsRows, wordRules, numberRules, rowRules};
+ghost use Rattle.draws.specs.Fill.{FillsBy, FillsRows, fromOne, wordRules, numberRules, rowRules};
 ghost use Rattle.draws.specs.Promise.{WordDrawn, CoinDrawn, BelowDrawn, PermutationDrawn, FlipsFilled, BelowFilled, BytesFilled};
-ghost use Rattle.draws.specs.Promise.{PermutationsFilled, WolffFilled, GreysFilled};
+ghost use Rattle.draws.specs.Promise.{PermutationsFilled, WolffFilled, GreysFilled, NumbersFilled, WolffNumbersFilled};
 
 // A word, into a buffer of one.
 pub fn one_word(source: Source, word: &mut [u64]) -> Left
@@ -113,18 +115,47 @@ pub fn fill_bytes_below(source: Source, m: u32, bytes: &mut [u8]) -> Left
     }
 }
 
+// Numbers from 1 to m: each is 1 plus a number below m.
+fn from_one(source: Source, m: u32, bytes: &mut [u8]) -> Left
+    requires { ⌜ m ≤ 255 ⌝ }
+    ensures { λ r. ⌜ FillsBy (fromOne m)
+        (numberRules true m m (length (now (bytes .entry))) source)
+        source
+        (now (bytes .entry))
+        r
+        (now (bytes .exit)) ⌝ }
+{
+    let refusal = number_verdict(true, m, m, bytes.len(), source);
+    if refusal != 0 {
+        return Left { refusal, source };
+    }
+    let n = wide(m);
+    let top = limit_of(n);
+    Left {
+        refusal: 0,
+        source: write_bytes(1, n, top, source, bytes),
+    }
+}
+
 // Wolff's grey numbers, 1 to 3.
 pub fn wolff_greys(source: Source, greys: &mut [u8]) -> Left
     ensures { λ r. ⌜ GreysFilled source (now (greys .entry)) r (now (greys .exit)) ⌝ }
 {
-    let refusal = number_verdict(true, 3, 3, greys.len(), source);
-    if refusal != 0 {
-        return Left { refusal, source };
-    }
-    Left {
-        refusal: 0,
-        source: write_bytes(1, 3, 4294967295, source, greys),
-    }
+    from_one(source, 3, greys)
+}
+
+// Permutations of five as numbers, 0 to 119.
+pub fn fill_numbers(source: Source, numbers: &mut [u8]) -> Left
+    ensures { λ r. ⌜ NumbersFilled source (now (numbers .entry)) r (now (numbers .exit)) ⌝ }
+{
+    fill_bytes_below(source, 120, numbers)
+}
+
+// The same without the identity, whose number is 0.
+pub fn wolff_numbers(source: Source, numbers: &mut [u8]) -> Left
+    ensures { λ r. ⌜ WolffNumbersFilled source (now (numbers .entry)) r (now (numbers .exit)) ⌝ }
+{
+    from_one(source, 119, numbers)
 }
 
 fn fill_rows(single: bool, moving: bool, source: Source, members: usize, rows: &mut [u8]) -> Left

@@ -3,3 +3,4 @@ mod Told
 mod Swept
 mod Written
 mod Listed
+mod Numbered

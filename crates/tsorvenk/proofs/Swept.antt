@@ -12,18 +12,15 @@ use Rattle.paper.specs.declared.Mode.{Mode}
 use Rattle.paper.specs.declared.Form.{Form}
 use Rattle.paper.specs.declared.Keeps.{Keeps}
 use Rattle.paper.specs.declared.SweepAnswer.{SweepAnswer}
-use Rattle.paper.specs.declared.SweepAnswer.the-variants.{Fault, Swept}
+use Rattle.paper.specs.declared.SweepAnswer.the-variants.{Swept}
 use Rattle.paper.specs.Panel.Input.{Buffers}
-use Rattle.paper.specs.Refusal.Rule.{Broken}
-use Rattle.paper.specs.Answer.Number.{sweepNumber, sweepValues}
 use Rattle.paper.specs.Answer.Task.{Sweep}
-use Rattle.paper.specs.Answer.Sweep.{SweepRanged}
-use Rattle.paper.specs.Answer.Totals.{sweptRules, SweepKeepAnswers}
 use Rattle.paper.specs.Panel.Takes.{keepsBy}
 use Rattle.paper.specs.Answer.Made.{sweepOf, planOf}
-use Rattle.tasks.specs.Plan.{Planned}
-use Rattle.tsorvenk.specs.Number.{Coded, keepsOf, takenOf, Returned, valuesTo}
-use Rattle.tsorvenk.specs.Sweep.{planFor, WithOutcomes, withOutcomes, outcomeRules, OutcomeAnswers, SweepNumbers, Roomless, Told}
+use Rattle.coded.specs.Takes.{numbersBy}
+use Rattle.coded.specs.Sweep.{SweepCodedAnswers}
+use Rattle.tsorvenk.specs.Number.{Coded, codingOf, keepsOf, takenOf}
+use Rattle.tsorvenk.specs.Sweep.{planFor, WithOutcomes, withOutcomes, Fits, FitsPlan, Uncounted, SweepNumbers, Roomless, Told}
 
 -- ---- the counts, written one after the other
 two-set : (ts : List ℕ) (i m : ℕ) → length ts ≡ 2 → set (set ts 0 i) 1 m ≡ i ∷ m ∷ []
@@ -35,40 +32,17 @@ two-set (x ∷ y ∷ z ∷ ts) i m l = absurd (omega arith)
 pub counts-told : (a : SweepAnswer) (ts : List ℕ) (i m : ℕ) → a ≡ Swept i m → length ts ≡ 2 → Told a ts 0 (set (set ts 0 i) 1 m)
 counts-told a ts i m e l = subst (λ (x : SweepAnswer). Told x ts 0 (set (set ts 0 i) 1 m)) (sym e) (record { number = refl; counts = two-set ts i m l })
 
--- ---- the answers
-planned-of : (k : Keeps) (w : Sweep) → SweepRanged w → Planned (planOf k w)
-planned-of k w r = record { ranged = r .ranged; all = r .all; enough = r .enough }
+-- ---- without room for the counts
+module _ (k : Keeps) (coded : Bool) (w : Sweep) where
+  plan-fits : Fits coded w → FitsPlan coded (planOf k w)
+  plan-fits h = record { planned = record { ranged = h .ranged .ranged; all = h .ranged .all; enough = h .ranged .enough }; five = h .five }
 
-ranged-of : (k : Keeps) (w : Sweep) → Planned (planOf k w) → SweepRanged w
-ranged-of k w p = record { ranged = p .ranged; all = p .all; enough = p .enough }
+  sweep-fits : FitsPlan coded (planOf k w) → Fits coded w
+  sweep-fits h = record { ranged = record { ranged = h .planned .ranged; all = h .planned .all; enough = h .planned .enough }; five = h .five }
 
-module _ (keeping : Bool) (w : Sweep) (b : Buffers) (ts : List ℤ) (os : List ℕ) where
-  roomed : (r : ℕ) → length os ≡ 2 → Broken (sweptRules keeping w b ts) r → Broken (outcomeRules keeping w (withOutcomes b ts os)) r
-  roomed r l (inl v) = inl v
-  roomed r l (inr v) = inr (v .0, inr (l, inr v))
-
-  told-at :
-      (a : SweepAnswer) (b′ : Buffers) (ts′ : List ℤ) (os′ : List ℕ)
-      → length os ≡ 2
-      → SweepKeepAnswers keeping w b ts a b′ ts′
-      → os′ ≡ valuesTo (sweepValues a) os
-      → OutcomeAnswers keeping w (withOutcomes b ts os) a (withOutcomes b′ ts′ os′)
-  told-at (Fault r) b′ ts′ os′ l h e = record { why = roomed r l (h .why); kept = h .kept; totals-kept = h .totals-kept; uncounted = e }
-  told-at (Swept idle moved) b′ ts′ os′ l h e = record { room = l; counted = e; answers = h }
-
-  -- without room for the counts
-  roomless-at : (k : Keeps) (r : ℕ) → (length os ≡ 2 → ⊥) → Roomless (planOf k w) r → Returned sweepNumber
-      (λ a. OutcomeAnswers keeping w (withOutcomes b ts os) a (withOutcomes b ts os)) r
-  roomless-at k r n (inl v) = record {
-    answer = Fault 1;
-    allowed = record { why = inl ((λ h. v .0 (planned-of k w h)), refl); kept = refl; totals-kept = refl; uncounted = refl };
-    number = v .1;
-  }
-  roomless-at k r n (inr v) = record {
-    answer = Fault 2;
-    allowed = record { why = inr (ranged-of k w (v .0), inl (n, refl)); kept = refl; totals-kept = refl; uncounted = refl };
-    number = v .1;
-  }
+  roomless-at : (l : WithOutcomes) (r : ℕ) → (length (l .outcomes) ≡ 2 → ⊥) → Roomless coded (planOf k w) r → Uncounted coded w l r l
+  roomless-at l r n (inl v) = record { why = inl ((λ h. v .0 (plan-fits h)), sym (v .1)); kept = refl }
+  roomless-at l r n (inr v) = record { why = inr (sweep-fits (v .0), inl (n, sym (v .1))); kept = refl }
 
 -- the mode and the form that were made of the lent numbers; what is kept is no part of a sweep
 module _ {n d s t r members : ℕ} {fwd bwd : List ℕ} {couplings : List ℤ} {order masks : List ℕ} {temperatures cuts : List Float}
@@ -79,32 +53,36 @@ module _ {n d s t r members : ℕ} {fwd bwd : List ℕ} {couplings : List ℤ} {
   same-sweep em ef = λ i.
       sweepOf (planFor (em i) (ef i) k n d s t r members) fwd bwd couplings order masks temperatures cuts references seeds (takenOf (em i) flips perms) greys
 
-pub uncoded-sweep : {mode form keeps : ℕ} {w : Sweep} {l : WithOutcomes} → (Coded mode form keeps → ⊥) → SweepNumbers mode form keeps w l 1 l
+pub uncoded-sweep :
+    {mode form coding keeps : ℕ} {w : Sweep} {l : WithOutcomes} → (Coded mode form coding keeps → ⊥) → SweepNumbers mode form coding keeps w l 1 l
 uncoded-sweep none = record { known = λ k. absurd (none k); unknown = λ _. record { number = refl; kept = refl } }
 
-module _ {mode form keeps : ℕ} (w w′ : Sweep) (b : Buffers) (ts : List ℤ) (os : List ℕ) (r : ℕ) where
-  pub roomless-sweep : (k : Keeps) → Coded mode form keeps → w ≡ w′ → (length os ≡ 2 → ⊥) → Roomless (planOf k w) r
-      → SweepNumbers mode form keeps w′ (withOutcomes b ts os) r (withOutcomes b ts os)
-  roomless-sweep k d e n h = record {
-    known = λ _. roomless-at (keepsBy (keepsOf keeps) (w′ .form)) w′ b ts os k r n (subst (λ (x : Sweep). Roomless (planOf k x) r) e h);
+module _ {mode form coding keeps : ℕ} (w w′ : Sweep) (b : Buffers) (ts : List ℤ) (os : List ℕ) (r : ℕ) (x : Bool) where
+  pub roomless-sweep : (k : Keeps) → Coded mode form coding keeps → x ≡ numbersBy (codingOf coding) (w′ .mode) (w′ .form) → w ≡ w′
+      → (length os ≡ 2 → ⊥) → Roomless x (planOf k w) r → SweepNumbers mode form coding keeps w′ (withOutcomes b ts os) r (withOutcomes b ts os)
+  roomless-sweep k d ex e n h = record {
+    known = λ _. record {
+      roomed = λ l. absurd (n l);
+      roomless = λ _. roomless-at k _ w′ (withOutcomes b ts os) r n
+          (subst (λ (y : Bool). Roomless y (planOf k w′) r) ex (subst (λ (y : Sweep). Roomless x (planOf k y) r) e h));
+    };
     unknown = λ none. absurd (none d);
   }
 
   pub coded-sweep :
       (q : Bool) (a : SweepAnswer) (b′ : Buffers) (ts′ : List ℤ) (os′ : List ℕ)
-      → Coded mode form keeps
+      → Coded mode form coding keeps
+      → x ≡ numbersBy (codingOf coding) (w′ .mode) (w′ .form)
       → q ≡ keepsBy (keepsOf keeps) (w′ .form)
       → w ≡ w′
       → length os ≡ 2
-      → SweepKeepAnswers q w b ts a b′ ts′
+      → SweepCodedAnswers x q w b ts a b′ ts′
       → Told a os r os′
-      → SweepNumbers mode form keeps w′ (withOutcomes b ts os) r (withOutcomes b′ ts′ os′)
-  coded-sweep q a b′ ts′ os′ d eq e l h k = record {
+      → SweepNumbers mode form coding keeps w′ (withOutcomes b ts os) r (withOutcomes b′ ts′ os′)
+  coded-sweep q a b′ ts′ os′ d ex eq e l h k = record {
     known = λ _. record {
-      answer = a;
-      allowed = told-at (keepsBy (keepsOf keeps) (w′ .form)) w′ b ts os a b′ ts′ os′ l
-          (subst (λ (x : Bool). SweepKeepAnswers x w′ b ts a b′ ts′) eq (subst (λ (x : Sweep). SweepKeepAnswers q x b ts a b′ ts′) e h)) (k .counts);
-      number = k .number;
+      roomed = λ _. record { answer = a; allowed = record { answers = rw (ex, eq, e) at h; counts = k .counts }; number = k .number };
+      roomless = λ n. absurd (n l);
     };
     unknown = λ none. absurd (none d);
   }

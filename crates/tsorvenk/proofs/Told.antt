@@ -19,9 +19,11 @@ use Rattle.paper.specs.Panel.Made.{choicesOf}
 use Rattle.paper.specs.Panel.Takes.{keepsBy}
 use Rattle.paper.specs.Refusal.Rule.{Broken}
 use Rattle.paper.specs.Refusal.Rules.{Sizes}
-use Rattle.paper.specs.Answer.Totals.{KeepAnswers}
 use Rattle.paper.specs.Answer.Meter.{meterRules, MeterAnswers}
-use Rattle.tsorvenk.specs.Number.{Coded, keepsOf, takenOf, numberOf}
+use Rattle.coded.specs.declared.Coding.{Coding}
+use Rattle.coded.specs.Takes.{numbersBy}
+use Rattle.coded.specs.Answer.{CodedAnswers}
+use Rattle.tsorvenk.specs.Number.{Coded, codingOf, keepsOf, takenOf, numberOf}
 use Rattle.tsorvenk.specs.Step.{WithTotals, withTotals, StepAnswers}
 use Rattle.tsorvenk.specs.Energy.{energyRules, EnergyAnswers}
 
@@ -32,7 +34,9 @@ one-set (y ∷ []) x l = refl
 one-set (y ∷ z ∷ xs) x l = absurd (omega arith)
 
 -- ---- a step
-pub unknown-code : {mode form keeps : ℕ} {c : Call} {p : Choices} {l : WithTotals} → (Coded mode form keeps → ⊥) → StepAnswers mode form keeps c p l 1 l
+pub unknown-code :
+    {mode form coding keeps : ℕ} {c : Call} {p : Choices} {l : WithTotals} → (Coded mode form coding keeps → ⊥)
+    → StepAnswers mode form coding keeps c p l 1 l
 unknown-code none = record { known = λ k. absurd (none k); unknown = λ _. record { number = refl; kept = refl } }
 
 abbrev callBy : Lattice → Float → List Float → ℕ → ℕ → Mode → Form → Group → Call
@@ -62,18 +66,23 @@ same-choices {greys = greys} flips perms e em = λ i. choicesOf ((e ∙ ap (λ (
 pub same-keeping : {k k′ : Keeps} {f f′ : Form} → k ≡ k′ → f ≡ f′ → keepsBy k f ≡ keepsBy k′ f′
 same-keeping ek ef = λ i. keepsBy (ek i) (ef i)
 
-module _ {mode form keeps : ℕ} {q : Bool} {c c′ : Call} {p p′ : Choices} {b b′ : Buffers} {ts ts′ : List ℤ} {k : ℕ} where
+-- and how permutations are spelled
+pub same-coding : {k k′ : Coding} {m m′ : Mode} {f f′ : Form} → k ≡ k′ → m ≡ m′ → f ≡ f′ → numbersBy k m f ≡ numbersBy k′ m′ f′
+same-coding ek em ef = λ i. numbersBy (ek i) (em i) (ef i)
+
+module _ {mode form coding keeps : ℕ} {x q : Bool} {c c′ : Call} {p p′ : Choices} {b b′ : Buffers} {ts ts′ : List ℤ} {k : ℕ} where
   pub known-code :
       (a : Answer)
       → k ≡ numberOf a
+      → x ≡ numbersBy (codingOf coding) (c′ .mode) (c′ .form)
       → q ≡ keepsBy (keepsOf keeps) (c′ .form)
       → c ≡ c′
       → p ≡ p′
-      → Coded mode form keeps
-      → KeepAnswers q c p b ts a b′ ts′
-      → StepAnswers mode form keeps c′ p′ (withTotals b ts) k (withTotals b′ ts′)
-  known-code a ek eq ec ep d h = record {
-    known = λ _. record { answer = a; allowed = rw (eq, ec, ep) at h; number = ek };
+      → Coded mode form coding keeps
+      → CodedAnswers x q c p b ts a b′ ts′
+      → StepAnswers mode form coding keeps c′ p′ (withTotals b ts) k (withTotals b′ ts′)
+  known-code a ek ex eq ec ep d h = record {
+    known = λ _. record { answer = a; allowed = rw (ex, eq, ec, ep) at h; number = ek };
     unknown = λ none. absurd (none d);
   }
 

@@ -9,7 +9,6 @@ use lib.IntN.{ℤ}
 use Rattle.paper.specs.declared.MeterAnswer.{MeterAnswer}
 use Rattle.paper.specs.declared.MeterAnswer.the-variants.{Unmetered, Energy}
 use Rattle.paper.specs.declared.SweepAnswer.{SweepAnswer}
-use Rattle.paper.specs.declared.SweepAnswer.the-variants.{Fault, Swept}
 use Rattle.paper.specs.Panel.Input.{Lattice, Call, Choices}
 use Rattle.paper.specs.Panel.Takes.{keepsBy}
 use Rattle.paper.specs.Refusal.Rule.{Kept, broken-unique, broken-not-kept}
@@ -18,7 +17,7 @@ use Rattle.paper.specs.Answer.Number.{sweepValues, meterValues}
 use Rattle.paper.specs.Answer.Meter.{meter-determined}
 use Rattle.paper.specs.Answer.Task.{Sweep}
 use Rattle.paper.specs.Answer.Totals.{handOverRules}
-use Rattle.laws.specs.KeepDetermined.{keep-determined, SameSweepKept, sweep-keep-determined}
+use Rattle.laws.specs.KeepDetermined.{SameSweepKept}
 use Rattle.label.specs.Entry.{Request, Lent}
 use Rattle.label.specs.Determined.{components-determined}
 use Rattle.frame_lines.specs.declared.Written.{Written}
@@ -28,19 +27,25 @@ use Rattle.frame.specs.Determined.{run-determined}
 use Rattle.draws.specs.declared.Source.{Source}
 use Rattle.draws.specs.declared.Left.{Left}
 use Rattle.draws.specs.Promise.{WordDrawn, CoinDrawn, BelowDrawn, PermutationDrawn, FlipsFilled, BelowFilled, BytesFilled}
-use Rattle.draws.specs.Promise.{PermutationsFilled, WolffFilled, GreysFilled}
+use Rattle.draws.specs.Promise.{PermutationsFilled, WolffFilled, GreysFilled, NumbersFilled, WolffNumbersFilled}
 use Rattle.draws.specs.Determined as Draw
 use Rattle.edges.specs.declared.Listing.{Listing}
 use Rattle.edges.specs.declared.Listing.the-variants.{Unlisted, Wrote}
 use Rattle.edges.specs.Answer.{Net, netOf, ReadAnswers, listingValues}
 use Rattle.edges.specs.Determined.{read-edges-determined, write-edges-determined}
-use Rattle.tsorvenk.specs.Number.{Coded, keepsOf, coded, Returned, valuesTo}
+use Rattle.orders.specs.declared.Numbered.{Numbered}
+use Rattle.orders.specs.Answers.{values, RowAnswers}
+use Rattle.orders.specs.Determined.{row-of-determined, number-of-determined}
+use Rattle.coded.specs.Takes.{numbersBy}
+use Rattle.coded.specs.Determined.{overlap-step-by-determined, overlap-update-by-determined}
+use Rattle.tsorvenk.specs.Number.{Coded, codingOf, keepsOf, coded, Returned, valuesTo}
 use Rattle.tsorvenk.specs.Step.{WithTotals, withTotals, StepAnswers}
 use Rattle.tsorvenk.specs.Energy.{energyRules, Metered, EnergyAs, EnergyAnswers}
 use Rattle.tsorvenk.specs.Label.{LabelAnswers}
-use Rattle.tsorvenk.specs.Sweep.{WithOutcomes, withOutcomes, outcomeRules, Sweeping, OutcomeAnswers, SweepNumbers}
+use Rattle.tsorvenk.specs.Sweep.{WithOutcomes, withOutcomes, outcomeRules, Counted, OutcomeAnswers, SweepNumbers}
 use Rattle.tsorvenk.specs.Drawing.{sourceOf, wordsOf, Draws}
 use Rattle.tsorvenk.specs.Edges.{Lists, lists, listRules, Listed, ListAs, ListNumbers}
+use Rattle.tsorvenk.specs.Numbering.{Ranked, RowNumbers}
 use Rattle.tsorvenk.specs.Frames.{Framed, framed, Ran, FramesNumbers}
 
 -- one answer, and one content of what was lent
@@ -54,18 +59,18 @@ module _ {A B : Type 0} {numberBy : A → ℕ} {P Q : A → Type 0} {r r′ : �
   same-returned f g s = record { answer = f .number ∙ (ap numberBy (s .answer) ∙ sym (g .number)); buffers = s .buffers }
 
 pub tsorvenk-step-determined :
-    (mode form keeps : ℕ) (c : Call) (p : Choices) (l y z : WithTotals) (r r′ : ℕ)
-    → StepAnswers mode form keeps c p l r y
-    → StepAnswers mode form keeps c p l r′ z
+    (mode form coding keeps : ℕ) (c : Call) (p : Choices) (l y z : WithTotals) (r r′ : ℕ)
+    → StepAnswers mode form coding keeps c p l r y
+    → StepAnswers mode form coding keeps c p l r′ z
     → Same r r′ y z
-tsorvenk-step-determined mode form keeps c p l y z r r′ f g = go (coded mode form keeps)
+tsorvenk-step-determined mode form coding keeps c p l y z r r′ f g = go (coded mode form coding keeps)
   where
-    go : Dec (Coded mode form keeps) → Same r r′ y z
+    go : Dec (Coded mode form coding keeps) → Same r r′ y z
     go (yes k) =
         let u = f .known k in
         let v = g .known k in
-        let s = keep-determined (keepsBy (keepsOf keeps) (c .form)) c p (l .buffers) (l .totals) (y .buffers) (z .buffers) (y .totals) (z .totals)
-        (u .answer) (v .answer) (u .allowed) (v .allowed) in
+        let s = overlap-step-by-determined (numbersBy (codingOf coding) (c .mode) (c .form)) (keepsBy (keepsOf keeps) (c .form)) c p (l .buffers)
+        (l .totals) (y .buffers) (z .buffers) (y .totals) (z .totals) (u .answer) (v .answer) (u .allowed) (v .allowed) in
         same-returned u v (record { answer = s .answer; buffers = λ i. withTotals (s .buffers i) (s .totals i) })
     go (no k) = record {
       answer = f .unknown k .number ∙ sym (g .unknown k .number);
@@ -105,42 +110,40 @@ tsorvenk-label-determined q b y z r r′ f g =
     same-returned f g (record { answer = s .answer; buffers = s .buffers })
 
 -- ---- a sweep
-module _ (keeping : Bool) (w : Sweep) (l y z : WithOutcomes) where
-  swept-kept : (i m : ℕ) (x : WithOutcomes) → Sweeping keeping w l i m x → Kept (outcomeRules keeping w l)
-  swept-kept i m x s = let v = s .answers .valid in (v .0, (s .room, v))
-
-  outcomes-same : (a a′ : SweepAnswer) → OutcomeAnswers keeping w l a y → OutcomeAnswers keeping w l a′ z → Same a a′ y z
-  outcomes-same (Fault r) (Fault s) f g = record {
-    answer = ap Fault (broken-unique (outcomeRules keeping w l) r s (f .why) (g .why));
-    buffers = λ j.
-        withOutcomes ((f .kept ∙ sym (g .kept)) j) ((f .totals-kept ∙ sym (g .totals-kept)) j) ((f .uncounted ∙ sym (g .uncounted)) j);
-  }
-  outcomes-same (Fault r) (Swept i m) f g = absurd (broken-not-kept (outcomeRules keeping w l) r (f .why) (swept-kept i m z g))
-  outcomes-same (Swept i m) (Fault s) f g = absurd (broken-not-kept (outcomeRules keeping w l) s (g .why) (swept-kept i m y f))
-  outcomes-same (Swept i m) (Swept i′ m′) f g = record {
-    answer = same .answer;
-    buffers = λ j. withOutcomes (same .buffers j) (same .totals j) (counts j);
-  }
+module _ (coded keeping : Bool) (w : Sweep) (l y z : WithOutcomes) where
+  counted-same : (a a′ : SweepAnswer) → Counted coded keeping w l a y → Counted coded keeping w l a′ z → Same a a′ y z
+  counted-same a a′ f g = record { answer = same .answer; buffers = λ j. withOutcomes (same .buffers j) (same .totals j) (counts j) }
     where
-      same : SameSweepKept (Swept i m) (y .buffers) (y .totals) (Swept i′ m′) (z .buffers) (z .totals)
-      same = sweep-keep-determined keeping w (l .buffers) (l .totals) (y .buffers) (z .buffers) (y .totals) (z .totals) (Swept i m) (Swept i′ m′)
+      same : SameSweepKept a (y .buffers) (y .totals) a′ (z .buffers) (z .totals)
+      same = overlap-update-by-determined coded keeping w (l .buffers) (l .totals) (y .buffers) (z .buffers) (y .totals) (z .totals) a a′
           (f .answers) (g .answers)
 
       counts : y .outcomes ≡ z .outcomes
-      counts = f .counted ∙ (ap (λ (a : SweepAnswer). valuesTo (sweepValues a) (l .outcomes)) (same .answer) ∙ sym (g .counted))
+      counts = f .counts ∙ (ap (λ (x : SweepAnswer). valuesTo (sweepValues x) (l .outcomes)) (same .answer) ∙ sym (g .counts))
+
+  outcomes-same : (r r′ : ℕ) → OutcomeAnswers coded keeping w l r y → OutcomeAnswers coded keeping w l r′ z → Same r r′ y z
+  outcomes-same r r′ f g = go (ℕ-discrete (length (l .outcomes)) 2)
+    where
+      go : Dec (length (l .outcomes) ≡ 2) → Same r r′ y z
+      go (yes e) =
+          let u = f .roomed e in
+          let v = g .roomed e in
+          same-returned u v (counted-same (u .answer) (v .answer) (u .allowed) (v .allowed))
+      go (no e) = record {
+        answer = broken-unique (outcomeRules coded w l) r r′ (f .roomless e .why) (g .roomless e .why);
+        buffers = f .roomless e .kept ∙ sym (g .roomless e .kept);
+      }
 
 pub tsorvenk-sweep-determined :
-    (mode form keeps : ℕ) (w : Sweep) (l y z : WithOutcomes) (r r′ : ℕ)
-    → SweepNumbers mode form keeps w l r y
-    → SweepNumbers mode form keeps w l r′ z
+    (mode form coding keeps : ℕ) (w : Sweep) (l y z : WithOutcomes) (r r′ : ℕ)
+    → SweepNumbers mode form coding keeps w l r y
+    → SweepNumbers mode form coding keeps w l r′ z
     → Same r r′ y z
-tsorvenk-sweep-determined mode form keeps w l y z r r′ f g = go (coded mode form keeps)
+tsorvenk-sweep-determined mode form coding keeps w l y z r r′ f g = go (coded mode form coding keeps)
   where
-    go : Dec (Coded mode form keeps) → Same r r′ y z
+    go : Dec (Coded mode form coding keeps) → Same r r′ y z
     go (yes k) =
-        let u = f .known k in
-        let v = g .known k in
-        same-returned u v (outcomes-same (keepsBy (keepsOf keeps) (w .form)) w l y z (u .answer) (v .answer) (u .allowed) (v .allowed))
+        outcomes-same (numbersBy (codingOf coding) (w .mode) (w .form)) (keepsBy (keepsOf keeps) (w .form)) w l y z r r′ (f .known k) (g .known k)
     go (no k) = record {
       answer = f .unknown k .number ∙ sym (g .unknown k .number);
       buffers = f .unknown k .kept ∙ sym (g .unknown k .kept);
@@ -233,6 +236,13 @@ module _ (ws xs : List ℕ) (r r′ : ℕ) (us vs ys zs : List ℕ) where
   pub tsorvenk-wolff-grey-determined : Draws GreysFilled ws xs r us ys → Draws GreysFilled ws xs r′ vs zs → SameDrawn r r′ us vs ys zs
   tsorvenk-wolff-grey-determined = draws-determined GreysFilled (λ x y. Draw.wolff-greys-determined (sourceOf ws) xs x y ys zs)
 
+  pub tsorvenk-fill-numbers-determined : Draws NumbersFilled ws xs r us ys → Draws NumbersFilled ws xs r′ vs zs → SameDrawn r r′ us vs ys zs
+  tsorvenk-fill-numbers-determined = draws-determined NumbersFilled (λ x y. Draw.fill-numbers-determined (sourceOf ws) xs x y ys zs)
+
+  pub tsorvenk-wolff-numbers-determined : Draws WolffNumbersFilled ws xs r us ys → Draws WolffNumbersFilled ws xs r′ vs zs
+      → SameDrawn r r′ us vs ys zs
+  tsorvenk-wolff-numbers-determined = draws-determined WolffNumbersFilled (λ x y. Draw.wolff-numbers-determined (sourceOf ws) xs x y ys zs)
+
 -- ---- edge lists
 pub tsorvenk-read-edges-determined : (n d : ℕ) (fwd bwd text : List ℕ) (js y z : List ℤ) (r r′ : ℕ) → ReadAnswers (netOf n d fwd bwd) text js r y
     → ReadAnswers (netOf n d fwd bwd) text js r′ z → Same r r′ y z
@@ -262,3 +272,26 @@ module _ (n d : ℕ) (fwd bwd : List ℕ) (js : List ℤ) (l y z : Lists) where
 
   pub tsorvenk-write-edges-determined : (r r′ : ℕ) → ListNumbers net js l r y → ListNumbers net js l r′ z → Same r r′ y z
   tsorvenk-write-edges-determined r r′ f g = same-returned f g (lists-same (f .answer) (g .answer) (f .allowed) (g .allowed))
+
+-- ---- permutations of five and their numbers
+pub tsorvenk-row-of-determined : (v : ℕ) (xs y z : List ℕ) (r r′ : ℕ) → RowAnswers v xs r y → RowAnswers v xs r′ z → Same r r′ y z
+tsorvenk-row-of-determined v xs y z r r′ f g = let s = row-of-determined v xs r r′ y z f g in record { answer = s .0; buffers = s .1 }
+
+pub tsorvenk-number-of-determined : (row vs y z : List ℕ) (r r′ : ℕ) → RowNumbers row vs r y → RowNumbers row vs r′ z → Same r r′ y z
+tsorvenk-number-of-determined row vs y z r r′ f g = go (ℕ-discrete (length vs) 1)
+  where
+    ranked : (a a′ : Numbered) → Ranked row vs a y → Ranked row vs a′ z → Same a a′ y z
+    ranked a a′ p q = record { answer = same; buffers = p .written ∙ (ap (λ (x : Numbered). valuesTo (values x) vs) same ∙ sym (q .written)) }
+      where
+        same : a ≡ a′
+        same = number-of-determined row a a′ (p .answers) (q .answers)
+
+    go : Dec (length vs ≡ 1) → Same r r′ y z
+    go (yes e) =
+        let u = f .roomed e in
+        let v = g .roomed e in
+        same-returned u v (ranked (u .answer) (v .answer) (u .allowed) (v .allowed))
+    go (no e) = record {
+      answer = f .roomless e .number ∙ sym (g .roomless e .number);
+      buffers = f .roomless e .kept ∙ sym (g .roomless e .kept);
+    }

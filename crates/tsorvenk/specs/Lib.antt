@@ -8,4 +8,5 @@ pub mod Frames
 pub mod Edges
 pub mod Listed
 pub mod Drawing
+pub mod Numbering
 pub mod Determined

@@ -1,6 +1,6 @@
 -- A refusal's number is one of the paper's list, 1 to 14. So the returned numbers 0, 64 and 65 are no refusal's, and each number tells its answer.
 use Prim.Native.Nat.{ℕ, zero, suc, _≤_}
-use mathlib.Core.Path.{_≡_, refl}
+use mathlib.Core.Path.{_≡_, refl, ap}
 use mathlib.Core.Logic.{inl, inr}
 use mathlib.Core.Bool.{Bool, true, false, cond}
 use mathlib.Core.List.{List, [], _∷_, _++_}
@@ -10,16 +10,23 @@ use lib.Dec.{eqb}
 use lib.IntN.{ℤ}
 use Rattle.paper.specs.declared.Answer.{Answer}
 use Rattle.paper.specs.declared.Answer.the-variants.{Refused, Idle, Moved}
-use Rattle.paper.specs.Panel.Input.{Lattice, Call, Choices, Buffers}
+use Rattle.paper.specs.declared.SweepAnswer.the-variants.{Fault}
+use Rattle.paper.specs.Panel.Input.{Lattice, Call, Choices, Buffers, size}
 use Rattle.paper.specs.Refusal.Rule.{Rule, Broken}
 use Rattle.paper.specs.Refusal.Rules.{choiceRules}
 use Rattle.paper.specs.Answer.Task.{Sweep, masked, taskCall, taskChoices, tasks}
 use Rattle.paper.specs.Answer.Sweep.{taskRules}
-use Rattle.paper.specs.Answer.Totals.{totalsAsk, keptRules, KeepAnswers, handOverRules}
+use Rattle.paper.specs.Answer.Number.{sweepNumber}
+use Rattle.paper.specs.Answer.Totals.{totalsAsk, keptRules, sweptRules, handOverRules}
 use Rattle.label.specs.Entry as entry
+use Rattle.orders.specs.Answers as orders
+use Rattle.coded.specs.Takes.{spelledChoices}
+use Rattle.coded.specs.Answer.{Five, CodedAnswers}
+use Rattle.coded.specs.Sweep.{spelledSweep}
+use Rattle.coded.specs.Determined.{five}
 use Rattle.tsorvenk.specs.Number.{numberOf}
 use Rattle.tsorvenk.specs.Energy.{energyRules, EnergyRefuses}
-use Rattle.tsorvenk.specs.Sweep.{WithOutcomes, outcomeRules, Unswept}
+use Rattle.tsorvenk.specs.Sweep.{WithOutcomes, outcomeRules, Counted, Uncounted}
 
 pub record Listed (r : ℕ) : Type 0 where
   pub low : 1 ≤ r
@@ -37,25 +44,32 @@ broken-listed (q ∷ rs) r l (inr w) = broken-listed rs r (l .1) (w .1)
 listed : {k : ℕ} → 1 ≤ k → k ≤ 14 → Listed k
 listed l h = record { low = l; high = h }
 
+first-listed : {k : ℕ} → k ≡ 1 → Listed k
+first-listed e = record { low = omega arith; high = omega arith }
+
 -- ---- a step
-module _ (keeping : Bool) (c : Call) (p : Choices) (b : Buffers) (ts : List ℤ) (b′ : Buffers) (ts′ : List ℤ) where
-  pub step-listed : (r : ℕ) → KeepAnswers keeping c p b ts (Refused r) b′ ts′ → Listed r
-  step-listed r h = broken-listed (keptRules keeping c p b ts) r all (h .why)
+module _ (coded keeping : Bool) (c : Call) (p : Choices) (b : Buffers) (ts : List ℤ) (b′ : Buffers) (ts′ : List ℤ) where
+  pub step-listed : (r : ℕ) → CodedAnswers coded keeping c p b ts (Refused r) b′ ts′ → Listed r
+  step-listed r h = go (five coded (size c))
     where
-      all : AllListed (keptRules keeping c p b ts)
+      all : AllListed (keptRules keeping c (spelledChoices coded p) b ts)
       all = search (listed, arith)
+
+      go : Dec (Five coded (size c)) → Listed r
+      go (yes f) = broken-listed (keptRules keeping c (spelledChoices coded p) b ts) r all (h .five f .why)
+      go (no f) = first-listed (ap numberOf (h .other f .number))
 
 -- 0 moved, 64 idle, any other a refusal
 abbrev pub answerOf : ℕ → Answer
 answerOf r = cond (eqb r 0) Moved (cond (eqb r 64) Idle (Refused r))
 
 pub step-told :
-    (keeping : Bool) (c : Call) (p : Choices) (b : Buffers) (ts : List ℤ) (b′ : Buffers) (ts′ : List ℤ) (a : Answer)
-    → KeepAnswers keeping c p b ts a b′ ts′ → answerOf (numberOf a) ≡ a
-step-told keeping c p b ts b′ ts′ (Refused r) h =
-    let l = step-listed keeping c p b ts b′ ts′ r h in rw (ne-eqb r 0 (λ e. omega arith), ne-eqb r 64 (λ e. omega arith))
-step-told keeping c p b ts b′ ts′ Idle h = refl
-step-told keeping c p b ts b′ ts′ Moved h = refl
+    (coded keeping : Bool) (c : Call) (p : Choices) (b : Buffers) (ts : List ℤ) (b′ : Buffers) (ts′ : List ℤ) (a : Answer)
+    → CodedAnswers coded keeping c p b ts a b′ ts′ → answerOf (numberOf a) ≡ a
+step-told coded keeping c p b ts b′ ts′ (Refused r) h =
+    let l = step-listed coded keeping c p b ts b′ ts′ r h in rw (ne-eqb r 0 (λ e. omega arith), ne-eqb r 64 (λ e. omega arith))
+step-told coded keeping c p b ts b′ ts′ Idle h = refl
+step-told coded keeping c p b ts b′ ts′ Moved h = refl
 
 -- ---- the meter
 pub energy-listed : (t : Lattice) (xs : List ℤ) (k : ℕ) (es es′ : List ℤ) (r : ℕ) → EnergyRefuses t xs k es r es′ → Listed r
@@ -89,21 +103,47 @@ tasks-listed w b (suc k) =
     append-listed (taskRules w b k) _ (tasks-listed w b k)
     (unless-listed (masked w k) _ (choices-listed (taskCall w k) (taskChoices w k) (b .spins)))
 
-pub sweep-listed : (keeping : Bool) (w : Sweep) (l l′ : WithOutcomes) (r : ℕ) → Unswept keeping w l r l′ → Listed r
-sweep-listed keeping w l l′ r h = broken-listed (outcomeRules keeping w l) r all (h .why)
+swept-listed : (keeping : Bool) (w : Sweep) (b : Buffers) (ts : List ℤ) → AllListed (sweptRules keeping w b ts)
+swept-listed keeping w b ts = search (listed, arith, rest)
   where
-    last : AllListed (totalsAsk keeping (w .lattice) (l .totals) .last)
+    last : AllListed (totalsAsk keeping (w .lattice) ts .last)
     last = search (listed, arith)
 
-    rest : AllListed (taskRules w (l .buffers) (tasks w) ++ totalsAsk keeping (w .lattice) (l .totals) .last)
-    rest = append-listed (taskRules w (l .buffers) (tasks w)) _ (tasks-listed w (l .buffers) (tasks w)) last
+    rest : AllListed (taskRules w b (tasks w) ++ totalsAsk keeping (w .lattice) ts .last)
+    rest = append-listed (taskRules w b (tasks w)) _ (tasks-listed w b (tasks w)) last
 
-    all : AllListed (outcomeRules keeping w l)
-    all = search (listed, arith, rest)
+pub sweep-listed : (coded keeping : Bool) (w : Sweep) (l l′ : WithOutcomes) (r : ℕ) → Counted coded keeping w l (Fault r) l′ → Listed r
+sweep-listed coded keeping w l l′ r h = go (five coded (w .members))
+  where
+    v : Sweep
+    v = spelledSweep coded w
+
+    go : Dec (Five coded (w .members)) → Listed r
+    go (yes f) = broken-listed (sweptRules keeping v (l .buffers) (l .totals)) r (swept-listed keeping v (l .buffers) (l .totals)) (h .answers .five f .why)
+    go (no f) = first-listed (ap sweepNumber (h .answers .other f .number))
+
+pub roomless-listed : (coded : Bool) (w : Sweep) (l l′ : WithOutcomes) (r : ℕ) → Uncounted coded w l r l′ → Listed r
+roomless-listed coded w l l′ r h = broken-listed (outcomeRules coded w l) r all (h .why)
+  where
+    all : AllListed (outcomeRules coded w l)
+    all = search (listed, arith)
 
 -- ---- the hand-over
 pub hand-over-listed : (g : Lattice) (xs ts : List ℤ) (r : ℕ) → Broken (handOverRules g xs ts) r → Listed r
 hand-over-listed g xs ts r h = broken-listed (handOverRules g xs ts) r all h
   where
     all : AllListed (handOverRules g xs ts)
+    all = search (listed, arith)
+
+-- ---- permutations of five and their numbers
+pub row-of-listed : (v : ℕ) (xs ys : List ℕ) (r : ℕ) → orders.RowRefused v xs r ys → Listed r
+row-of-listed v xs ys r h = broken-listed (orders.rowRules v xs) r all (h .broken)
+  where
+    all : AllListed (orders.rowRules v xs)
+    all = search (listed, arith)
+
+pub number-of-listed : (xs : List ℕ) (r : ℕ) → Broken (orders.numberRules xs) r → Listed r
+number-of-listed xs r h = broken-listed (orders.numberRules xs) r all h
+  where
+    all : AllListed (orders.numberRules xs)
     all = search (listed, arith)

@@ -1,4 +1,4 @@
--- The numbers of the C interface: codes of modes, of forms and of what is kept, and what is returned for an answer.
+-- The numbers of the C interface: codes of modes, of forms, of codings and of what is kept, and what is returned for an answer.
 use Prim.Native.Nat.{ℕ, zero, suc, _+_, _≤_}
 use mathlib.Core.Path.{_≡_}
 use mathlib.Core.Bool.{cond}
@@ -17,11 +17,15 @@ use Rattle.paper.specs.declared.Answer.{Answer}
 use Rattle.paper.specs.declared.Answer.the-variants.{Refused, Idle, Moved}
 use Rattle.paper.specs.Panel.Takes.{isPerm}
 use Rattle.paper.specs.Answer.Number.{number}
+use Rattle.coded.specs.declared.Coding.{Coding}
+use Rattle.coded.specs.declared.Coding.the-variants.{Rows, Numbers}
 
--- 0 houd, 1 pair, 2 perm, 3 gperm, 4 Jörg, 5 CMR; 0 SW, 1 Wolff, 2 observe, 3 grow; 0 nothing is kept, 1 totals
-pub record Coded (mode form keeps : ℕ) : Type 0 where
+-- 0 houd, 1 pair, 2 perm, 3 gperm, 4 Jörg, 5 CMR; 0 SW, 1 Wolff, 2 observe, 3 grow; 0 rows, 1 numbers; 0 nothing is kept, 1 totals.
+-- A coding is asked for in every mode and form, also where it is ignored
+pub record Coded (mode form coding keeps : ℕ) : Type 0 where
   pub mode-known : mode ≤ 5
   pub form-known : form ≤ 3
+  pub coding-known : coding ≤ 1
   pub keeps-known : keeps ≤ 1
 
 abbrev pub modeOf : ℕ → Mode
@@ -37,6 +41,10 @@ formOf zero = Sw
 formOf (suc zero) = Wolff
 formOf (suc (suc zero)) = Observe
 formOf (suc (suc (suc k))) = Grow
+
+abbrev pub codingOf : ℕ → Coding
+codingOf zero = Rows
+codingOf (suc k) = Numbers
 
 abbrev pub keepsOf : ℕ → Keeps
 keepsOf zero = Nothing
@@ -69,11 +77,12 @@ valuesTo (v ∷ vs) xs = v ∷ vs
 
 -- ---- laws
 
-pub coded : (mode form keeps : ℕ) → Dec (Coded mode form keeps)
-coded mode form keeps = go (decLe mode 5) (decLe form 3) (decLe keeps 1)
+pub coded : (mode form coding keeps : ℕ) → Dec (Coded mode form coding keeps)
+coded mode form coding keeps = go (decLe mode 5) (decLe form 3) (decLe coding 1) (decLe keeps 1)
   where
-    go : Dec (mode ≤ 5) → Dec (form ≤ 3) → Dec (keeps ≤ 1) → Dec (Coded mode form keeps)
-    go (yes m) (yes f) (yes k) = yes (record { mode-known = m; form-known = f; keeps-known = k })
-    go (yes m) (yes f) (no k) = no (λ c. k (c .keeps-known))
-    go (yes m) (no f) k = no (λ c. f (c .form-known))
-    go (no m) f k = no (λ c. m (c .mode-known))
+    go : Dec (mode ≤ 5) → Dec (form ≤ 3) → Dec (coding ≤ 1) → Dec (keeps ≤ 1) → Dec (Coded mode form coding keeps)
+    go (yes m) (yes f) (yes c) (yes k) = yes (record { mode-known = m; form-known = f; coding-known = c; keeps-known = k })
+    go (yes m) (yes f) (yes c) (no k) = no (λ d. k (d .keeps-known))
+    go (yes m) (yes f) (no c) k = no (λ d. c (d .coding-known))
+    go (yes m) (no f) c k = no (λ d. f (d .form-known))
+    go (no m) f c k = no (λ d. m (d .mode-known))

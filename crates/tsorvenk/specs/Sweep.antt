@@ -3,24 +3,26 @@ use Prim.Native.Nat.{ℕ}
 use mathlib.Core.Path.{_≡_}
 use mathlib.Core.Logic.{_⊎_}
 use mathlib.Core.Bool.{Bool}
-use mathlib.Core.List.{List, _∷_}
+use mathlib.Core.List.{List, [], _∷_}
 use lib.ListN.{length}
 use lib.IntN.{ℤ}
 use Rattle.paper.specs.declared.SweepAnswer.{SweepAnswer}
-use Rattle.paper.specs.declared.SweepAnswer.the-variants.{Fault, Swept}
+use Rattle.paper.specs.declared.SweepAnswer.the-variants.{Fault}
 use Rattle.paper.specs.Panel.Input.{Buffers}
 use Rattle.paper.specs.Refusal.Rule.{Rule, rule, Broken}
 use Rattle.paper.specs.Answer.Number.{sweepNumber, sweepValues}
 use Rattle.paper.specs.Answer.Task.{Sweep}
 use Rattle.paper.specs.Answer.Sweep.{SweepRanged}
-use Rattle.paper.specs.Answer.Totals.{sweptRules, SweepKeeps}
 use Rattle.paper.specs.Panel.Takes.{keepsBy}
 use Rattle.paper.specs.declared.Mode.{Mode}
 use Rattle.paper.specs.declared.Form.{Form}
 use Rattle.paper.specs.declared.Keeps.{Keeps}
 use Rattle.paper.specs.declared.Plan.{Plan}
 use Rattle.tasks.specs.Plan.{Planned}
-use Rattle.tsorvenk.specs.Number.{Coded, keepsOf, Returned, valuesTo}
+use Rattle.coded.specs.Takes.{numbersBy}
+use Rattle.coded.specs.Answer.{Five}
+use Rattle.coded.specs.Sweep.{SweepCodedAnswers}
+use Rattle.tsorvenk.specs.Number.{Coded, codingOf, keepsOf, Returned, valuesTo}
 
 -- the sweep's numbers
 abbrev pub planFor : Mode → Form → Keeps → ℕ → ℕ → ℕ → ℕ → ℕ → ℕ → Plan
@@ -45,43 +47,51 @@ pub record WithOutcomes : Type 0 where
 abbrev pub withOutcomes : Buffers → List ℤ → List ℕ → WithOutcomes
 withOutcomes b ts os = record { buffers = b; totals = ts; outcomes = os }
 
--- the sweep's rules, with the buffer of two counts as one more of test 2
+-- test 1: the sweep's, and groups of five where permutations are numbers
+pub record Fits (coded : Bool) (w : Sweep) : Type 0 where
+  pub ranged : SweepRanged w
+  pub five : Five coded (w .members)
+
+-- the buffer of two counts is one more of test 2
 abbrev pub outcomeRules : Bool → Sweep → WithOutcomes → List Rule
-outcomeRules keeping w l = rule 1 (SweepRanged w) ∷ rule 2 (length (l .outcomes) ≡ 2) ∷ sweptRules keeping w (l .buffers) (l .totals)
+outcomeRules coded w l = rule 1 (Fits coded w) ∷ rule 2 (length (l .outcomes) ≡ 2) ∷ []
 
--- swept, and the counts are written, idle tasks first
-pub record Sweeping (keeping : Bool) (w : Sweep) (l : WithOutcomes) (idle moved : ℕ) (l′ : WithOutcomes) : Type 0 where
-  pub room : length (l .outcomes) ≡ 2
-  pub counted : l′ .outcomes ≡ valuesTo (sweepValues (Swept idle moved)) (l .outcomes)
-  pub answers : SweepKeeps keeping w (l .buffers) (l .totals) idle moved (l′ .buffers) (l′ .totals)
+-- with room for the counts: the sweep's answer a, and those of a sweep that was swept are written, idle tasks first
+pub record Counted (coded keeping : Bool) (w : Sweep) (l : WithOutcomes) (a : SweepAnswer) (l′ : WithOutcomes) : Type 0 where
+  pub answers : SweepCodedAnswers coded keeping w (l .buffers) (l .totals) a (l′ .buffers) (l′ .totals)
+  pub counts : l′ .outcomes ≡ valuesTo (sweepValues a) (l .outcomes)
 
--- refused with the number r: nothing is written
-pub record Unswept (keeping : Bool) (w : Sweep) (l : WithOutcomes) (r : ℕ) (l′ : WithOutcomes) : Type 0 where
-  pub why : Broken (outcomeRules keeping w l) r
-  pub kept : l′ .buffers ≡ l .buffers
-  pub totals-kept : l′ .totals ≡ l .totals
-  pub uncounted : l′ .outcomes ≡ valuesTo (sweepValues (Fault r)) (l .outcomes)
+-- without it: refused with the number r, and nothing is written
+pub record Uncounted (coded : Bool) (w : Sweep) (l : WithOutcomes) (r : ℕ) (l′ : WithOutcomes) : Type 0 where
+  pub why : Broken (outcomeRules coded w l) r
+  pub kept : l′ ≡ l
 
--- the sweep's answer a may be given with the lent buffers l, which then hold l′
-abbrev pub OutcomeAnswers : Bool → Sweep → WithOutcomes → SweepAnswer → WithOutcomes → Type 0
-OutcomeAnswers keeping w l (Fault r) l′ = Unswept keeping w l (sweepNumber (Fault r)) l′
-OutcomeAnswers keeping w l (Swept idle moved) l′ = Sweeping keeping w l idle moved l′
+-- the number r may be returned with the lent buffers l, which then hold l′
+pub record OutcomeAnswers (coded keeping : Bool) (w : Sweep) (l : WithOutcomes) (r : ℕ) (l′ : WithOutcomes) : Type 0 where
+  pub roomed : length (l .outcomes) ≡ 2 → Returned sweepNumber (λ a. Counted coded keeping w l a l′) r
+  pub roomless : (length (l .outcomes) ≡ 2 → ⊥) → Uncounted coded w l r l′
 
 -- a code that is none is refused with 1
 pub record Uncoded (r : ℕ) (l l′ : WithOutcomes) : Type 0 where
   pub number : r ≡ sweepNumber (Fault 1)
   pub kept : l′ ≡ l
 
--- the number r is that of the answer to the sweep w, which has the mode and form of these codes, and keeps what the third says
-pub record SweepNumbers (mode form keeps : ℕ) (w : Sweep) (l : WithOutcomes) (r : ℕ) (l′ : WithOutcomes) : Type 0 where
-  pub known : Coded mode form keeps → Returned sweepNumber (λ a. OutcomeAnswers (keepsBy (keepsOf keeps) (w .form)) w l a l′) r
-  pub unknown : (Coded mode form keeps → ⊥) → Uncoded r l l′
+-- the number r is that of the answer to the sweep w, which has the mode and form of these codes, spells permutations as the third says and keeps
+-- what the fourth says
+pub record SweepNumbers (mode form coding keeps : ℕ) (w : Sweep) (l : WithOutcomes) (r : ℕ) (l′ : WithOutcomes) : Type 0 where
+  pub known : Coded mode form coding keeps
+      → OutcomeAnswers (numbersBy (codingOf coding) (w .mode) (w .form)) (keepsBy (keepsOf keeps) (w .form)) w l r l′
+  pub unknown : (Coded mode form coding keeps → ⊥) → Uncoded r l l′
 
 -- ---- what the parts of `tsorvenk_sweep` say
 
 -- without room for the counts test 1 decides
-abbrev pub Roomless : Plan → ℕ → Type 0
-Roomless q r = ((Planned q → ⊥) × (r ≡ 1)) ⊎ (Planned q × (r ≡ 2))
+pub record FitsPlan (coded : Bool) (q : Plan) : Type 0 where
+  pub planned : Planned q
+  pub five : Five coded (q .members)
+
+abbrev pub Roomless : Bool → Plan → ℕ → Type 0
+Roomless coded q r = ((FitsPlan coded q → ⊥) × (r ≡ 1)) ⊎ (FitsPlan coded q × (r ≡ 2))
 
 -- an answer as its number and its values
 pub record Told (a : SweepAnswer) (ts : List ℕ) (r : ℕ) (ts′ : List ℕ) : Type 0 where

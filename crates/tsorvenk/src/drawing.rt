@@ -4,7 +4,7 @@ use draws::Source;
 ghost use mathlib.Core.Path.{_≡_};
 ghost use lib.ListN.{length};
 ghost use Rattle.draws.specs.Promise.{WordDrawn, CoinDrawn, BelowDrawn, PermutationDrawn, FlipsFilled, BelowFilled, BytesFilled};
-ghost use Rattle.draws.specs.Promise.{PermutationsFilled, WolffFilled, GreysFilled};
+ghost use Rattle.draws.specs.Promise.{PermutationsFilled, WolffFilled, GreysFilled, NumbersFilled, WolffNumbersFilled};
 ghost use Rattle.tsorvenk.specs.Drawing.{sourceOf, Handed, Draws};
 
 fn source_of(words: &[u64]) -> Source
@@ -157,5 +157,29 @@ pub extern "C" fn tsorvenk_wolff_grey(source: &mut [u64], greys: &mut [u8]) -> u
         return 2;
     }
     let left = draws::fills::wolff_greys(source_of(source), greys);
+    hand_over(left, source)
+}
+
+// Permutations of five as numbers, 0 to 119.
+#[no_mangle]
+pub extern "C" fn tsorvenk_fill_numbers(source: &mut [u64], perms: &mut [u8]) -> u8
+    ensures { λ r. ⌜ Draws NumbersFilled (now (source .entry)) (now (perms .entry)) r (now (source .exit)) (now (perms .exit)) ⌝ }
+{
+    if source.len() != 4 {
+        return 2;
+    }
+    let left = draws::fills::fill_numbers(source_of(source), perms);
+    hand_over(left, source)
+}
+
+// The same without the identity, whose number is 0.
+#[no_mangle]
+pub extern "C" fn tsorvenk_wolff_numbers(source: &mut [u64], perms: &mut [u8]) -> u8
+    ensures { λ r. ⌜ Draws WolffNumbersFilled (now (source .entry)) (now (perms .entry)) r (now (source .exit)) (now (perms .exit)) ⌝ }
+{
+    if source.len() != 4 {
+        return 2;
+    }
+    let left = draws::fills::wolff_numbers(source_of(source), perms);
     hand_over(left, source)
 }

@@ -2,8 +2,10 @@
 mod drawing;
 mod framing;
 mod listing;
+mod numbering;
 mod sweeping;
 
+use coded::Coding;
 use label::Labelling;
 use lemmas::wide;
 use paper::Answer;
@@ -22,7 +24,7 @@ ghost use Rattle.paper.specs.Panel.Made.{latticeOf, callOf, choicesOf, buffersO
 ghost use Rattle.paper.specs.Refusal.Verdict.{Verdict};
 ghost use Rattle.paper.specs.Answer.Totals.{handOverRules};
 ghost use Rattle.steps.specs.Rule.{taskOf};
-ghost use Rattle.tsorvenk.specs.Number.{Coded, modeOf, formOf, keepsOf, groupOf, takenOf, numberOf};
+ghost use Rattle.tsorvenk.specs.Number.{Coded, modeOf, formOf, codingOf, keepsOf, groupOf, takenOf, numberOf};
 ghost use Rattle.tsorvenk.specs.Step.{withTotals, StepAnswers};
 ghost use Rattle.tsorvenk.specs.Energy.{EnergyAnswers};
 ghost use Rattle.tsorvenk.specs.Label.{LabelAnswers};
@@ -53,6 +55,16 @@ fn form_of(code: u8) -> Form
     }
 }
 
+fn coding_of(code: u8) -> Coding
+    requires { ⌜ code ≤ 1 ⌝ }
+    ensures { λ r. ⌜ r ≡ codingOf code ⌝ }
+{
+    match code {
+        0 => Coding::Rows,
+        _ => Coding::Numbers,
+    }
+}
+
 fn keeps_of(code: u8) -> Keeps
     requires { ⌜ code ≤ 1 ⌝ }
     ensures { λ r. ⌜ r ≡ keepsOf code ⌝ }
@@ -63,11 +75,11 @@ fn keeps_of(code: u8) -> Keeps
     }
 }
 
-// The codes are of a mode, of a form and of what is kept.
-fn codes_ok(mode: u8, form: u8, keeps: u8) -> bool
-    ensures { λ r. ⌜ Tells r (Coded mode form keeps) ⌝ }
+// The codes are of a mode, of a form, of a coding and of what is kept.
+fn codes_ok(mode: u8, form: u8, coding: u8, keeps: u8) -> bool
+    ensures { λ r. ⌜ Tells r (Coded mode form coding keeps) ⌝ }
 {
-    (mode <= 5) & (form <= 3) & (keeps <= 1)
+    (mode <= 5) & (form <= 3) & (coding <= 1) & (keeps <= 1)
 }
 
 fn system_at(group: &[u32], k: usize) -> usize
@@ -113,11 +125,12 @@ fn number_of(answer: Answer) -> u8
 }
 
 // One move or observation. The length of `group` is the number of its systems. Of `flips` and `perms` the mode takes one, and the other is ignored;
-// and so are the totals where they are not kept.
+// and so are the totals where they are not kept. The coding says whether `perms` has rows or numbers.
 #[no_mangle]
 pub extern "C" fn tsorvenk_step<'a>(
     mode: u8,
     form: u8,
+    coding: u8,
     keeps: u8,
     n: usize,
     d: usize,
@@ -143,7 +156,7 @@ pub extern "C" fn tsorvenk_step<'a>(
     found: &mut [u32],
     grey_found: &mut [u32],
 ) -> u8
-    ensures { λ r. ⌜ StepAnswers mode form keeps
+    ensures { λ r. ⌜ StepAnswers mode form coding keeps
         (callOf (taskOf (modeOf mode) (formOf form) (keepsOf keeps) n d s (groupOf (now (group .entry))) temperature reference seed)
         (now (fwd .entry)) (now (bwd .entry)) (now (couplings .entry)) (now (cuts .entry)))
         (choicesOf (takenOf (modeOf mode) (now (flips .entry)) (now (perms .entry))) (now (greys .entry)))
@@ -153,7 +166,7 @@ pub extern "C" fn tsorvenk_step<'a>(
         (withTotals (buffersOf (now (spins .exit)) (now (labels .exit)) (now («grey_labels» .exit)) (now (counts .exit)) (now (sizes .exit))
         (now («member_sites» .exit)) (now (found .exit)) (now («grey_found» .exit))) (now (totals .exit))) ⌝ }
 {
-    if !codes_ok(mode, form, keeps) {
+    if !codes_ok(mode, form, coding, keeps) {
         return 1;
     }
     let m = mode_of(mode);
@@ -169,7 +182,8 @@ pub extern "C" fn tsorvenk_step<'a>(
         reference,
         seed,
     };
-    let answer = steps::overlap_step(
+    let answer = coded::overlap_step_by(
+        coding_of(coding),
         t,
         spins,
         totals,

@@ -1,9 +1,11 @@
 // A sweep, as C and Rust call it.
 use super::codes_ok;
+use super::coding_of;
 use super::form_of;
 use super::keeps_of;
 use super::mode_of;
 use super::taken;
+use coded::Coding;
 use paper::Form;
 use paper::Keeps;
 use paper::Mode;
@@ -13,14 +15,17 @@ ghost use mathlib.Core.Path.{_≡_};
 ghost use lib.ListN.{length};
 ghost use Rattle.paper.specs.Panel.Made.{buffersOf};
 ghost use Rattle.paper.specs.Answer.Made.{sweepOf};
+ghost use Rattle.coded.specs.Takes.{numbersBy};
 ghost use Rattle.tsorvenk.specs.Number.{modeOf, formOf, keepsOf, takenOf};
 ghost use Rattle.tsorvenk.specs.Sweep.{planFor, Roomless, Told, withOutcomes, SweepNumbers};
 
-// What is refused for want of room for the two counts: test 1 comes first.
-fn roomless(plan: Plan) -> u8
-    ensures { λ r. ⌜ Roomless plan r ⌝ }
+// What is refused for want of room for the two counts: test 1 comes first. By numbers it asks for groups of five.
+fn roomless(coding: Coding, plan: Plan) -> u8
+    ensures { λ r. ⌜ Roomless (numbersBy coding (plan .mode) (plan .form)) plan r ⌝ }
 {
-    if sweep_tests::plan_ok(plan) {
+    let mode = plan.mode;
+    let form = plan.form;
+    if sweep_tests::plan_ok(plan) & (!coding.numbers(mode, form) | (plan.members == 5)) {
         return 2;
     }
     1
@@ -46,6 +51,7 @@ fn tell(answer: SweepAnswer, outcomes: &mut [u32]) -> u8
 pub extern "C" fn tsorvenk_sweep<'a>(
     mode: u8,
     form: u8,
+    coding: u8,
     keeps: u8,
     n: usize,
     d: usize,
@@ -76,7 +82,7 @@ pub extern "C" fn tsorvenk_sweep<'a>(
     grey_found: &mut [u32],
     outcomes: &mut [u32],
 ) -> u8
-    ensures { λ k. ⌜ SweepNumbers mode form keeps
+    ensures { λ k. ⌜ SweepNumbers mode form coding keeps
         (sweepOf (planFor (modeOf mode) (formOf form) (keepsOf keeps) n d s t r members) (now (fwd .entry)) (now (bwd .entry))
         (now (couplings .entry)) (now (order .entry)) (now (masks .entry)) (now (temperatures .entry)) (now (cuts .entry))
         (now (references .entry)) (now (seeds .entry))
@@ -87,7 +93,7 @@ pub extern "C" fn tsorvenk_sweep<'a>(
         (withOutcomes (buffersOf (now (spins .exit)) (now (labels .exit)) (now («grey_labels» .exit)) (now (counts .exit)) (now (sizes .exit))
         (now («member_sites» .exit)) (now (found .exit)) (now («grey_found» .exit))) (now (totals .exit)) (now (outcomes .exit))) ⌝ }
 {
-    if !codes_ok(mode, form, keeps) {
+    if !codes_ok(mode, form, coding, keeps) {
         return 1;
     }
     let m = mode_of(mode);
@@ -102,10 +108,12 @@ pub extern "C" fn tsorvenk_sweep<'a>(
         r,
         members,
     };
+    let c = coding_of(coding);
     if outcomes.len() != 2 {
-        return roomless(plan);
+        return roomless(c, plan);
     }
-    let answer = sweep::overlap_update(
+    let answer = coded::overlap_update_by(
+        c,
         plan,
         spins,
         totals,

@@ -60,6 +60,22 @@ impl Form {
     }
 }
 
+/// How a permutation is spelt (8/14).
+#[derive(Clone, Copy, Debug, PartialEq, Eq)]
+pub enum Coding {
+    Rows = 0,
+    Numbers = 1,
+}
+
+impl Coding {
+    pub const ALL: [Coding; 2] = [Coding::Rows, Coding::Numbers];
+
+    /// Whether a call of this mode and form takes numbers: where it takes no permutations the coding is ignored.
+    pub fn numbers(self, mode: Mode, form: Form) -> bool {
+        self == Coding::Numbers && mode.permutes() && form != Form::Observe
+    }
+}
+
 /// What a call keeps beside the spins (6/14).
 #[derive(Clone, Copy, Debug, PartialEq, Eq)]
 pub enum Keeps {
@@ -99,6 +115,7 @@ pub enum MeterAnswer {
 pub struct Step<'a> {
     pub mode: Mode,
     pub form: Form,
+    pub coding: Coding,
     pub keeps: Keeps,
     pub n: usize,
     pub d: usize,
@@ -131,6 +148,7 @@ impl<'a> Step<'a> {
         Sweep {
             mode: self.mode,
             form: self.form,
+            coding: self.coding,
             keeps: self.keeps,
             n: self.n,
             d: self.d,
@@ -167,6 +185,7 @@ impl<'a> Step<'a> {
 pub struct Sweep<'a> {
     pub mode: Mode,
     pub form: Form,
+    pub coding: Coding,
     pub keeps: Keeps,
     pub n: usize,
     pub d: usize,

@@ -4,8 +4,10 @@
 //! damaged; damaged calls go to the model and the port alone, since the Rust checks nothing. Before them come all single
 //! moves of those small shapes that have at most 100 times as many, and no more than 200000. A call that grows is also held
 //! to Wolff's call with the same seed, cuts and choices, damaged or not. Half of the calls keep totals, and all of the small
-//! shapes. Last come days that keep totals, a thousand calls each on one panel, one day for every 50 cases.
-use calls::{Form, Mode, Port};
+//! shapes. A call of perm or gperm that moves a group of five is made again by numbers, damaged or not, and held to what the
+//! rows gave; with groups of other sizes it is refused. Half as many calls more are of groups of five, with faults among their
+//! numbers too. Last come days that keep totals, a thousand calls each on one panel, one day for every 50 cases.
+use calls::{Coding, Form, Mode, Port};
 use std::process::ExitCode;
 use tsorvenk_runs::compare::{self, keep, Found, Line};
 use tsorvenk_runs::make::{self, Size};
@@ -64,6 +66,32 @@ impl Run {
         self.note(found);
     }
 
+    /// A move and a sweep of groups of five; damaged ones by rows and by numbers.
+    fn of_five(&mut self, mode: Mode, form: Form, number: u64, line: &mut Line) {
+        let mut rand = self.rand(mode, form, 2, number);
+        let size = Size::mixed(&mut rand);
+        let mut case = make::single_of(&mut rand, mode, form, size, 5);
+        let mut coded = case.by_number();
+        damage::single(&mut rand, &mut coded);
+        let found = compare::single(&case, self.port.as_mut(), line);
+        self.note(found);
+        damage::single(&mut rand, &mut case);
+        for case in [case, coded] {
+            let found = compare::damaged_single(&case, self.port.as_mut(), line);
+            self.note(found);
+        }
+        let mut case = make::swept_of(&mut rand, mode, form, size, 5);
+        let mut coded = case.by_number();
+        damage::swept(&mut rand, &mut coded);
+        let found = compare::swept(&case, self.port.as_mut(), line);
+        self.note(found);
+        damage::swept(&mut rand, &mut case);
+        for case in [case, coded] {
+            let found = compare::damaged_sweep(&case, self.port.as_mut(), line);
+            self.note(found);
+        }
+    }
+
     fn days(&mut self) -> days::Tally {
         let mut tally = days::Tally::default();
         for number in 0..self.cases.div_ceil(50) {
@@ -83,6 +111,9 @@ impl Run {
         for number in 0..self.cases {
             self.single(mode, form, number, &mut line);
             self.sweep(mode, form, number, &mut line);
+            if number % 2 == 0 && Coding::Numbers.numbers(mode, form) {
+                self.of_five(mode, form, number, &mut line);
+            }
         }
         line
     }
@@ -93,7 +124,7 @@ fn print(mode: Mode, form: Form, line: &Line) {
         "{:5} {:7} singles {:6} (all small: {:6}) sweeps {:6} | \
         Rust: labelled {:6} depth first {:6} acting sites {:6} | beside Wolff {:6} | odd N {:5} idle {:6} | \
         port {:6} | damaged {:6} refused {:?} | \
-        totals kept {:6} handed over {:?} | differences {}",
+        by number {:5} not of five {:6} | totals kept {:6} handed over {:?} | differences {}",
         mode.name(),
         form.name(),
         line.singles,
@@ -108,6 +139,8 @@ fn print(mode: Mode, form: Form, line: &Line) {
         line.port,
         line.damaged,
         &line.refused[1..],
+        line.by_number,
+        line.not_of_five,
         line.kept,
         line.handed,
         line.differences,
@@ -116,13 +149,14 @@ fn print(mode: Mode, form: Form, line: &Line) {
 
 fn print_days(tally: &days::Tally) {
     println!(
-        "days of {} calls {:4} | moved {:6} idle {:5} observed {:5} swept {:6} refused {:?} | differences {}",
+        "days of {} calls {:4} | moved {:6} idle {:5} observed {:5} swept {:6} by number {:5} refused {:?} | differences {}",
         days::CALLS,
         tally.days,
         tally.moved,
         tally.idle,
         tally.observed,
         tally.swept,
+        tally.by_number,
         &tally.refused[1..],
         tally.differences,
     );

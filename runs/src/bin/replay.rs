@@ -1,6 +1,6 @@
 //! replay: prints the replay list, a sample of the published Rust's answers (format: src/replay.rs).
 //! replay check < list: replays a list with the model, and with the port where it is linked.
-use calls::{Answer, Form, Keeps, Mode, Port, SweepAnswer};
+use calls::{Answer, Coding, Form, Keeps, Mode, Port, SweepAnswer};
 use std::io::Read;
 use std::process::ExitCode;
 use tsorvenk_runs::case::{Lent, Single, Swept};
@@ -83,7 +83,7 @@ fn tidy(case: &mut Swept) {
     }
     lent.member_sites.clear();
     lent.totals.clear();
-    panel.keeps = Keeps::Nothing;
+    (panel.coding, panel.keeps) = (Coding::Rows, Keeps::Nothing);
 }
 
 /// The acting sites of each unmasked task, as the Rust's own seed search finds them; in CMR every site.

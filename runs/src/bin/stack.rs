@@ -1,7 +1,7 @@
 //! stack: how much of the stack each call of the port uses, at the largest sizes.
 //!
 //! The part of the stack that a call will use is painted first; what is no longer paint after it was used.
-use calls::{Form, Label, Mode, Port};
+use calls::{Coding, Form, Label, Mode, Port};
 use std::hint::black_box;
 use std::mem::MaybeUninit;
 use tsorvenk_runs::port;
@@ -52,6 +52,15 @@ fn run(port: &mut dyn Port) {
         let case = timing::swept(&mut rand, mode, form, 4, members);
         let mut lent = case.lent.clone();
         line("  its sweep", || port.sweep(case.sweep(&mut lent)));
+        if Coding::Numbers.numbers(mode, form) {
+            let panel = timing::panel(&mut rand, mode, form, 4, 64);
+            let case = timing::single(&mut rand, panel, 5).by_number();
+            let mut lent = case.lent.clone();
+            line("  by number", || port.step(case.step(&mut lent)));
+            let case = timing::swept(&mut rand, mode, form, 4, 5).by_number();
+            let mut lent = case.lent.clone();
+            line("  its sweep", || port.sweep(case.sweep(&mut lent)));
+        }
     };
     for mode in Mode::ALL {
         Form::ALL.iter().for_each(|&form| most(mode, form));

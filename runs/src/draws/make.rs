@@ -10,7 +10,7 @@ pub struct Case {
     pub out: Out,
 }
 
-pub const KINDS: usize = 10;
+pub const KINDS: usize = 12;
 
 fn below(rand: &mut Rand, most: u32) -> u32 {
     let any = rand.range(1, most as usize) as u32;
@@ -29,7 +29,9 @@ fn draw(rand: &mut Rand, kind: usize) -> Draw {
         6 => Draw::Bytes(below(rand, 256)),
         7 => Draw::Rows(members),
         8 => Draw::WolffRows(members),
-        _ => Draw::WolffGreys,
+        9 => Draw::WolffGreys,
+        10 => Draw::Orders,
+        _ => Draw::WolffOrders,
     }
 }
 
@@ -83,12 +85,14 @@ pub fn again(rand: &mut Rand) -> (Case, usize) {
     loop {
         let turns = rand.range(1, 4);
         let at = rand.range(0, 20);
-        let kind = rand.pick(&[2, 3, 5, 6, 7, 8, 9]);
+        let kind = rand.pick(&[2, 3, 5, 6, 7, 8, 9, 10, 11]);
         let draw = draw(rand, kind);
         let (m, skipped, length) = match draw {
             Draw::Below(m) => (m, 0, 1),
             Draw::Numbers(m) | Draw::Bytes(m) => (m, at, at + 5),
             Draw::WolffGreys => (3, at, at + 5),
+            Draw::Orders => (120, at, at + 5),
+            Draw::WolffOrders => (119, at, at + 5),
             Draw::Permutation(members) | Draw::Rows(members) | Draw::WolffRows(members) => {
                 let row = if kind == 7 { at } else { 0 };
                 let place = rand.range(1, members - 1);

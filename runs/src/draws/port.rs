@@ -35,6 +35,8 @@ mod linked {
         fn tsorvenk_fill_permutations(members: usize, source: *mut u64, source_len: usize, rows: *mut u8, rows_len: usize) -> u8;
         fn tsorvenk_wolff_permutation(members: usize, source: *mut u64, source_len: usize, rows: *mut u8, rows_len: usize) -> u8;
         fn tsorvenk_wolff_grey(source: *mut u64, source_len: usize, greys: *mut u8, greys_len: usize) -> u8;
+        fn tsorvenk_fill_numbers(source: *mut u64, source_len: usize, perms: *mut u8, perms_len: usize) -> u8;
+        fn tsorvenk_wolff_numbers(source: *mut u64, source_len: usize, perms: *mut u8, perms_len: usize) -> u8;
     }
 
     #[rustfmt::skip]
@@ -53,6 +55,8 @@ mod linked {
                 (Draw::Rows(n), Out::Bytes(o)) => tsorvenk_fill_permutations(n, s, four, o.as_mut_ptr(), o.len()),
                 (Draw::WolffRows(n), Out::Bytes(o)) => tsorvenk_wolff_permutation(n, s, four, o.as_mut_ptr(), o.len()),
                 (Draw::WolffGreys, Out::Bytes(o)) => tsorvenk_wolff_grey(s, four, o.as_mut_ptr(), o.len()),
+                (Draw::Orders, Out::Bytes(o)) => tsorvenk_fill_numbers(s, four, o.as_mut_ptr(), o.len()),
+                (Draw::WolffOrders, Out::Bytes(o)) => tsorvenk_wolff_numbers(s, four, o.as_mut_ptr(), o.len()),
                 (draw, out) => unreachable!("{draw:?} does not write {out:?}"),
             }
         }

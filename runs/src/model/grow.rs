@@ -1,6 +1,6 @@
 //! Request 5/14: the seed's component alone, found depth first. Bonds are judged when they are asked for, on the spins before the move.
 use super::bonds::{acts, column, holds};
-use super::moves::{flip, negate_bits, permuted_by};
+use super::moves::{flip, lent_permutation, negate_bits, permuted_by};
 use super::{Panel, Task};
 use calls::Mode;
 
@@ -43,7 +43,7 @@ pub fn grown(panel: Panel, task: &Task) -> Grown {
     }
     let after = |i: usize| {
         if task.mode.permutes() && members[i] {
-            return permuted_by(panel, task, task.perms, i);
+            return permuted_by(panel, task, &lent_permutation(task, 0), i);
         }
         let mut spins = column(panel, &task.group, i);
         if first[i] {

@@ -1,8 +1,9 @@
 //! What moves in the forms that label; the form that grows is in grow.rs.
 use super::bonds::{acts, column, holding};
 use super::components::Components;
+use super::orders::orders;
 use super::{Panel, Task};
-use calls::{Form, Mode};
+use calls::{Coding, Form, Mode};
 
 pub struct Outcome {
     pub idle: bool,
@@ -36,12 +37,21 @@ fn flip_chosen(task: &Task, of: &Components, i: usize) -> bool {
     }
 }
 
+/// The permutation that is lent at this place.
+pub fn lent_permutation(task: &Task, place: usize) -> Vec<u8> {
+    let members = task.group.len();
+    match task.coding {
+        Coding::Rows => task.perms[place * members..(place + 1) * members].to_vec(),
+        Coding::Numbers => orders()[usize::from(task.perms[place])].to_vec(),
+    }
+}
+
 /// The permutation chosen for site i, if its component has one.
-fn permutation<'a>(task: &Task<'a>, of: &Components, i: usize) -> Option<&'a [u8]> {
-    let (label, members) = (of.labels[i], task.group.len());
+fn permutation(task: &Task, of: &Components, i: usize) -> Option<Vec<u8>> {
+    let label = of.labels[i];
     match task.form {
-        Form::Sw => Some(&task.perms[label * members..(label + 1) * members]),
-        Form::Wolff => (label == of.labels[task.seed]).then_some(task.perms),
+        Form::Sw => Some(lent_permutation(task, label)),
+        Form::Wolff => (label == of.labels[task.seed]).then(|| lent_permutation(task, 0)),
         Form::Observe => None,
         Form::Grow => unreachable!("it labels nothing"),
     }
@@ -87,7 +97,7 @@ pub fn permuted_by(panel: Panel, task: &Task, p: &[u8], i: usize) -> Vec<i8> {
 /// Site i's spins after the permutation of its component, if it acts and one is chosen.
 fn permuted(panel: Panel, task: &Task, first: &Components, i: usize) -> Vec<i8> {
     match permutation(task, first, i) {
-        Some(p) if acts(panel, task, i) => permuted_by(panel, task, p, i),
+        Some(p) if acts(panel, task, i) => permuted_by(panel, task, &p, i),
         _ => column(panel, &task.group, i),
     }
 }

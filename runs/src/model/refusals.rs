@@ -1,7 +1,7 @@
 //! The refusal tests, each by itself; the calls ask them in the order of their numbers.
 use super::bonds::acts;
 use super::{Panel, Task};
-use calls::{Form, Mode};
+use calls::{Coding, Form, Mode};
 
 pub fn sizes_refused(n: usize, d: usize, s: usize) -> bool {
     !(1..=4096).contains(&n) || !(1..=4).contains(&d) || !(1..=64).contains(&s)
@@ -9,6 +9,11 @@ pub fn sizes_refused(n: usize, d: usize, s: usize) -> bool {
 
 pub fn members_refused(mode: Mode, members: usize) -> bool {
     !(2..=8).contains(&members) || (mode == Mode::Cmr && members != 2)
+}
+
+/// Numbers are those of the permutations of five.
+pub fn coding_refused(numbers: bool, members: usize) -> bool {
+    numbers && members != 5
 }
 
 pub fn panel_length_refused(panel: Panel) -> bool {
@@ -118,6 +123,17 @@ pub fn lengths(
     }
 }
 
+impl Lengths {
+    /// The same where a permutation is a row of `members` bytes, or a number of one.
+    pub fn spelt(self, coding: Coding, members: usize) -> Lengths {
+        let perms = match coding {
+            Coding::Rows => self.perms,
+            Coding::Numbers => self.perms.map(|bytes| bytes / members),
+        };
+        Lengths { perms, ..self }
+    }
+}
+
 pub fn differs(wanted: Option<usize>, found: usize) -> bool {
     wanted.is_some_and(|wanted| wanted != found)
 }
@@ -147,7 +163,10 @@ pub fn panel_refusal(
 pub fn choices_refused(panel: Panel, task: &Task) -> bool {
     let permutes = task.mode.permutes();
     let reference = task.mode == Mode::Gperm && task.reference >= panel.n;
+    let numbers = task.coding.numbers(task.mode, task.form);
     let choices = match task.form {
+        Form::Sw if numbers => task.perms.iter().any(|number| !(0..=119).contains(number)),
+        Form::Wolff | Form::Grow if numbers => !(1..=119).contains(&task.perms[0]),
         Form::Sw if permutes => task.perms.chunks(task.group.len()).any(permutation_refused),
         Form::Sw => {
             let grey = task.mode == Mode::Cmr && task.greys.iter().any(|&grey| grey > 3);

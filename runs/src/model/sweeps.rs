@@ -19,12 +19,14 @@ fn taken<T>(wanted: Option<usize>, buffer: &[T], task: usize) -> &[T] {
 pub fn sweep_task<'a>(call: &'a Sweep, number: usize) -> Task<'a> {
     let groups = call.r / call.members;
     let (j, g) = (number / groups, number % groups);
-    let each = lengths(call.mode, call.form, call.n, call.d, call.members, 1);
+    let each = lengths(call.mode, call.form, call.n, call.d, call.members, 1)
+        .spelt(call.coding, call.members);
     let from = j * call.r + g * call.members;
     let first = |numbers: &[u32]| numbers.first().map_or(0, |&number| number as usize);
     Task {
         mode: call.mode,
         form: call.form,
+        coding: call.coding,
         group: systems(&call.order[from..from + call.members]),
         temperature: if call.mode.draws() {
             call.temperatures[j]
@@ -42,7 +44,8 @@ pub fn sweep_task<'a>(call: &'a Sweep, number: usize) -> Task<'a> {
 
 fn sweep_length_refused(call: &Sweep) -> bool {
     let tasks = call.t * (call.r / call.members);
-    let exact = lengths(call.mode, call.form, call.n, call.d, call.members, tasks);
+    let exact = lengths(call.mode, call.form, call.n, call.d, call.members, tasks)
+        .spelt(call.coding, call.members);
     panel_length_refused(panel_of!(call))
         || differs(exact.couplings, call.couplings.len())
         || call.order.len() != call.s
@@ -77,6 +80,7 @@ pub fn sweep_refusal(call: &Sweep) -> Option<u8> {
     let all = call.t as u128 * call.r as u128;
     if sizes_refused(call.n, call.d, call.s)
         || members_refused(call.mode, call.members)
+        || coding_refused(call.coding.numbers(call.mode, call.form), call.members)
         || all != call.s as u128
         || call.members > call.r
     {

@@ -1,6 +1,6 @@
 //! Calls written by hand, run by the model and by the Rust and the port where they are there.
 #![allow(dead_code)] // Each test file uses a part.
-use calls::{Answer, Form, Keeps, Mode, SweepAnswer};
+use calls::{Answer, Coding, Form, Keeps, Mode, SweepAnswer};
 use published_patched::Branch;
 use tsorvenk_runs::case::{Bonds, Choices, Lent, Panel, Single, Swept};
 use tsorvenk_runs::idle;
@@ -36,6 +36,7 @@ pub fn call(mode: Mode, form: Form, fwd: &[u32], rows: &[&str]) -> Single {
         panel: Panel {
             mode,
             form,
+            coding: Coding::Rows,
             keeps: Keeps::Nothing,
             n,
             d: 1,
@@ -98,7 +99,7 @@ pub fn run(case: &Single) -> (Answer, Lent) {
     }
     if let Answer::Refused(_) = answer.0 {
         assert_eq!(answer.1, case.lent, "{case:?}");
-    } else if published_patched::PRESENT {
+    } else if published_patched::PRESENT && !case.panel.numbers() {
         let mut lent = case.lent.clone();
         if case.panel.form == Form::Grow {
             published_patched::step(case.step(&mut lent), Branch::DepthFirst);

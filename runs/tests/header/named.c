@@ -36,7 +36,7 @@ static void held(int so, const char *call, const char *field) {
     held(call.field ? field == call.field && field##_len == call.field##_len \
                     : field != NULL && (uintptr_t)field % sizeof *field == 0 && field##_len == 0, #call, #field)
 
-uint8_t tsorvenk_step(uint8_t mode, uint8_t form, uint8_t keeps, size_t n, size_t d, size_t s,
+uint8_t tsorvenk_step(uint8_t mode, uint8_t form, uint8_t coding, uint8_t keeps, size_t n, size_t d, size_t s,
     int8_t *spins, size_t spins_len, int64_t *totals, size_t totals_len,
     const uint32_t *fwd, size_t fwd_len, const uint32_t *bwd, size_t bwd_len,
     const int32_t *couplings, size_t couplings_len, const uint32_t *group, size_t group_len,
@@ -46,8 +46,9 @@ uint8_t tsorvenk_step(uint8_t mode, uint8_t form, uint8_t keeps, size_t n, size_
     uint32_t *counts, size_t counts_len, uint32_t *sizes, size_t sizes_len,
     uint8_t *member_sites, size_t member_sites_len,
     uint32_t *found, size_t found_len, uint32_t *grey_found, size_t grey_found_len) {
-    NUMBER(step, mode), NUMBER(step, form), NUMBER(step, keeps), NUMBER(step, n), NUMBER(step, d), NUMBER(step, s);
-    NUMBER(step, temperature), NUMBER(step, reference), NUMBER(step, seed), BUFFER(step, totals);
+    NUMBER(step, mode), NUMBER(step, form), NUMBER(step, coding), NUMBER(step, keeps);
+    NUMBER(step, n), NUMBER(step, d), NUMBER(step, s), BUFFER(step, totals);
+    NUMBER(step, temperature), NUMBER(step, reference), NUMBER(step, seed);
     BUFFER(step, spins), BUFFER(step, fwd), BUFFER(step, bwd), BUFFER(step, couplings), BUFFER(step, group);
     BUFFER(step, cuts), BUFFER(step, flips), BUFFER(step, perms), BUFFER(step, greys);
     BUFFER(step, labels), BUFFER(step, grey_labels), BUFFER(step, counts), BUFFER(step, sizes);
@@ -55,7 +56,7 @@ uint8_t tsorvenk_step(uint8_t mode, uint8_t form, uint8_t keeps, size_t n, size_
     return 101;
 }
 
-uint8_t tsorvenk_sweep(uint8_t mode, uint8_t form, uint8_t keeps, size_t n, size_t d, size_t s,
+uint8_t tsorvenk_sweep(uint8_t mode, uint8_t form, uint8_t coding, uint8_t keeps, size_t n, size_t d, size_t s,
     size_t t, size_t r, size_t members, int8_t *spins, size_t spins_len, int64_t *totals, size_t totals_len,
     const uint32_t *fwd, size_t fwd_len, const uint32_t *bwd, size_t bwd_len,
     const int32_t *couplings, size_t couplings_len, const uint32_t *order, size_t order_len,
@@ -68,8 +69,9 @@ uint8_t tsorvenk_sweep(uint8_t mode, uint8_t form, uint8_t keeps, size_t n, size
     uint8_t *member_sites, size_t member_sites_len,
     uint32_t *found, size_t found_len, uint32_t *grey_found, size_t grey_found_len,
     uint32_t *outcomes, size_t outcomes_len) {
-    NUMBER(sweep, mode), NUMBER(sweep, form), NUMBER(sweep, keeps), NUMBER(sweep, n), NUMBER(sweep, d), NUMBER(sweep, s);
-    NUMBER(sweep, t), NUMBER(sweep, r), NUMBER(sweep, members), BUFFER(sweep, totals);
+    NUMBER(sweep, mode), NUMBER(sweep, form), NUMBER(sweep, coding), NUMBER(sweep, keeps);
+    NUMBER(sweep, n), NUMBER(sweep, d), NUMBER(sweep, s), BUFFER(sweep, totals);
+    NUMBER(sweep, t), NUMBER(sweep, r), NUMBER(sweep, members);
     BUFFER(sweep, spins), BUFFER(sweep, fwd), BUFFER(sweep, bwd), BUFFER(sweep, couplings), BUFFER(sweep, order);
     BUFFER(sweep, masks), BUFFER(sweep, temperatures), BUFFER(sweep, cuts), BUFFER(sweep, references);
     BUFFER(sweep, seeds), BUFFER(sweep, flips), BUFFER(sweep, perms), BUFFER(sweep, greys);
@@ -155,6 +157,16 @@ uint8_t tsorvenk_wolff_grey(uint64_t *source, size_t source_len, uint8_t *greys,
     return 114;
 }
 
+uint8_t tsorvenk_fill_numbers(uint64_t *source, size_t source_len, uint8_t *perms, size_t perms_len) {
+    BUFFER(draw, source), BUFFER(draw, perms);
+    return 118;
+}
+
+uint8_t tsorvenk_wolff_numbers(uint64_t *source, size_t source_len, uint8_t *perms, size_t perms_len) {
+    BUFFER(draw, source), BUFFER(draw, perms);
+    return 119;
+}
+
 uint8_t tsorvenk_read_edges(size_t n, size_t d, const uint32_t *fwd, size_t fwd_len, const uint32_t *bwd, size_t bwd_len,
     const uint8_t *text, size_t text_len, int32_t *couplings, size_t couplings_len) {
     NUMBER(reading, n), NUMBER(reading, d);
@@ -186,6 +198,8 @@ static void call_all(void) {
     held(tsorvenk_fill_permutations_with(&draw) == 112, "fill_permutations", "the answer");
     held(tsorvenk_wolff_permutation_with(&draw) == 113, "wolff_permutation", "the answer");
     held(tsorvenk_wolff_grey_with(&draw) == 114, "wolff_grey", "the answer");
+    held(tsorvenk_fill_numbers_with(&draw) == 118, "fill_numbers", "the answer");
+    held(tsorvenk_wolff_numbers_with(&draw) == 119, "wolff_numbers", "the answer");
     held(tsorvenk_read_edges_with(&reading) == 115, "read_edges", "the answer");
     held(tsorvenk_write_edges_with(&writing) == 116, "write_edges", "the answer");
 }
@@ -193,7 +207,7 @@ static void call_all(void) {
 int main(void) {
     call_all(); /* everything is left out */
     step = (struct tsorvenk_step_args){
-        .mode = 1, .form = 2, .keeps = 9, .n = 3, .d = 4, .s = 5, .temperature = 6, .reference = 7, .seed = 8,
+        .mode = 1, .form = 2, .coding = 32, .keeps = 9, .n = 3, .d = 4, .s = 5, .temperature = 6, .reference = 7, .seed = 8,
         .totals = i64, .totals_len = 24,
         .spins = i8, .spins_len = 10, .fwd = u32, .fwd_len = 11, .bwd = u32 + 1, .bwd_len = 12,
         .couplings = i32, .couplings_len = 13, .group = u32 + 2, .group_len = 14, .cuts = f32, .cuts_len = 15,
@@ -204,7 +218,7 @@ int main(void) {
         .found = u32 + 7, .found_len = 25, .grey_found = u32 + 8, .grey_found_len = 26,
     };
     sweep = (struct tsorvenk_sweep_args){
-        .mode = 1, .form = 2, .keeps = 9, .n = 3, .d = 4, .s = 5, .t = 6, .r = 7, .members = 8,
+        .mode = 1, .form = 2, .coding = 32, .keeps = 9, .n = 3, .d = 4, .s = 5, .t = 6, .r = 7, .members = 8,
         .totals = i64, .totals_len = 29,
         .spins = i8, .spins_len = 10, .fwd = u32, .fwd_len = 11, .bwd = u32 + 1, .bwd_len = 12,
         .couplings = i32, .couplings_len = 13, .order = u32 + 2, .order_len = 14, .masks = u8, .masks_len = 15,
@@ -234,7 +248,7 @@ int main(void) {
         .m = 1, .members = 2, .source = u64, .source_len = 10, .word = u64 + 1, .word_len = 11,
         .coin = u8, .coin_len = 12, .number = u32, .number_len = 13, .row = u8 + 1, .row_len = 14,
         .flips = u8 + 2, .flips_len = 15, .numbers = u32 + 1, .numbers_len = 16, .bytes = u8 + 3, .bytes_len = 17,
-        .rows = u8 + 4, .rows_len = 18, .greys = u8 + 5, .greys_len = 19,
+        .rows = u8 + 4, .rows_len = 18, .greys = u8 + 5, .greys_len = 19, .perms = u8 + 6, .perms_len = 20,
     };
     reading = (struct tsorvenk_read_edges_args){
         .n = 1, .d = 2, .fwd = u32, .fwd_len = 11, .bwd = u32 + 1, .bwd_len = 12, .text = u8, .text_len = 13,

@@ -1,9 +1,9 @@
--- `tsorvenk_step` meets its contract: a code that is none is refused, and any other call is answered by `overlap_step`.
+-- `tsorvenk_step` meets its contract: a code that is none is refused, and any other call is answered by `overlap_step_by`.
 use borrow.Author.Needs.{needs}
 use denote.Ref.{now}
 use Rattle.lemmas.specs.Tells.{passed, refused}
 use Rattle.tsorvenk.specs.Number.{Coded}
-use Rattle.tsorvenk.proofs.Told.{unknown-code, known-code, same-keeping, same-call, same-choices}
+use Rattle.tsorvenk.proofs.Told.{unknown-code, known-code, same-coding, same-keeping, same-call, same-choices}
 use Rattle.tsorvenk.proofs.tsorvenk_step.Statement.{statement}
 use Rattle.tsorvenk.proofs.tsorvenk_step.Tie as tie
 
@@ -11,7 +11,7 @@ abbrev S : tie.After-codes-ok → tie.Start
 S k = k .before .before .before .before .before .before .before .before .before .before .before .before .before .before .before
 
 -- the codes are known from here on
-known : (e : tie.Else1) → let a = S (e .before) .args in Coded (a .mode) (a .form) (a .keeps)
+known : (e : tie.Else1) → let a = S (e .before) .args in Coded (a .mode) (a .form) (a .coding) (a .keeps)
 known e = passed (e .before .codes-ok .result) (e .if1 .left) (e .before .codes-ok .ensures)
 
 codes-ok-requires : tie.Need-codes-ok-requires
@@ -32,11 +32,14 @@ keeps-of-requires c κs = known (c .before .before) .keeps-known
 group-of-requires : tie.Need-group-of-requires
 group-of-requires c κs = search needs
 
+coding-of-requires : tie.Need-coding-of-requires
+coding-of-requires c κs = known (c .before .before .before .before) .coding-known
+
 taken-requires : tie.Need-taken-requires
 taken-requires c κs = search needs
 
-overlap-step-requires : tie.Need-overlap-step-requires
-overlap-step-requires c κs = search needs
+overlap-step-by-requires : tie.Need-overlap-step-by-requires
+overlap-step-by-requires c κs = search needs
 
 number-of-requires : tie.Need-number-of-requires
 number-of-requires c κs = search needs
@@ -68,21 +71,23 @@ same-length-8 c = search needs
 same-length-9 : tie.Need-same-length-9
 same-length-9 c = search needs
 
-abbrev step-of : tie.After-number-of → tie.After-overlap-step
+abbrev step-of : tie.After-number-of → tie.After-overlap-step-by
 step-of c = c .before .before .before .before .before .before .before .before .before .before .before .before .before .before .before .before .before
 
 returns-2 : tie.Need-returns-2
 returns-2 c =
     let o = step-of c in
     let t = o .before .before .before .before .before .before .before .before in
-    let g = t .before .before .before in
+    let q = t .before .before .before in
+    let g = q .before in
     let k = g .before in
     let f = k .before in
     let m = f .before in
     let a = S (m .before .before) .args in
-    known-code (o .overlap-step .result) (c .number-of .ensures) (same-keeping (k .keeps-of .ensures) (f .form-of .ensures))
+    known-code (o .overlap-step-by .result) (c .number-of .ensures)
+    (same-coding (q .coding-of .ensures) (m .mode-of .ensures) (f .form-of .ensures)) (same-keeping (k .keeps-of .ensures) (f .form-of .ensures))
     (same-call (m .mode-of .ensures) (f .form-of .ensures) (g .group-of .ensures))
-    (same-choices (now (a .flips)) (now (a .perms)) (t .taken .ensures) (m .mode-of .ensures)) (known (m .before)) (o .overlap-step .ensures)
+    (same-choices (now (a .flips)) (now (a .perms)) (t .taken .ensures) (m .mode-of .ensures)) (known (m .before)) (o .overlap-step-by .ensures)
 
 pub tsorvenk-step-spec : {M : Type 1} → statement M
 tsorvenk-step-spec =
@@ -94,8 +99,9 @@ tsorvenk-step-spec =
     form-of-requires
     keeps-of-requires
     group-of-requires
+    coding-of-requires
     taken-requires
-    overlap-step-requires
+    overlap-step-by-requires
     number-of-requires
     same-length
     same-length-2

@@ -205,6 +205,26 @@ impl Bench {
         );
         line(
             times,
+            "4,096 permutations by number",
+            COUNT,
+            |source, out: &mut [u8]| source.fill_numbers(out).unwrap(),
+            |source, out| {
+                out.iter_mut()
+                    .for_each(|v| *v = below(source, black_box(120)) as u8)
+            },
+        );
+        line(
+            times,
+            "4,096 of Wolff by number",
+            COUNT,
+            |source, out: &mut [u8]| source.wolff_numbers(out).unwrap(),
+            |source, out| {
+                out.iter_mut()
+                    .for_each(|v| *v = 1 + below(source, black_box(119)) as u8)
+            },
+        );
+        line(
+            times,
             "4,096 rows of eight",
             COUNT * ROW,
             |source, out: &mut [u8]| source.fill_permutations(ROW, out).unwrap(),

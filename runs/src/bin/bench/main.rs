@@ -1,12 +1,13 @@
-//! bench [repetitions] [totals]: the port against the published Rust, in one run, as the tables of docs/BENCHMARKS.md.
+//! bench [repetitions] [totals|numbers]: the port against the published Rust, in one run, as the tables of docs/BENCHMARKS.md.
 //!
 //! Times are medians in microseconds. "Rust" is the published code with a generator, "lent" the same code with its
 //! draws read from the lent choices, "depth" the one-cluster form without outputs, a search from the seed; beside a
 //! form that grows "Rust" and "lent" are that search. The port's tests are the time of the same call made to fail its
 //! last test; "move" is the rest. The standard output has the tables, and the standard error each case with all that
 //! was measured. Where the port is not linked the model stands in for it, so that the run itself can be tried. With the word
-//! `totals` behind the repetitions only the tables of totals are made.
+//! `totals` behind the repetitions only the tables of totals are made, and with `numbers` only those of permutations by number.
 mod clusters;
+mod coded;
 mod draws;
 mod edges;
 mod labelling;
@@ -150,10 +151,11 @@ fn main() {
         rand: Rand::new(1),
         ratios: Ratios::default(),
     };
-    if words.get(1).is_some_and(|word| word == "totals") {
-        return bench.totals();
+    match words.get(1).map(String::as_str) {
+        Some("totals") => bench.totals(),
+        Some("numbers") => bench.coded(),
+        _ => all(&mut bench),
     }
-    all(&mut bench);
 }
 
 fn all(bench: &mut Bench) {
@@ -183,4 +185,5 @@ fn all(bench: &mut Bench) {
     bench.draws();
     println!("\nedge lists");
     bench.edges();
+    bench.coded();
 }

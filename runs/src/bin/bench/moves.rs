@@ -93,7 +93,7 @@ impl Bench {
         (time, answer)
     }
 
-    fn sweep(&mut self, case: &Swept, repetitions: usize) -> (f64, SweepAnswer) {
+    pub fn sweep(&mut self, case: &Swept, repetitions: usize) -> (f64, SweepAnswer) {
         let mut lent = case.lent.clone();
         let mut answer = SweepAnswer::Refused(0);
         let ready = |lent: &mut Lent| as_before(lent, &case.lent);

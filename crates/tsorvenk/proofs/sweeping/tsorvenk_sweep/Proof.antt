@@ -1,5 +1,5 @@
 -- `tsorvenk_sweep` meets its contract: a code that is none is refused, without room for the counts test 1 decides, and any other
--- call is answered by `overlap_update`.
+-- call is answered by `overlap_update_by`.
 use borrow.Author.Needs.{needs}
 use mathlib.Core.Path.{_≡_}
 use denote.Ref.{now}
@@ -11,9 +11,10 @@ use Rattle.paper.specs.Panel.Input.{Buffers}
 use Rattle.paper.specs.Answer.Task.{Sweep}
 use Rattle.paper.specs.Panel.Made.{buffersOf}
 use Rattle.paper.specs.Answer.Made.{sweepOf}
-use Rattle.tsorvenk.specs.Number.{Coded, modeOf, formOf, keepsOf, takenOf}
+use Rattle.coded.specs.Takes.{numbersBy}
+use Rattle.tsorvenk.specs.Number.{Coded, modeOf, formOf, codingOf, keepsOf, takenOf}
 use Rattle.tsorvenk.specs.Sweep.{planFor}
-use Rattle.tsorvenk.proofs.Told.{same-keeping}
+use Rattle.tsorvenk.proofs.Told.{same-coding, same-keeping}
 use Rattle.tsorvenk.proofs.Swept.{same-sweep, uncoded-sweep, roomless-sweep, coded-sweep}
 use Rattle.tsorvenk.proofs.sweeping.tsorvenk_sweep.Statement.{statement}
 use Rattle.tsorvenk.proofs.sweeping.tsorvenk_sweep.Tie as tie
@@ -50,7 +51,12 @@ same f =
     let a = F f .args in
     same-sweep (now (a .flips)) (now (a .perms)) (f .keeps-of .result) (keepsOf (a .keeps)) (f .before .before .mode-of .ensures) (f .before .form-of .ensures)
 
-known : (e : tie.Else1) → let a = S (e .before) .args in Coded (a .mode) (a .form) (a .keeps)
+spelled : (g : tie.After-coding-of) → let f = g .before in let a = F f .args in
+    numbersBy (g .coding-of .result) (f .before .before .mode-of .result) (f .before .form-of .result)
+    ≡ numbersBy (codingOf (a .coding)) (modeOf (a .mode)) (formOf (a .form))
+spelled g = let f = g .before in same-coding (g .coding-of .ensures) (f .before .before .mode-of .ensures) (f .before .form-of .ensures)
+
+known : (e : tie.Else1) → let a = S (e .before) .args in Coded (a .mode) (a .form) (a .coding) (a .keeps)
 known e = passed (e .before .codes-ok .result) (e .if1 .left) (e .before .codes-ok .ensures)
 
 codes-ok-requires : tie.Need-codes-ok-requires
@@ -68,22 +74,26 @@ form-of-requires c κs = known (c .before) .form-known
 keeps-of-requires : tie.Need-keeps-of-requires
 keeps-of-requires c κs = known (c .before .before) .keeps-known
 
+coding-of-requires : tie.Need-coding-of-requires
+coding-of-requires c κs = known (c .before .before .before) .coding-known
+
 roomless-requires : tie.Need-roomless-requires
 roomless-requires c κs = search needs
 
 returns-2 : tie.Need-returns-2
 returns-2 c =
     let e = c .before in
-    let f = e .before in
+    let g = e .before in
+    let f = g .before in
     let a = F f .args in
-    roomless-sweep (made f) (meant f) (B (F f)) (now (a .totals)) (now (a .outcomes)) (c .roomless .result) (f .keeps-of .result)
-    (known (f .before .before .before)) (same f) (e .if2 .taken) (c .roomless .ensures)
+    roomless-sweep (made f) (meant f) (B (F f)) (now (a .totals)) (now (a .outcomes)) (c .roomless .result) _ (f .keeps-of .result)
+    (known (f .before .before .before)) (spelled g) (same f) (e .if2 .taken) (c .roomless .ensures)
 
 taken-requires : tie.Need-taken-requires
 taken-requires c κs = search needs
 
-overlap-update-requires : tie.Need-overlap-update-requires
-overlap-update-requires c κs = search needs
+overlap-update-by-requires : tie.Need-overlap-update-by-requires
+overlap-update-by-requires c κs = search needs
 
 tell-requires : tie.Need-tell-requires
 tell-requires c κs = search needs
@@ -124,11 +134,12 @@ returns-3 c =
     let o = t .before .before .before .before .before .before .before .before .before .before .before .before .before .before .before .before .before .before in
     let k = o .before .before .before .before .before .before .before .before in
     let e = k .before .before .before in
-    let f = e .before in
+    let g = e .before in
+    let f = g .before in
     let a = F f .args in
-    coded-sweep (made f) (meant f) (B (F f)) (now (a .totals)) (now (a .outcomes)) (t .tell .result) _ (o .overlap-update .result) _ _ _
-    (known (f .before .before .before)) (same-keeping (f .keeps-of .ensures) (f .before .form-of .ensures)) (same f) (e .if2 .left)
-    (rw (k .taken .ensures) at (o .overlap-update .ensures)) (t .tell .ensures)
+    coded-sweep (made f) (meant f) (B (F f)) (now (a .totals)) (now (a .outcomes)) (t .tell .result) _ _ (o .overlap-update-by .result) _ _ _
+    (known (f .before .before .before)) (spelled g) (same-keeping (f .keeps-of .ensures) (f .before .form-of .ensures)) (same f) (e .if2 .left)
+    (rw (k .taken .ensures) at (o .overlap-update-by .ensures)) (t .tell .ensures)
 
 pub tsorvenk-sweep-spec : {M : Type 1} → statement M
 tsorvenk-sweep-spec =
@@ -139,10 +150,11 @@ tsorvenk-sweep-spec =
     mode-of-requires
     form-of-requires
     keeps-of-requires
+    coding-of-requires
     roomless-requires
     returns-2
     taken-requires
-    overlap-update-requires
+    overlap-update-by-requires
     tell-requires
     same-length
     same-length-2

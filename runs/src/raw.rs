@@ -1,0 +1,135 @@
+//! Exported functions as C calls them, with what the crate `tsorvenk` cannot say: numbers that are no mode, form, coding or keeps, and rows and
+//! outputs of any length. None where the library was not there at build time.
+use calls::{Step, Sweep};
+
+/// Mode, form, coding and keeps as numbers.
+pub type Numbers = [u8; 4];
+
+/// A move in place of whose mode, form, coding and keeps these numbers are lent.
+pub fn step(numbers: Numbers, call: Step) -> Option<u8> {
+    #[cfg(port)]
+    return Some(linked::step(numbers, call));
+    #[cfg(not(port))]
+    {
+        let _ = (numbers, call);
+        None
+    }
+}
+
+/// The same of a sweep, with the two counts that it writes.
+pub fn sweep(numbers: Numbers, call: Sweep, outcomes: &mut [u32]) -> Option<u8> {
+    #[cfg(port)]
+    return Some(linked::sweep(numbers, call, outcomes));
+    #[cfg(not(port))]
+    {
+        let _ = (numbers, call, outcomes);
+        None
+    }
+}
+
+pub fn row_of(number: u8, row: &mut [u8]) -> Option<u8> {
+    #[cfg(port)]
+    return Some(linked::row_of(number, row));
+    #[cfg(not(port))]
+    {
+        let _ = (number, row);
+        None
+    }
+}
+
+pub fn number_of(row: &[u8], number: &mut [u8]) -> Option<u8> {
+    #[cfg(port)]
+    return Some(linked::number_of(row, number));
+    #[cfg(not(port))]
+    {
+        let _ = (row, number);
+        None
+    }
+}
+
+/// Each pointer goes with the length of the buffer that it was taken from, and no two buffers overlap.
+#[cfg(port)]
+#[rustfmt::skip]
+mod linked {
+    use super::Numbers;
+    use calls::{Step, Sweep};
+
+    extern "C" {
+        fn tsorvenk_step(
+            mode: u8, form: u8, coding: u8, keeps: u8, n: usize, d: usize, s: usize,
+            spins: *mut i8, spins_len: usize, totals: *mut i64, totals_len: usize,
+            fwd: *const u32, fwd_len: usize, bwd: *const u32, bwd_len: usize,
+            couplings: *const i32, couplings_len: usize, group: *const u32, group_len: usize,
+            temperature: f32, cuts: *const f32, cuts_len: usize, reference: usize, seed: usize,
+            flips: *const u8, flips_len: usize, perms: *const u8, perms_len: usize, greys: *const u8, greys_len: usize,
+            labels: *mut u32, labels_len: usize, grey_labels: *mut u32, grey_labels_len: usize,
+            counts: *mut u32, counts_len: usize, sizes: *mut u32, sizes_len: usize,
+            member_sites: *mut u8, member_sites_len: usize,
+            found: *mut u32, found_len: usize, grey_found: *mut u32, grey_found_len: usize,
+        ) -> u8;
+        fn tsorvenk_sweep(
+            mode: u8, form: u8, coding: u8, keeps: u8, n: usize, d: usize, s: usize, t: usize, r: usize, members: usize,
+            spins: *mut i8, spins_len: usize, totals: *mut i64, totals_len: usize,
+            fwd: *const u32, fwd_len: usize, bwd: *const u32, bwd_len: usize,
+            couplings: *const i32, couplings_len: usize, order: *const u32, order_len: usize,
+            masks: *const u8, masks_len: usize, temperatures: *const f32, temperatures_len: usize,
+            cuts: *const f32, cuts_len: usize, references: *const u32, references_len: usize,
+            seeds: *const u32, seeds_len: usize,
+            flips: *const u8, flips_len: usize, perms: *const u8, perms_len: usize, greys: *const u8, greys_len: usize,
+            labels: *mut u32, labels_len: usize, grey_labels: *mut u32, grey_labels_len: usize,
+            counts: *mut u32, counts_len: usize, sizes: *mut u32, sizes_len: usize,
+            member_sites: *mut u8, member_sites_len: usize,
+            found: *mut u32, found_len: usize, grey_found: *mut u32, grey_found_len: usize,
+            outcomes: *mut u32, outcomes_len: usize,
+        ) -> u8;
+        fn tsorvenk_row_of(number: u8, row: *mut u8, row_len: usize) -> u8;
+        fn tsorvenk_number_of(row: *const u8, row_len: usize, number: *mut u8, number_len: usize) -> u8;
+    }
+
+    pub fn step([mode, form, coding, keeps]: Numbers, call: Step) -> u8 {
+        unsafe {
+            tsorvenk_step(
+                mode, form, coding, keeps, call.n, call.d, call.s,
+                call.spins.as_mut_ptr(), call.spins.len(), call.totals.as_mut_ptr(), call.totals.len(),
+                call.fwd.as_ptr(), call.fwd.len(), call.bwd.as_ptr(), call.bwd.len(),
+                call.couplings.as_ptr(), call.couplings.len(), call.group.as_ptr(), call.group.len(),
+                call.temperature, call.cuts.as_ptr(), call.cuts.len(), call.reference, call.seed,
+                call.flips.as_ptr(), call.flips.len(), call.perms.as_ptr(), call.perms.len(),
+                call.greys.as_ptr(), call.greys.len(),
+                call.labels.as_mut_ptr(), call.labels.len(), call.grey_labels.as_mut_ptr(), call.grey_labels.len(),
+                call.counts.as_mut_ptr(), call.counts.len(), call.sizes.as_mut_ptr(), call.sizes.len(),
+                call.member_sites.as_mut_ptr(), call.member_sites.len(),
+                call.found.as_mut_ptr(), call.found.len(), call.grey_found.as_mut_ptr(), call.grey_found.len(),
+            )
+        }
+    }
+
+    pub fn sweep([mode, form, coding, keeps]: Numbers, call: Sweep, outcomes: &mut [u32]) -> u8 {
+        unsafe {
+            tsorvenk_sweep(
+                mode, form, coding, keeps, call.n, call.d, call.s, call.t, call.r, call.members,
+                call.spins.as_mut_ptr(), call.spins.len(), call.totals.as_mut_ptr(), call.totals.len(),
+                call.fwd.as_ptr(), call.fwd.len(), call.bwd.as_ptr(), call.bwd.len(),
+                call.couplings.as_ptr(), call.couplings.len(), call.order.as_ptr(), call.order.len(),
+                call.masks.as_ptr(), call.masks.len(), call.temperatures.as_ptr(), call.temperatures.len(),
+                call.cuts.as_ptr(), call.cuts.len(), call.references.as_ptr(), call.references.len(),
+                call.seeds.as_ptr(), call.seeds.len(),
+                call.flips.as_ptr(), call.flips.len(), call.perms.as_ptr(), call.perms.len(),
+                call.greys.as_ptr(), call.greys.len(),
+                call.labels.as_mut_ptr(), call.labels.len(), call.grey_labels.as_mut_ptr(), call.grey_labels.len(),
+                call.counts.as_mut_ptr(), call.counts.len(), call.sizes.as_mut_ptr(), call.sizes.len(),
+                call.member_sites.as_mut_ptr(), call.member_sites.len(),
+                call.found.as_mut_ptr(), call.found.len(), call.grey_found.as_mut_ptr(), call.grey_found.len(),
+                outcomes.as_mut_ptr(), outcomes.len(),
+            )
+        }
+    }
+
+    pub fn row_of(number: u8, row: &mut [u8]) -> u8 {
+        unsafe { tsorvenk_row_of(number, row.as_mut_ptr(), row.len()) }
+    }
+
+    pub fn number_of(row: &[u8], number: &mut [u8]) -> u8 {
+        unsafe { tsorvenk_number_of(row.as_ptr(), row.len(), number.as_mut_ptr(), number.len()) }
+    }
+}
