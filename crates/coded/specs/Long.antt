@@ -1,5 +1,5 @@
 -- More numbers than any call takes: rule 2 refuses their rows, as it refuses one byte. So no room is needed for them.
-use Prim.Native.Nat.{ℕ, _+_, _*_, _/_, _%_, _≤_, _<_}
+use Prim.Native.Nat.{ℕ, _*_, _/_, _≤_, _<_}
 use mathlib.Core.Path.{_≡_, sym, _∙_, ap}
 use mathlib.Core.Logic.{_⊎_, inl, inr}
 use mathlib.Core.Bool.{Bool, true, cond}
@@ -19,10 +19,10 @@ use Rattle.paper.specs.declared.SweepAnswer.the-variants.{Fault, Swept}
 use Rattle.paper.specs.Panel.Input.{Call, Choices, Buffers, size}
 use Rattle.paper.specs.Panel.Takes.{isPerm, moves, flipsBy, permsBy, choicesBy, takesPerms, entries, choiceBytes}
 use Rattle.paper.specs.Panel.Made.{choicesOf}
-use Rattle.paper.specs.Refusal.Rules.{Sizes, Ranged, Exact}
+use Rattle.paper.specs.Refusal.Rules.{Ranged, Exact}
 use Rattle.paper.specs.Answer.Task.{Sweep, tasks}
 use Rattle.paper.specs.Answer.Sweep.{SweepRanged, SweepExact}
-use Rattle.paper.specs.Answer.Totals.{keptRules, sweptRules, KeepAnswers, SweepKeepAnswers}
+use Rattle.paper.specs.Answer.Totals.{KeepAnswers, SweepKeepAnswers}
 use Rattle.spelling.specs.Rows.{rowsOf, length-rows}
 use Rattle.coded.specs.Sweep.{withChoices}
 
