@@ -11,7 +11,7 @@ use borrow.Author.Tests.{eq-eqb, ne-eqb, eqb-true}
 use lib.Dec.{eqb}
 use lib.ListN.{length}
 use Rattle.lemmas.specs.Bools.{never}
-use Rattle.lemmas.specs.Counts.{bit, countWhere, count-suc, count-yes, count-most, count-zero, count-pos, bit-le}
+use Rattle.lemmas.specs.Counts.{bit, countWhere, count-yes, count-most, count-zero, count-pos, bit-le}
 use Rattle.paper.specs.Component.Links.{Linked.stay, trans, back}
 use Rattle.paper.specs.Panel.Input.{Graph}
 use Rattle.paper.specs.Component.Labels.{Joined, Labels}
