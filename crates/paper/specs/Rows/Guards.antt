@@ -1,8 +1,9 @@
 -- What no row of document 01 pins: values, the order of the refusals, and what a sweep and a move read.
 use Prim.Native.Nat.{ℕ, _^_}
 use mathlib.Core.Path.{_≡_, refl}
-use mathlib.Core.Bool.{true, false}
+use mathlib.Core.Bool.{Bool, true, false}
 use mathlib.Core.List.{[], _∷_, List}
+use native.Mathlib.Omega.{arith}
 use lib.IntN.{pos, negsuc, ℤ}
 use lib.Ieee.{Float, nan, inf, binary32, round, mul, div, lt, le, ofInt}
 use lib.ListN.{getD}
@@ -20,8 +21,9 @@ use Rattle.paper.specs.declared.Form.the-variants.{Sw, Grow}
 use Rattle.paper.specs.declared.Answer.the-variants.{Idle, Moved}
 use Rattle.paper.specs.declared.SweepAnswer.the-variants.{Swept}
 use Rattle.paper.specs.declared.MeterAnswer.the-variants.{Energy}
-use Rattle.paper.specs.Panel.Input.{Call, Choices, Buffers}
+use Rattle.paper.specs.Panel.Input.{Graph, Call, Choices, Buffers}
 use Rattle.paper.specs.Site.Acting.{acts, pairDiffers, differs}
+use Rattle.paper.specs.Component.Labels.{Labels}
 use Rattle.paper.specs.Component.Sizes.{sizeOf, isFirst, ofSize, atLeast, Counted, Largest}
 use Rattle.paper.specs.Refusal.Rule.{Rule}
 use Rattle.paper.specs.Answer.Number.{number, sweepNumber, meterNumber}
@@ -164,6 +166,11 @@ pub record Counts : Type 0 where
 pub counts : Counts
 unfolding acts pairDiffers sizeOf isFirst countWhere
 counts = record { one = refl; one-size = refl; both = refl; both-sizes = refl; smallest = refl; numbered = refl }
+
+-- numbers rise with the smallest sites and not with the last ones: of two components, the first and the third site and the second alone, the first is 0
+pub by-smallest : (t : Graph) (holding : ℕ → ℕ → Bool) (found : ℕ) → t .n ≡ 3 → Labels t holding (1 ∷ 0 ∷ 1 ∷ []) found → ⊥
+unfolding isFirst countWhere
+by-smallest t holding found e w = absurd (omega (arith, w .rising 0 1 (omega arith) (omega (arith, e)) refl refl))
 
 -- a choice is found by its component's number: of three sites the third, alone, is the component 1, and has the second entry
 abbrev perm : Call
