@@ -1,8 +1,9 @@
 /* A small panel through the C interface: a torus of 4 by 4 sites, four systems at two temperatures, one sweep of each
  * mode in the all-clusters form, a sweep that is refused, and one that grows a cluster in each task. Behind each of the first
  * stand the components that were found in its tasks, and the first task's sites by their numbers. The sweeps keep each
- * system's energy as a total, which is metered before them, handed over, and held to the meter after each. Last, a group of
- * five is moved by permutations that are lent as numbers, and once more by their rows. The couplings come from an edge list,
+ * system's energy as a total, which is metered before them, handed over, and held to the meter after each. Then a group of
+ * five is moved by permutations that are lent as numbers, and once more by their rows. Last, some sites are pinned: a sweep of
+ * one cluster in each task says how many of them a pin holds, and so does a move. The couplings come from an edge list,
  * in the file that is named behind the program, or else in examples/panel.edges; every choice is drawn from one seed, so that
  * each run is the same. panel.rs is the same program in Rust; both print panel.out. */
 #include "tsorvenk.h"
@@ -23,7 +24,7 @@ struct outputs {
     int64_t totals[S];
     int8_t spins[S * N];
     uint32_t labels[TASKS * N], grey_labels[TASKS * N], counts[TASKS * (N + 1)], sizes[TASKS * 4];
-    uint32_t found[TASKS], grey_found[TASKS], outcomes[2];
+    uint32_t found[TASKS], grey_found[TASKS], outcomes[3];
 };
 
 /* the draws of one sweep, for every mode */
@@ -111,9 +112,17 @@ static struct tsorvenk_sweep_args lent(uint8_t mode, uint8_t form, const struct 
         .masks = masks, .masks_len = T,
         .temperatures = TEMPERATURES, .temperatures_len = T,
         .cuts = c->cuts, .cuts_len = TASKS * N * D,
-        .outcomes = o->outcomes, .outcomes_len = 2,
+        .outcomes = o->outcomes, .outcomes_len = 3,
     };
     return args;
+}
+
+/* what every form but the one that grows writes beside the spins */
+static void take_labels(struct tsorvenk_sweep_args *args, struct outputs *o) {
+    args->labels = o->labels, args->labels_len = TASKS * N;
+    args->counts = o->counts, args->counts_len = TASKS * (N + 1);
+    args->sizes = o->sizes, args->sizes_len = TASKS * 4;
+    args->found = o->found, args->found_len = TASKS;
 }
 
 /* what only some modes take may be lent in all */
@@ -123,25 +132,26 @@ static uint8_t sweep(uint8_t mode, const struct choices *c, struct outputs *o) {
     args.flips = c->flips, args.flips_len = TASKS * N;
     args.perms = c->perms, args.perms_len = TASKS * N * MEMBERS;
     args.greys = c->greys, args.greys_len = TASKS * N;
-    args.labels = o->labels, args.labels_len = TASKS * N;
+    take_labels(&args, o);
     args.grey_labels = o->grey_labels, args.grey_labels_len = TASKS * N;
-    args.counts = o->counts, args.counts_len = TASKS * (N + 1);
-    args.sizes = o->sizes, args.sizes_len = TASKS * 4;
-    args.found = o->found, args.found_len = TASKS;
     args.grey_found = o->grey_found, args.grey_found_len = TASKS;
     return tsorvenk_sweep_with(&args);
 }
 
-/* one cluster in each task, from the first site at which its two systems differ: there they act. No labels, counts and sizes
- * are taken */
-static uint8_t grow(const struct choices *c, uint8_t *member_sites, struct outputs *o) {
-    struct tsorvenk_sweep_args args = lent(TSORVENK_JORG, TSORVENK_GROW, c, o);
-    uint32_t seeds[TASKS];
+/* the first site at which each task's two systems differ: there they act */
+static void find_seeds(const struct outputs *o, uint32_t *seeds) {
     for (int k = 0; k < TASKS; k++) {
         const int8_t *a = o->spins + k * MEMBERS * N, *b = a + N;
         for (seeds[k] = 0; seeds[k] < N - 1 && a[seeds[k]] == b[seeds[k]];)
             seeds[k]++;
     }
+}
+
+/* one cluster in each task. No labels, counts and sizes are taken */
+static uint8_t grow(const struct choices *c, uint8_t *member_sites, struct outputs *o) {
+    struct tsorvenk_sweep_args args = lent(TSORVENK_JORG, TSORVENK_GROW, c, o);
+    uint32_t seeds[TASKS];
+    find_seeds(o, seeds);
     args.seeds = seeds, args.seeds_len = TASKS;
     args.member_sites = member_sites, args.member_sites_len = TASKS * N;
     return tsorvenk_sweep_with(&args);
@@ -264,6 +274,42 @@ static void move_five(struct outputs *o) {
     printf("  the first row is %u %u %u %u %u, and its number %u\n", rows[0], rows[1], rows[2], rows[3], rows[4], number);
 }
 
+/* a move of the first group's cluster, from this seed */
+static uint8_t move_pinned(const uint8_t *pins, uint32_t seed, struct outputs *o) {
+    struct tsorvenk_step_args args = {
+        .mode = TSORVENK_PAIR, .form = TSORVENK_WOLFF, .keeps = TSORVENK_KEEPS_TOTALS,
+        .n = N, .d = D, .s = S, .spins = o->spins, .spins_len = S * N, .totals = o->totals, .totals_len = S,
+        .fwd = fwd, .fwd_len = N * D, .bwd = bwd, .bwd_len = N * D, .pins = pins, .pins_len = N,
+        .couplings = couplings, .couplings_len = N * D, .group = order, .group_len = MEMBERS, .seed = seed,
+        .labels = o->labels, .labels_len = N, .counts = o->counts, .counts_len = N + 1,
+        .sizes = o->sizes, .sizes_len = 4, .found = o->found, .found_len = 1,
+    };
+    return tsorvenk_step_with(&args);
+}
+
+/* two sites do not move any more, nor does what hangs together with them: first a sweep of one cluster in each task, then the
+ * first of them alone */
+static void hold_some(const struct choices *c, struct outputs *o) {
+    static const uint8_t pins[N] = {[9] = 1, [14] = 1};
+    struct tsorvenk_sweep_args args = lent(TSORVENK_PAIR, TSORVENK_WOLFF, c, o);
+    uint32_t seeds[TASKS];
+    uint8_t code;
+    find_seeds(o, seeds);
+    args.pins = pins, args.pins_len = N;
+    args.seeds = seeds, args.seeds_len = TASKS;
+    take_labels(&args, o);
+    code = tsorvenk_sweep_with(&args);
+    if (code) {
+        printf("pair pinned: refused with %d\n", code);
+        return;
+    }
+    printf("pair pinned: %u idle, %u moved, %u held\n", (unsigned)o->outcomes[0], (unsigned)o->outcomes[1],
+        (unsigned)o->outcomes[2]);
+    print_totals(o);
+    printf("  from site %u: %s\n", (unsigned)seeds[0], tsorvenk_refusal_words(move_pinned(pins, seeds[0], o)));
+    print_totals(o);
+}
+
 int main(int argc, char **argv) {
     struct outputs o, before;
     struct choices c;
@@ -287,5 +333,6 @@ int main(int argc, char **argv) {
     print_grown(grow(&c, member_sites, &o), member_sites, &o);
     print_totals(&o);
     move_five(&o);
+    hold_some(&c, &o);
     return 0;
 }

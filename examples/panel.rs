@@ -1,8 +1,9 @@
 //! A small panel through the safe crate: a torus of 4 by 4 sites, four systems at two temperatures, one sweep of each mode
 //! in the all-clusters form, a sweep that is refused, and one that grows a cluster in each task. Behind each of the first
 //! stand the components that were found in its tasks, and the first task's sites by their numbers. The sweeps keep each
-//! system's energy as a total, which is metered before them, handed over, and held to the meter after each. Last, a group of
-//! five is moved by permutations that are lent as numbers, and once more by their rows. The couplings come from an edge list,
+//! system's energy as a total, which is metered before them, handed over, and held to the meter after each. Then a group of
+//! five is moved by permutations that are lent as numbers, and once more by their rows. Last, some sites are pinned: a sweep of
+//! one cluster in each task says how many of them a pin holds, and so does a move. The couplings come from an edge list,
 //! in the file that is named behind the program, or else in examples/panel.edges; every choice is drawn from one seed, so that
 //! each run is the same. panel.c is the same program in C; both print panel.out.
 use std::error::Error;
@@ -10,6 +11,9 @@ use tsorvenk::{
     number_of, refusal_words, row_of, Coding, Form, HandOver, Keeps, MeterAll, Mode, ReadEdges,
     Refusal, Source, Step, Sweep, Swept, WriteEdges, EDGES_ROOM,
 };
+
+#[path = "panel/pins.rs"]
+mod pins;
 
 const FIVE: usize = 5;
 const SIDE: usize = 4;
@@ -193,18 +197,22 @@ fn sweep(mode: Mode, panel: &Panel, c: &Choices, o: &mut Outputs) -> Result<Swep
     })
 }
 
-/// One cluster in each task, from the first site at which its two systems differ: there they act. No labels, counts and
-/// sizes are taken.
+/// The first site at which each task's two systems differ: there they act.
+fn find_seeds(spins: &[i8]) -> [u32; TASKS] {
+    std::array::from_fn(|k| {
+        let (a, b) = spins[k * MEMBERS * N..].split_at(N);
+        (0..N - 1).find(|&i| a[i] != b[i]).unwrap_or(N - 1) as u32
+    })
+}
+
+/// One cluster in each task. No labels, counts and sizes are taken.
 fn grow(
     panel: &Panel,
     c: &Choices,
     member_sites: &mut [u8],
     o: &mut Outputs,
 ) -> Result<Swept, Refusal> {
-    let seeds: [u32; TASKS] = std::array::from_fn(|k| {
-        let (a, b) = o.spins[k * MEMBERS * N..].split_at(N);
-        (0..N - 1).find(|&i| a[i] != b[i]).unwrap_or(N - 1) as u32
-    });
+    let seeds = find_seeds(&o.spins);
     tsorvenk::sweep(Sweep {
         mode: Mode::Jorg,
         form: Form::Grow,
@@ -386,5 +394,6 @@ fn main() -> Result<(), Box<dyn Error>> {
     print_grown(answer, &member_sites);
     print_totals(&panel, &o)?;
     move_five(&panel, &mut source, &mut o)?;
+    pins::hold_some(&panel, &c, &mut o)?;
     Ok(())
 }

@@ -20,7 +20,7 @@
  *      above r
  *   2  a buffer's length is not the exact one
  *   3  a spin of any system is not +1 or -1
- *   4  a neighbour is n or more, or fwd and bwd are not inverse
+ *   4  a neighbour is n or more, or fwd and bwd are not inverse; after the tables, a pin byte is not 0 or 1
  *   5  a system of the group, or the meter's, is s or more; one stands twice in the group; the order is no permutation
  *   6  a coupling's size is above 1,000,000
  *   7  a temperature is not from 1/1024 to 1,048,576, or not a number
@@ -56,6 +56,16 @@
  * which equal the energies still do, and one that was wrong stays wrong by as much. tsorvenk_hand_over says once whether
  * they are right; tsorvenk_energy, system by system, makes them. To observe moves nothing and keeps nothing, whatever keeps
  * says; it is 0 or 1 there too.
+ *
+ * Pins: a byte for each site, 1 where the site is pinned. A component with a pinned site is held: it does not move, in any mode
+ * and form. It is the whole component that is held; labels, counts, sizes and members are what they are without pins, and the
+ * choice of a held component is tested like any other. A pinned site that does not act holds only itself. In CMR blue and grey
+ * components are held each for itself, and where a blue one is held so is the grey one around it. A grey one that is held does
+ * not move, but the blue ones in it that are not held still flip. Where the seed's component (CMR: its blue one) is held, Wolff
+ * and grow answer TSORVENK_HELD: what the form writes is written, and spins and totals stay. In CMR, where only its grey one is
+ * held, the blue flip stands, and the answer is 0. SW is never held, even if every component is, and to observe neither: there
+ * pins are tested and change nothing. Answers come in this order: a refusal, idle, held, moved. The meter, the hand-over, the
+ * labelling and the edge list know no pins, and frames pin nothing.
  */
 #ifndef TSORVENK_H
 #define TSORVENK_H
@@ -72,14 +82,16 @@ enum { TSORVENK_SW, TSORVENK_WOLFF, TSORVENK_OBSERVE, TSORVENK_GROW };
 enum { TSORVENK_BY_ROWS, TSORVENK_BY_NUMBERS };
 enum { TSORVENK_KEEPS_NOTHING, TSORVENK_KEEPS_TOTALS };
 
-/* Numbers that are no refusals: of a step with no acting site, and of frames for whose answer there is no room. */
-enum { TSORVENK_IDLE = 64, TSORVENK_NO_ROOM = 65 };
+/* Numbers that are no refusals: of a step with no acting site, of frames for whose answer there is no room, and of a step in
+ * Wolff or grow whose seed is held by a pin. */
+enum { TSORVENK_IDLE = 64, TSORVENK_NO_ROOM = 65, TSORVENK_HELD = 66 };
 
 /* One move or observation of one group, of N = group_len systems.
  *
  *   n, d, s      sites, directions, systems
  *   spins        s * n, system by system: the spin of site i in system k is at k * n + i, +1 or -1
  *   fwd, bwd     n * d: entry i * d + e is the neighbour of site i in direction e, forward and backward
+ *   pins         n, each 0 or 1: 1 pins the site, and its component does not move
  *   couplings    n * d, at the bond's entry                        Joerg, CMR, in every form; totals kept, in every mode
  *   group        N systems, 2 to 8 (CMR: 2); they differ, and their order matters
  *   temperature                                                    Joerg, CMR, in every form
@@ -113,14 +125,15 @@ enum { TSORVENK_IDLE = 64, TSORVENK_NO_ROOM = 65 };
  *                components only: found is their sum and one for each site that does not act
  *                                                                  SW, Wolff, observe
  *   grey_found   1: how many grey ones there are                   SW and Wolff of CMR
- *   spins        the group's rows after the move; idle and observe leave them as they are
+ *   spins        the group's rows after the move; idle, held and observe leave them as they are
  *   totals       s, one for each system: that of a system of the group changes by its energy after the move less its
  *                energy before; those of others stay                SW, Wolff, grow where keeps is 1
  *
- * Returns 0 if some site acts (CMR: always), TSORVENK_IDLE if none does, else the refusal 1 to 10 or 14. */
+ * Returns TSORVENK_IDLE if no site acts (never in CMR), TSORVENK_HELD if some does and the form is Wolff or grow and the seed's
+ * component (CMR: its blue one) has a pinned site, 0 in all other cases that are not refused, else the refusal 1 to 10 or 14. */
 uint8_t tsorvenk_step(uint8_t mode, uint8_t form, uint8_t coding, uint8_t keeps, size_t n, size_t d, size_t s,
     int8_t *spins, size_t spins_len, int64_t *totals, size_t totals_len,
-    const uint32_t *fwd, size_t fwd_len, const uint32_t *bwd, size_t bwd_len,
+    const uint32_t *fwd, size_t fwd_len, const uint32_t *bwd, size_t bwd_len, const uint8_t *pins, size_t pins_len,
     const int32_t *couplings, size_t couplings_len, const uint32_t *group, size_t group_len,
     float temperature, const float *cuts, size_t cuts_len, size_t reference, size_t seed,
     const uint8_t *flips, size_t flips_len, const uint8_t *perms, size_t perms_len, const uint8_t *greys, size_t greys_len,
@@ -135,7 +148,7 @@ uint8_t tsorvenk_step(uint8_t mode, uint8_t form, uint8_t coding, uint8_t keeps,
  * number j * (r / N) + g, rounded down, is the group g of temperature j. There are K = t * (r / N) tasks, those of masked
  * temperatures too. Each task is the step that it would be alone; its areas in the buffers are at its number:
  *
- *   spins, fwd, bwd, couplings                                     as in a step
+ *   spins, fwd, bwd, pins, couplings                               as in a step
  *   order         s: a permutation of the systems
  *   masks         t, each 0 or 1: 1 masks its temperature, whose tasks' areas are neither read nor written
  *   temperatures  t                                                Joerg, CMR, in every form
@@ -156,7 +169,8 @@ uint8_t tsorvenk_step(uint8_t mode, uint8_t form, uint8_t coding, uint8_t keeps,
  *   member_sites  K * n                                            grow
  *   found         K                                                SW, Wolff, observe
  *   grey_found    K                                                SW and Wolff of CMR
- *   outcomes      2: how many unmasked tasks were idle, and how many were not, even if every choice was 0
+ *   outcomes      3: how many unmasked tasks were idle, how many moved, which are all others, even if every choice was 0, and
+ *                 how many were held                               the last is 0 in SW and observe
  *   spins         the rows of the groups of unmasked tasks
  *   totals        s, as in a step                                  SW, Wolff, grow where keeps is 1
  *
@@ -166,7 +180,7 @@ uint8_t tsorvenk_step(uint8_t mode, uint8_t form, uint8_t coding, uint8_t keeps,
  * Returns 0 if swept, else the refusal 1 to 10 or 14. */
 uint8_t tsorvenk_sweep(uint8_t mode, uint8_t form, uint8_t coding, uint8_t keeps, size_t n, size_t d, size_t s,
     size_t t, size_t r, size_t members, int8_t *spins, size_t spins_len, int64_t *totals, size_t totals_len,
-    const uint32_t *fwd, size_t fwd_len, const uint32_t *bwd, size_t bwd_len,
+    const uint32_t *fwd, size_t fwd_len, const uint32_t *bwd, size_t bwd_len, const uint8_t *pins, size_t pins_len,
     const int32_t *couplings, size_t couplings_len, const uint32_t *order, size_t order_len,
     const uint8_t *masks, size_t masks_len, const float *temperatures, size_t temperatures_len,
     const float *cuts, size_t cuts_len, const uint32_t *references, size_t references_len,
@@ -340,9 +354,10 @@ enum { TSORVENK_EDGES_ROOM = 302451 };
  *     uint8_t number = tsorvenk_step_with(&args);
  *
  * A buffer whose pointer is null has length 0, whatever its _len is: where the mode and form do not take it it is ignored,
- * and where they do it is refused with 2, but in a fill, which may have no entry, and as a text to read. A struct that is
- * initialised by name, or to 0 and then field by field, needs no change where a field is added. The functions are inline:
- * the struct is no part of what is linked. */
+ * and where they do it is refused with 2, but in a fill, which may have no entry, and as a text to read. Pins that are null
+ * pin nothing, whatever pins_len is: a table of 4096 zeros is lent in their place, n long. A struct that is initialised by
+ * name, or to 0 and then field by field, needs no change where a field is added. The functions are inline: the struct is no
+ * part of what is linked. */
 struct tsorvenk_step_args {
     uint8_t mode, form, coding, keeps;
     size_t n, d, s;
@@ -354,6 +369,8 @@ struct tsorvenk_step_args {
     size_t fwd_len;
     const uint32_t *bwd;
     size_t bwd_len;
+    const uint8_t *pins;
+    size_t pins_len;
     const int32_t *couplings;
     size_t couplings_len;
     const uint32_t *group;
@@ -395,6 +412,8 @@ struct tsorvenk_sweep_args {
     size_t fwd_len;
     const uint32_t *bwd;
     size_t bwd_len;
+    const uint8_t *pins;
+    size_t pins_len;
     const int32_t *couplings;
     size_t couplings_len;
     const uint32_t *order;
@@ -537,6 +556,17 @@ struct tsorvenk_write_edges_args {
  * local NONE, of the buffer's type, since they ask for one that is not null. */
 #define TSORVENK_LENT(buffer, none) args->buffer ? args->buffer : &none, args->buffer ? args->buffer##_len : 0
 
+/* Pins of nothing, as long as n may be. */
+static inline const uint8_t *tsorvenk_no_pins(void) {
+    static const uint8_t none[4096] = {0};
+    return none;
+}
+
+/* The pins of args likewise, where they are left out so many zeros as there are sites; an n above 4096 is refused with 1, and
+ * no more than the table is lent. */
+#define TSORVENK_PINS \
+    args->pins ? args->pins : tsorvenk_no_pins(), args->pins ? args->pins_len : args->n < 4096 ? args->n : 4096
+
 static inline uint8_t tsorvenk_step_with(const struct tsorvenk_step_args *args) {
     int8_t no_i8 = 0;
     uint8_t no_u8 = 0;
@@ -546,7 +576,7 @@ static inline uint8_t tsorvenk_step_with(const struct tsorvenk_step_args *args) 
     float no_f32 = 0;
     return tsorvenk_step(args->mode, args->form, args->coding, args->keeps, args->n, args->d, args->s,
         TSORVENK_LENT(spins, no_i8), TSORVENK_LENT(totals, no_i64), TSORVENK_LENT(fwd, no_u32), TSORVENK_LENT(bwd, no_u32),
-        TSORVENK_LENT(couplings, no_i32), TSORVENK_LENT(group, no_u32), args->temperature, TSORVENK_LENT(cuts, no_f32),
+        TSORVENK_PINS, TSORVENK_LENT(couplings, no_i32), TSORVENK_LENT(group, no_u32), args->temperature, TSORVENK_LENT(cuts, no_f32),
         args->reference, args->seed, TSORVENK_LENT(flips, no_u8), TSORVENK_LENT(perms, no_u8), TSORVENK_LENT(greys, no_u8),
         TSORVENK_LENT(labels, no_u32), TSORVENK_LENT(grey_labels, no_u32), TSORVENK_LENT(counts, no_u32),
         TSORVENK_LENT(sizes, no_u32), TSORVENK_LENT(member_sites, no_u8), TSORVENK_LENT(found, no_u32),
@@ -563,7 +593,7 @@ static inline uint8_t tsorvenk_sweep_with(const struct tsorvenk_sweep_args *args
     return tsorvenk_sweep(args->mode, args->form, args->coding, args->keeps, args->n, args->d, args->s,
         args->t, args->r, args->members, TSORVENK_LENT(spins, no_i8),
         TSORVENK_LENT(totals, no_i64), TSORVENK_LENT(fwd, no_u32), TSORVENK_LENT(bwd, no_u32),
-        TSORVENK_LENT(couplings, no_i32), TSORVENK_LENT(order, no_u32), TSORVENK_LENT(masks, no_u8),
+        TSORVENK_PINS, TSORVENK_LENT(couplings, no_i32), TSORVENK_LENT(order, no_u32), TSORVENK_LENT(masks, no_u8),
         TSORVENK_LENT(temperatures, no_f32), TSORVENK_LENT(cuts, no_f32), TSORVENK_LENT(references, no_u32),
         TSORVENK_LENT(seeds, no_u32), TSORVENK_LENT(flips, no_u8), TSORVENK_LENT(perms, no_u8),
         TSORVENK_LENT(greys, no_u8), TSORVENK_LENT(labels, no_u32), TSORVENK_LENT(grey_labels, no_u32),
@@ -686,6 +716,7 @@ static inline uint8_t tsorvenk_write_edges_with(const struct tsorvenk_write_edge
 }
 
 #undef TSORVENK_LENT
+#undef TSORVENK_PINS
 
 /* Words for each number that comes back, and for 11, which a text of frames may be answered with. */
 static inline const char *tsorvenk_refusal_words(int number) {
@@ -694,7 +725,7 @@ static inline const char *tsorvenk_refusal_words(int number) {
     case 1: return "a size, a group's size, the mode, the form, the coding or what is kept is out of its range";
     case 2: return "a buffer's length is not the exact one";
     case 3: return "a spin is not +1 or -1";
-    case 4: return "a neighbour is n or more, or the forward and backward tables are not inverse";
+    case 4: return "a neighbour is n or more, the forward and backward tables are not inverse, or a pin byte is not 0 or 1";
     case 5: return "a system is s or more or stands twice, or the order is no permutation of the systems";
     case 6: return "a coupling's size is above 1,000,000";
     case 7: return "a temperature is not from 1/1024 to 1,048,576";
@@ -709,6 +740,7 @@ static inline const char *tsorvenk_refusal_words(int number) {
     case 14: return "a total is not its system's energy at the hand-over, or is above 16,384,000,000 in size";
     case TSORVENK_IDLE: return "not refused: no site acts";
     case TSORVENK_NO_ROOM: return "there is no room for the answer";
+    case TSORVENK_HELD: return "not refused: a pin holds the seed's component";
     default: return "a number that no call gives";
     }
 }

@@ -48,10 +48,16 @@ pub struct Panel {
     pub s: usize,
     pub fwd: Vec<u32>,
     pub bwd: Vec<u32>,
+    pub pins: Vec<u8>,
     pub couplings: Vec<i32>,
 }
 
 impl Panel {
+    /// Whether some byte of its pins is not 0.
+    pub fn pinned(&self) -> bool {
+        self.pins.iter().any(|&pin| pin != 0)
+    }
+
     /// Whether a call on it takes totals.
     pub fn keeping(&self) -> bool {
         self.keeps.totals(self.form)
@@ -167,6 +173,7 @@ macro_rules! call_of {
             totals: &mut $lent.totals,
             fwd: &$case.panel.fwd,
             bwd: &$case.panel.bwd,
+            pins: &$case.panel.pins,
             couplings: &$case.panel.couplings,
             cuts: &$case.choices.cuts,
             flips: &$case.choices.flips,

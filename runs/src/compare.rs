@@ -10,6 +10,7 @@ use std::panic::{catch_unwind, AssertUnwindSafe};
 
 mod coded;
 mod labelling;
+mod pinned;
 
 pub use labelling::{damaged_labelling, labelling};
 
@@ -26,6 +27,10 @@ pub struct Line {
     pub acting: usize,
     pub odd: usize,
     pub idle: usize,
+    /// Calls with pins, those of them that the Rust is held to without pins, and held tasks.
+    pub pinned: usize,
+    pub released: usize,
+    pub held: usize,
     pub port: usize,
     pub damaged: usize,
     /// Damaged calls by the model's refusal number; entry 0 those that are accepted all the same.
@@ -213,8 +218,10 @@ pub fn single(case: &Single, port: Option<&mut Box<dyn Port>>, line: &mut Line) 
     count_kept(case, line);
     line.odd += usize::from(odd(case.panel.mode, case.group.len()));
     line.idle += usize::from(answer == Answer::Idle);
-    if published_patched::PRESENT {
-        let found = single_rust(case, answer, &lent, line);
+    line.held += usize::from(answer == Answer::Held);
+    line.count_pinned(&case.panel);
+    if let Some(released) = pinned::single(case, answer, &lent, line) {
+        let found = single_rust(&released, answer, &lent, line);
         if !found.is_empty() {
             text += &report("single move, model against Rust", case, &found);
         }
@@ -299,10 +306,14 @@ pub fn swept(case: &Swept, port: Option<&mut Box<dyn Port>>, line: &mut Line) ->
         SweepAnswer::Refused(number) => {
             let _ = writeln!(text, "  the model refuses a good call: {number}");
         }
-        SweepAnswer::Swept { idle, .. } => line.idle += idle as usize,
+        SweepAnswer::Swept { idle, held, .. } => {
+            line.idle += idle as usize;
+            line.held += held as usize;
+        }
     }
-    if published_patched::PRESENT {
-        let found = sweep_rust(case, answer, &lent, line);
+    line.count_pinned(&case.panel);
+    if let Some(released) = pinned::swept(case, answer, &lent, line) {
+        let found = sweep_rust(&released, answer, &lent, line);
         if !found.is_empty() {
             text += &report("sweep, model against Rust", case, &found);
         }

@@ -46,8 +46,20 @@ fn table(rand: &mut Rand, table: &mut [u32], n: usize, d: usize) {
     }
 }
 
+/// A byte that is no pin, or one pin too many or too few, or none at all.
+fn pins(rand: &mut Rand, pins: &mut Vec<u8>) {
+    match rand.range(0, 3) {
+        0 => longer_or_shorter(rand, pins),
+        1 => pins.clear(),
+        _ => {
+            let any = rand.range(2, 255) as u8;
+            set(rand, pins, &[2, 255, any, any]);
+        }
+    }
+}
+
 fn panel(rand: &mut Rand, panel: &mut Panel, lent: &mut Lent) {
-    match rand.range(0, 12) {
+    match rand.range(0, 14) {
         0 => size(rand, &mut panel.n, 4096),
         1 => size(rand, &mut panel.d, 4),
         2 => size(rand, &mut panel.s, 64),
@@ -62,6 +74,7 @@ fn panel(rand: &mut Rand, panel: &mut Panel, lent: &mut Lent) {
             &[1_000_001, -1_000_001, i32::MIN, i32::MAX, 1_000_000],
         ),
         10 => panel.coding = rand.pick(&Coding::ALL),
+        11 | 12 => pins(rand, &mut panel.pins),
         _ => set(rand, &mut lent.spins, &[0, 2, -2, 127, -128, 3]),
     }
 }

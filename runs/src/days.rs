@@ -1,5 +1,5 @@
 //! Days that keep totals (6/14): a thousand calls one after the other on one panel's spins and totals, moves and sweeps of every mode and form,
-//! observations and refused calls among them. After each the totals stand beside the meter.
+//! observations and refused calls among them, each with pins of its own. After each the totals stand beside the meter.
 use crate::case::{Lent, Panel, Single, Swept};
 use crate::compare::{differ, differ_lent, report, Found};
 use crate::damage;
@@ -17,8 +17,11 @@ pub struct Tally {
     pub days: usize,
     pub moved: usize,
     pub idle: usize,
+    pub held: usize,
     pub observed: usize,
     pub swept: usize,
+    /// Held tasks of sweeps.
+    pub held_tasks: usize,
     /// Calls whose permutations are numbers, refused ones too.
     pub by_number: usize,
     /// By number.
@@ -59,9 +62,10 @@ fn day(rand: &mut Rand) -> Day {
 }
 
 impl Day {
-    /// The panel in some mode and form, and the size of a group.
+    /// The panel in some mode and form, with pins of its own, and the size of a group.
     fn any(&self, rand: &mut Rand) -> (Panel, usize) {
         let mut panel = self.panel.clone();
+        panel.pins = make::pins(rand, panel.n);
         (panel.mode, panel.form) = (rand.pick(&Mode::ALL), rand.pick(&Form::ALL));
         let members = make::members(rand, panel.mode);
         (panel, members)
@@ -170,6 +174,7 @@ fn single(
         _ if case.panel.form == Form::Observe => tally.observed += 1,
         Answer::Moved => tally.moved += 1,
         Answer::Idle => tally.idle += 1,
+        Answer::Held => tally.held += 1,
     }
     if !matches!(answer, Answer::Refused(_)) {
         let sum_kept = Day::keeps_sum(case.panel.mode, case.group.len());
@@ -198,8 +203,9 @@ fn swept(
             tally.refused[usize::from(number)] += 1;
             differ_lent(&mut text, &case.lent, &lent);
         }
-        SweepAnswer::Swept { .. } => {
+        SweepAnswer::Swept { held, .. } => {
             tally.swept += 1;
+            tally.held_tasks += held as usize;
             let sum_kept = Day::keeps_sum(case.panel.mode, case.members);
             day.go_on(&mut text, lent, sum_kept);
         }

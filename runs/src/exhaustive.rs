@@ -98,6 +98,7 @@ fn case(mode: Mode, form: Form, n: usize, members: usize, number: usize) -> (Sin
             d: 1,
             s: members,
             bwd: backward(n, 1, &fwd),
+            pins: vec![0; n],
             fwd,
             couplings,
         },
@@ -111,15 +112,26 @@ fn case(mode: Mode, form: Form, n: usize, members: usize, number: usize) -> (Sin
     (single, digits.all)
 }
 
-/// All cases of each shape of up to three sites and four members that has at most `most` of them. A seed that does
-/// not act is among them.
+/// The pins whose bits this number has.
+fn pins(n: usize, number: usize) -> Vec<u8> {
+    (0..n).map(|site| (number >> site & 1) as u8).collect()
+}
+
+/// All cases of each shape of up to three sites and four members that has at most `most` of them, without pins, and with every choice of
+/// pins where there are no more than twice that. A seed that does not act is among them.
 pub fn each(mode: Mode, form: Form, most: usize, mut visit: impl FnMut(Single)) {
     let members = if mode == Mode::Cmr { 2 } else { 4 };
     for n in 1..=3 {
         for members in 2..=members {
             let (_, all) = case(mode, form, n, members, 0);
+            let patterns = if all << n <= 2 * most { 1 << n } else { 1 };
             for number in (0..all).filter(|_| all <= most) {
-                visit(case(mode, form, n, members, number).0);
+                let unpinned = case(mode, form, n, members, number).0;
+                for pattern in 0..patterns {
+                    let mut case = unpinned.clone();
+                    case.panel.pins = pins(n, pattern);
+                    visit(case);
+                }
             }
         }
     }

@@ -58,7 +58,7 @@ pub fn single(case: &Single, side: &mut dyn Port) -> Option<&'static str> {
     let members = match wolff_answer {
         Answer::Refused(_) => vec![UNTOUCHED_BYTE; lent.member_sites.len()],
         Answer::Idle => vec![0; n],
-        Answer::Moved => members_by(mode, &wolff, n, 0, case.seed),
+        Answer::Moved | Answer::Held => members_by(mode, &wolff, n, 0, case.seed),
     };
     first(&[
         (answer != wolff_answer, "the answer"),

@@ -1,12 +1,17 @@
 //! Random calls that document 01 accepts.
-use crate::case::{Bonds, Choices, Lent, Panel, Single, Swept};
+use crate::case::{Choices, Lent, Panel, Single, Swept};
 pub use crate::lattices::Size;
 use crate::lattices::{self, backward};
 use crate::model::{self, lengths, Lengths};
 use crate::rand::Rand;
 use calls::{Coding, Form, Keeps, Mode};
 
+mod bonds;
 mod kept;
+mod pinned;
+
+pub use bonds::bonds;
+pub use pinned::pins;
 
 /// What an output holds before the call, so that a byte left alone is seen.
 pub const UNTOUCHED: u32 = 0xaaaa_aaaa;
@@ -193,6 +198,7 @@ pub fn panel(rand: &mut Rand, mode: Mode, form: Form, size: Size, s: usize) -> P
             false => untaken(rand, |word| word as i32),
         },
         bwd: backward(n, d, &lattice.fwd),
+        pins: pins(rand, n),
         fwd: lattice.fwd,
     }
 }
@@ -374,26 +380,4 @@ pub fn swept_on(
         spoil_masked(&mut case);
     }
     case
-}
-
-/// A table of holding bonds on a panel's lattice. All components count, or none, or some.
-pub fn bonds(rand: &mut Rand, panel: &Panel) -> Bonds {
-    let (n, d) = (panel.n, panel.d);
-    let all = rand.pick(&[None, None, None, None, Some(1), Some(1), Some(1), Some(0)]);
-    Bonds {
-        n,
-        d,
-        fwd: panel.fwd.clone(),
-        holds: flips(rand, n * d),
-        counted: (0..n)
-            .map(|_| all.unwrap_or_else(|| rand.range(0, 1) as u8))
-            .collect(),
-        lent: Lent {
-            labels: vec![UNTOUCHED; n],
-            counts: vec![UNTOUCHED; n + 1],
-            sizes: vec![UNTOUCHED; 4],
-            found: vec![UNTOUCHED],
-            ..Lent::default()
-        },
-    }
 }

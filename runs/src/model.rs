@@ -1,6 +1,6 @@
 //! Document 01 in plain Rust, written from its text and not from overlap.rs: every sentence once, no speed. Counts and sizes are those of
-//! request 4/14, the form that grows is that of request 5/14, the totals are those of 6/14, the components are numbered as in 7/14, and
-//! permutations may be numbers as in 8/14.
+//! request 4/14, the form that grows is that of request 5/14, the totals are those of 6/14, the components are numbered as in 7/14,
+//! permutations may be numbers as in 8/14, and sites may be pinned as in 9/14.
 use crate::case;
 use calls::{Answer, HandOver, Label, Meter, MeterAnswer, Port, Step, Sweep, SweepAnswer};
 use calls::{Coding, Form, Mode};
@@ -58,6 +58,7 @@ struct Task<'a> {
     mode: Mode,
     form: Form,
     coding: Coding,
+    pins: &'a [u8],
     group: Vec<usize>,
     temperature: f32,
     cuts: &'a [f32],
@@ -77,6 +78,16 @@ pub fn energies(panel: &case::Panel, spins: &[i8]) -> Vec<i64> {
 pub fn active(call: &Step) -> Vec<bool> {
     let (panel, task) = (panel_of!(call), single_task(call));
     (0..call.n).map(|i| acts(panel, &task, i)).collect()
+}
+
+/// Of each acting site of one move that is not refused, whether its component, in CMR the blue one, is held by no pin.
+pub fn unheld(call: &Step) -> Vec<Option<bool>> {
+    let (panel, task) = (panel_of!(call), single_task(call));
+    let first = moves::components(panel, &task, false);
+    let free = |i: usize| !first.held[first.labels[i]];
+    (0..call.n)
+        .map(|i| acts(panel, &task, i).then(|| free(i)))
+        .collect()
 }
 
 /// The acting sites of one task of a sweep that is not refused; its seeds need not be there yet.
@@ -109,6 +120,7 @@ fn single_task<'a>(call: &'a Step) -> Task<'a> {
         mode: call.mode,
         form: call.form,
         coding: call.coding,
+        pins: call.pins,
         group: systems(call.group),
         temperature: call.temperature,
         cuts: call.cuts,
@@ -125,6 +137,7 @@ fn single_length_refused(call: &Step) -> bool {
     let exact =
         lengths(call.mode, call.form, call.n, call.d, members, 1).spelt(call.coding, members);
     panel_length_refused(panel_of!(call))
+        || call.pins.len() != call.n
         || differs(exact.couplings, call.couplings.len())
         || differs(exact.cuts, call.cuts.len())
         || differs(exact.flips, call.flips.len())
@@ -154,9 +167,15 @@ fn single_refusal(call: &Step) -> Option<u8> {
     }
     let temperature = [call.temperature];
     let drawn: &[f32] = if draws { &temperature } else { &[] };
-    panel_refusal(panel, &systems(call.group), draws || keeping, drawn)
-        .or_else(|| task_refusal(panel, &single_task(call)))
-        .or_else(|| totals_refusal(keeping, call.totals))
+    panel_refusal(
+        panel,
+        call.pins,
+        &systems(call.group),
+        draws || keeping,
+        drawn,
+    )
+    .or_else(|| task_refusal(panel, &single_task(call)))
+    .or_else(|| totals_refusal(keeping, call.totals))
 }
 
 // --- The five calls ---
@@ -199,10 +218,16 @@ impl Done {
         }
     }
 
-    fn idle(&self) -> bool {
-        match self {
-            Done::Labelled(done) => done.idle,
-            Done::Grown(done) => done.idle,
+    /// Idle before held, and held before moved.
+    fn answer(&self) -> Answer {
+        let (idle, held) = match self {
+            Done::Labelled(done) => (done.idle, done.held),
+            Done::Grown(done) => (done.idle, done.held),
+        };
+        match (idle, held) {
+            (true, _) => Answer::Idle,
+            (_, true) => Answer::Held,
+            _ => Answer::Moved,
         }
     }
 
@@ -297,10 +322,7 @@ impl Port for Model {
             found: call.found,
             grey_found: call.grey_found,
         });
-        match done.idle() {
-            true => Answer::Idle,
-            false => Answer::Moved,
-        }
+        done.answer()
     }
 
     fn sweep(&mut self, call: Sweep) -> SweepAnswer {
@@ -310,7 +332,7 @@ impl Port for Model {
         let each = lengths(call.mode, call.form, call.n, call.d, call.members, 1);
         let keeping = call.keeps.totals(call.form);
         let before = metered(keeping, panel_of!(call));
-        let (mut idle, mut moved) = (0, 0);
+        let (mut idle, mut moved, mut held) = (0, 0, 0);
         for number in unmasked(&call) {
             let task = sweep_task(&call, number);
             let done = Done::of(panel_of!(call), &task);
@@ -325,13 +347,14 @@ impl Port for Model {
                 found: area(each.found, call.found, number),
                 grey_found: area(each.grey_found, call.grey_found, number),
             });
-            match done.idle() {
-                true => idle += 1,
-                false => moved += 1,
+            match done.answer() {
+                Answer::Idle => idle += 1,
+                Answer::Held => held += 1,
+                _ => moved += 1,
             }
         }
         bring(call.totals, &before, &metered(keeping, panel_of!(call)));
-        SweepAnswer::Swept { idle, moved }
+        SweepAnswer::Swept { idle, moved, held }
     }
 
     fn energy(&mut self, call: Meter) -> MeterAnswer {
@@ -347,7 +370,7 @@ impl Port for Model {
             return number;
         }
         let ones = |bytes: &[u8]| -> Vec<bool> { bytes.iter().map(|&byte| byte == 1).collect() };
-        let all = Components::new(call.n, call.d, call.fwd, &ones(call.holds));
+        let all = Components::new(call.n, call.d, call.fwd, &ones(call.holds), &[]);
         write_numbers(call.labels, call.found, &all);
         write_sizes(call.counts, call.sizes, &all, &ones(call.counted));
         0

@@ -66,6 +66,7 @@ mod linked {
                 totals: $from.totals,
                 fwd: $from.fwd,
                 bwd: $from.bwd,
+                pins: Some($from.pins),
                 couplings: $from.couplings,
                 cuts: $from.cuts,
                 flips: $from.flips,
@@ -102,6 +103,7 @@ mod linked {
             })) {
                 Ok(tsorvenk::Stepped::Moved) => Answer::Moved,
                 Ok(tsorvenk::Stepped::Idle) => Answer::Idle,
+                Ok(tsorvenk::Stepped::Held) => Answer::Held,
                 Err(refusal) => Answer::Refused(refusal.number),
             }
         }
@@ -117,7 +119,11 @@ mod linked {
                 references,
                 seeds,
             })) {
-                Ok(tsorvenk::Swept { idle, moved, .. }) => SweepAnswer::Swept { idle, moved },
+                Ok(swept) => SweepAnswer::Swept {
+                    idle: swept.idle,
+                    moved: swept.moved,
+                    held: swept.held,
+                },
                 Err(refusal) => SweepAnswer::Refused(refusal.number),
             }
         }

@@ -16,7 +16,7 @@ pub fn step(numbers: Numbers, call: Step) -> Option<u8> {
     }
 }
 
-/// The same of a sweep, with the two counts that it writes.
+/// The same of a sweep, with the three counts that it writes.
 pub fn sweep(numbers: Numbers, call: Sweep, outcomes: &mut [u32]) -> Option<u8> {
     #[cfg(port)]
     return Some(linked::sweep(numbers, call, outcomes));
@@ -58,7 +58,7 @@ mod linked {
         fn tsorvenk_step(
             mode: u8, form: u8, coding: u8, keeps: u8, n: usize, d: usize, s: usize,
             spins: *mut i8, spins_len: usize, totals: *mut i64, totals_len: usize,
-            fwd: *const u32, fwd_len: usize, bwd: *const u32, bwd_len: usize,
+            fwd: *const u32, fwd_len: usize, bwd: *const u32, bwd_len: usize, pins: *const u8, pins_len: usize,
             couplings: *const i32, couplings_len: usize, group: *const u32, group_len: usize,
             temperature: f32, cuts: *const f32, cuts_len: usize, reference: usize, seed: usize,
             flips: *const u8, flips_len: usize, perms: *const u8, perms_len: usize, greys: *const u8, greys_len: usize,
@@ -70,7 +70,7 @@ mod linked {
         fn tsorvenk_sweep(
             mode: u8, form: u8, coding: u8, keeps: u8, n: usize, d: usize, s: usize, t: usize, r: usize, members: usize,
             spins: *mut i8, spins_len: usize, totals: *mut i64, totals_len: usize,
-            fwd: *const u32, fwd_len: usize, bwd: *const u32, bwd_len: usize,
+            fwd: *const u32, fwd_len: usize, bwd: *const u32, bwd_len: usize, pins: *const u8, pins_len: usize,
             couplings: *const i32, couplings_len: usize, order: *const u32, order_len: usize,
             masks: *const u8, masks_len: usize, temperatures: *const f32, temperatures_len: usize,
             cuts: *const f32, cuts_len: usize, references: *const u32, references_len: usize,
@@ -91,7 +91,7 @@ mod linked {
             tsorvenk_step(
                 mode, form, coding, keeps, call.n, call.d, call.s,
                 call.spins.as_mut_ptr(), call.spins.len(), call.totals.as_mut_ptr(), call.totals.len(),
-                call.fwd.as_ptr(), call.fwd.len(), call.bwd.as_ptr(), call.bwd.len(),
+                call.fwd.as_ptr(), call.fwd.len(), call.bwd.as_ptr(), call.bwd.len(), call.pins.as_ptr(), call.pins.len(),
                 call.couplings.as_ptr(), call.couplings.len(), call.group.as_ptr(), call.group.len(),
                 call.temperature, call.cuts.as_ptr(), call.cuts.len(), call.reference, call.seed,
                 call.flips.as_ptr(), call.flips.len(), call.perms.as_ptr(), call.perms.len(),
@@ -109,7 +109,7 @@ mod linked {
             tsorvenk_sweep(
                 mode, form, coding, keeps, call.n, call.d, call.s, call.t, call.r, call.members,
                 call.spins.as_mut_ptr(), call.spins.len(), call.totals.as_mut_ptr(), call.totals.len(),
-                call.fwd.as_ptr(), call.fwd.len(), call.bwd.as_ptr(), call.bwd.len(),
+                call.fwd.as_ptr(), call.fwd.len(), call.bwd.as_ptr(), call.bwd.len(), call.pins.as_ptr(), call.pins.len(),
                 call.couplings.as_ptr(), call.couplings.len(), call.order.as_ptr(), call.order.len(),
                 call.masks.as_ptr(), call.masks.len(), call.temperatures.as_ptr(), call.temperatures.len(),
                 call.cuts.as_ptr(), call.cuts.len(), call.references.as_ptr(), call.references.len(),

@@ -262,6 +262,8 @@ impl<'a> Reader<'a> {
             s,
             fwd: self.numbers(n * d, 2),
             bwd: self.numbers(n * d, 2),
+            // the Rust knows no pins
+            pins: vec![0; n],
             couplings: self
                 .numbers(optional(exact.couplings), 4)
                 .iter()

@@ -7,6 +7,7 @@ use calls::{Coding, Form, Keeps, Mode};
 use std::time::Instant;
 
 pub mod pieces;
+pub mod pinned;
 
 /// The median of single runs, in microseconds. `ready` is not timed.
 pub fn median<S>(
@@ -82,6 +83,7 @@ pub fn panel_of(rand: &mut Rand, mode: Mode, form: Form, n: usize, d: usize, s: 
         d,
         s,
         bwd: backward(n, d, &fwd),
+        pins: vec![0; n],
         fwd,
         couplings: (0..d * n).map(|_| rand.pick(&[1, -1])).collect(),
     }

@@ -3,7 +3,7 @@ mod common;
 
 use calls::Form::{Grow, Observe, Sw, Wolff};
 use calls::Mode::{Cmr, Gperm, Houd, Jorg, Pair, Perm};
-use calls::{Answer, Coding, Form, Keeps, Mode, SweepAnswer};
+use calls::{Answer, Coding, Form, Keeps, Mode};
 use common::*;
 use tsorvenk_runs::case::{Choices, Lent, Panel, Single, Swept};
 use tsorvenk_runs::coded::numbers;
@@ -192,7 +192,7 @@ fn sweeps() {
     for form in MOVING {
         let good = sweep_of_five(Perm, form);
         let (answer, lent) = run_sweep(&good);
-        assert_eq!(answer, SweepAnswer::Swept { idle: 0, moved: 4 });
+        assert_eq!(answer, swept(0, 4, 0));
         let mut rows = good.clone();
         rows.panel.coding = Coding::Rows;
         let row = |&number: &u8| model::orders()[usize::from(number)];
@@ -202,7 +202,7 @@ fn sweeps() {
         let mut masked = good.clone();
         masked.masks = vec![1, 0];
         masked.choices.perms[..2].fill(255);
-        let one = SweepAnswer::Swept { idle: 0, moved: 2 };
+        let one = swept(0, 2, 0);
         assert_eq!(run_sweep(&masked).0, one);
         masked.choices.perms[3] = 120;
         sweep_refused(&masked, 9);
@@ -254,6 +254,7 @@ fn numbers_that_are_none() {
             let code = match answer {
                 Answer::Moved => 0,
                 Answer::Idle => 64,
+                Answer::Held => 66,
                 Answer::Refused(number) => number,
             };
             assert_eq!(found, (code, after), "{case:?}");
@@ -279,10 +280,10 @@ fn numbers_that_are_none() {
             for none in [first, 128, 255] {
                 let mut lent = numbers(&case.panel);
                 lent[place] = none;
-                let (mut after, mut outcomes) = (case.lent.clone(), [9; 2]);
+                let (mut after, mut outcomes) = (case.lent.clone(), [9; 3]);
                 let code = raw::sweep(lent, case.sweep(&mut after), &mut outcomes);
                 if let Some(code) = code {
-                    assert_eq!((code, after, outcomes), (1, case.lent.clone(), [9; 2]));
+                    assert_eq!((code, after, outcomes), (1, case.lent.clone(), [9; 3]));
                 }
             }
         }

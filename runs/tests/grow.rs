@@ -3,7 +3,7 @@ mod common;
 
 use calls::Form::{Grow, Observe, Sw, Wolff};
 use calls::Mode::{Cmr, Gperm, Houd, Jorg, Pair, Perm};
-use calls::{Answer, Form, Mode, SweepAnswer};
+use calls::{Answer, Form, Mode};
 use common::*;
 use tsorvenk_runs::case::{Lent, Single};
 use tsorvenk_runs::grown;
@@ -184,8 +184,7 @@ fn a_sweep_writes_the_members_of_unmasked_tasks() {
     assert_eq!(case.lent.member_sites.len(), 3);
     case.masks = vec![0, 1, 0];
     let (answer, lent) = run_sweep(&case);
-    let (idle, moved) = (1, 1);
-    assert_eq!(answer, SweepAnswer::Swept { idle, moved });
+    assert_eq!(answer, swept(1, 1, 0));
     assert_eq!(lent.member_sites, [1, 9, 0]);
     assert_eq!(lent.spins, spins(&["-", "+", "+", "-", "+", "+"]));
     assert_eq!(grown::swept(&case, &mut Model), None);

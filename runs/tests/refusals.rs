@@ -1,7 +1,7 @@
 //! Refusals in the table's order, and what a sweep reads, writes and counts, worked by hand.
 mod common;
 
-use calls::{Answer, SweepAnswer};
+use calls::Answer;
 use common::*;
 
 use calls::Form::{Observe, Sw, Wolff};
@@ -56,8 +56,7 @@ fn refusals_of_single_moves() {
 fn refusals_of_sweeps() {
     let mut good = sweep(Jorg, Wolff, 1, &["+", "-", "+", "-"]);
     good.panel.couplings = vec![1];
-    let (idle, moved) = (0, 2);
-    assert_eq!(run_sweep(&good).0, SweepAnswer::Swept { idle, moved });
+    assert_eq!(run_sweep(&good).0, swept(0, 2, 0));
     let mut tasks_first = good.clone();
     tasks_first.choices.cuts = vec![0.0, f32::NAN];
     tasks_first.seeds = vec![1, 0];
@@ -91,7 +90,7 @@ fn masked_tasks_are_left_alone() {
     case.choices.cuts[0] = f32::NAN;
     case.seeds[0] = 9;
     let (answer, lent) = run_sweep(&case);
-    assert_eq!(answer, SweepAnswer::Swept { idle: 0, moved: 1 });
+    assert_eq!(answer, swept(0, 1, 0));
     assert_eq!(lent.labels, [9, 0]);
     assert_eq!(lent.counts, [9, 9, 0, 1]);
     assert_eq!(lent.sizes, [9, 9, 9, 9, 1, 0, 0, 0]);
@@ -101,14 +100,14 @@ fn masked_tasks_are_left_alone() {
     sweep_refused(&case, 7);
     case.temperatures[0] = 1.0;
     case.masks = vec![1, 1];
-    let none = SweepAnswer::Swept { idle: 0, moved: 0 };
+    let none = swept(0, 0, 0);
     assert_eq!(run_sweep(&case), (none, case.lent.clone()));
 }
 
 #[test]
 fn a_choice_of_nothing_counts_as_moved() {
     let acting = sweep(Perm, Sw, 1, &["+", "-", "+", "+"]);
-    let one_each = SweepAnswer::Swept { idle: 1, moved: 1 };
+    let one_each = swept(1, 1, 0);
     assert_eq!(run_sweep(&acting), (one_each, run_sweep(&acting).1));
     assert_eq!(run_sweep(&acting).1.spins, acting.lent.spins);
 }

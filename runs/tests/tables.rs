@@ -26,6 +26,7 @@ fn panel(n: usize, d: usize) -> Single {
     let mut case = call(Mode::Perm, Form::Observe, &[0], &["+", "-"]);
     (case.panel.n, case.panel.d) = (n, d);
     (case.panel.fwd, case.panel.bwd) = (vec![0; n * d], vec![0; n * d]);
+    case.panel.pins = vec![0; n];
     case.panel.couplings = vec![1; n * d];
     case.lent.spins = [vec![1; n], vec![-1; n]].concat();
     case.lent.labels = vec![9; n];

@@ -3,7 +3,7 @@ mod common;
 
 use calls::Form::{Grow, Observe, Sw, Wolff};
 use calls::Mode::{Cmr, Gperm, Houd, Jorg, Pair, Perm};
-use calls::{Answer, Form, Keeps, MeterAnswer, Mode, Port, SweepAnswer};
+use calls::{Answer, Form, Keeps, MeterAnswer, Mode, Port};
 use common::*;
 use tsorvenk_runs::case::{Single, Swept};
 use tsorvenk_runs::model::{energies, Model};
@@ -206,7 +206,7 @@ fn a_sweep_keeps_totals() {
     let alone = sweep(Pair, Wolff, 2, &["+", "-", "+", "+"]);
     let case = sweep_keeping(alone, &[9], &[1, 2, 3, 4]);
     let (answer, lent) = run_sweep(&case);
-    assert_eq!(answer, SweepAnswer::Swept { idle: 1, moved: 1 });
+    assert_eq!(answer, swept(1, 1, 0));
     assert_eq!(lent.totals, [1, 2, 3, 4]);
     let mut late = case.clone();
     late.lent.totals[3] = -MOST - 1;

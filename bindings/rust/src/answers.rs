@@ -2,7 +2,7 @@
 use std::error::Error;
 use std::fmt;
 
-/// What became of a step that is not refused. What its form writes beside the spins is written in either case.
+/// What became of a step that is not refused. What its form writes beside the spins is written in every case.
 #[derive(Clone, Copy, Debug, PartialEq, Eq, Hash)]
 pub enum Stepped {
     /// Some site acts (in CMR every site does), even if every choice was to leave the spins as they are. An observation
@@ -10,6 +10,9 @@ pub enum Stepped {
     Moved,
     /// No site acts: the spins are as they were.
     Idle,
+    /// Some site acts, but the component of the seed (in CMR its blue one) has a pinned site: spins and totals are as they were.
+    /// Wolff and grow alone answer so; SW and an observation never do.
+    Held,
 }
 
 /// The counts of a sweep that is not refused, over the tasks of unmasked temperatures.
@@ -18,8 +21,10 @@ pub enum Stepped {
 pub struct Swept {
     /// How many tasks were idle: no site acts.
     pub idle: u32,
-    /// How many were not, even if every choice was to leave the spins as they are.
+    /// How many moved, which are all others, even if every choice was to leave the spins as they are.
     pub moved: u32,
+    /// How many were held by a pin: 0 in SW and where nothing is pinned.
+    pub held: u32,
 }
 
 /// Why a call is refused. Every buffer that it was lent is as it was.
@@ -62,14 +67,14 @@ impl fmt::Display for NoRoom {
 impl Error for NoRoom {}
 
 /// Words for each number of the C interface, whose `tsorvenk_refusal_words` has the same: the refusals 1 to 10 and 12 to 14,
-/// 11 of a text of frames, and 0, 64 and 65, which are none.
+/// 11 of a text of frames, and 0, 64, 65 and 66, which are none.
 pub fn refusal_words(number: u8) -> &'static str {
     match number {
         0 => "not refused",
         1 => "a size, a group's size, the mode, the form, the coding or what is kept is out of its range",
         2 => "a buffer's length is not the exact one",
         3 => "a spin is not +1 or -1",
-        4 => "a neighbour is n or more, or the forward and backward tables are not inverse",
+        4 => "a neighbour is n or more, the forward and backward tables are not inverse, or a pin byte is not 0 or 1",
         5 => "a system is s or more or stands twice, or the order is no permutation of the systems",
         6 => "a coupling's size is above 1,000,000",
         7 => "a temperature is not from 1/1024 to 1,048,576",
@@ -82,6 +87,7 @@ pub fn refusal_words(number: u8) -> &'static str {
         14 => "a total is not its system's energy at the hand-over, or is above 16,384,000,000 in size",
         64 => "not refused: no site acts",
         65 => "there is no room for the answer",
+        66 => "not refused: a pin holds the seed's component",
         _ => "a number that no call gives",
     }
 }

@@ -123,6 +123,10 @@ pub struct Step<'a> {
     pub fwd: &'a [u32],
     /// n * d: the backward neighbours, inverse to `fwd`.
     pub bwd: &'a [u32],
+    /// n, each 0 or 1: 1 pins the site. Left out, `None`, nothing is pinned. A component with a pinned site is held, all of it: it
+    /// does not move, in any mode, and is labelled and counted as ever. In CMR a grey component that is held does not move, but the
+    /// blue ones in it that are not held still flip. To observe tests pins, and they change nothing.
+    pub pins: Option<&'a [u8]>,
     /// n * d, at the bond's entry, each from -1,000,000 to 1,000,000. Jörg, CMR, in every form; totals kept, in every mode.
     pub couplings: &'a [i32],
     /// N systems, 2 to 8 (CMR: 2); they differ, and their order matters.
@@ -200,6 +204,8 @@ pub struct Sweep<'a> {
     pub fwd: &'a [u32],
     /// n * d, as in a step.
     pub bwd: &'a [u32],
+    /// n, as in a step: the same pins in every task. Left out, `None`, nothing is pinned.
+    pub pins: Option<&'a [u8]>,
     /// n * d, as in a step. Jörg, CMR, in every form; totals kept, in every mode.
     pub couplings: &'a [i32],
     /// s: a permutation of the systems.

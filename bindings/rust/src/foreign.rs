@@ -4,7 +4,7 @@ extern "C" {
     pub fn tsorvenk_step(
         mode: u8, form: u8, coding: u8, keeps: u8, n: usize, d: usize, s: usize,
         spins: *mut i8, spins_len: usize, totals: *mut i64, totals_len: usize,
-        fwd: *const u32, fwd_len: usize, bwd: *const u32, bwd_len: usize,
+        fwd: *const u32, fwd_len: usize, bwd: *const u32, bwd_len: usize, pins: *const u8, pins_len: usize,
         couplings: *const i32, couplings_len: usize, group: *const u32, group_len: usize,
         temperature: f32, cuts: *const f32, cuts_len: usize, reference: usize, seed: usize,
         flips: *const u8, flips_len: usize, perms: *const u8, perms_len: usize, greys: *const u8, greys_len: usize,
@@ -16,7 +16,7 @@ extern "C" {
     pub fn tsorvenk_sweep(
         mode: u8, form: u8, coding: u8, keeps: u8, n: usize, d: usize, s: usize, t: usize, r: usize, members: usize,
         spins: *mut i8, spins_len: usize, totals: *mut i64, totals_len: usize,
-        fwd: *const u32, fwd_len: usize, bwd: *const u32, bwd_len: usize,
+        fwd: *const u32, fwd_len: usize, bwd: *const u32, bwd_len: usize, pins: *const u8, pins_len: usize,
         couplings: *const i32, couplings_len: usize, order: *const u32, order_len: usize,
         masks: *const u8, masks_len: usize, temperatures: *const f32, temperatures_len: usize,
         cuts: *const f32, cuts_len: usize, references: *const u32, references_len: usize,

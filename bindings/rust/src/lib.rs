@@ -9,7 +9,8 @@
 //! A move draws nothing itself (cuts, flips, permutations and seeds are lent), allocates nothing and keeps nothing between
 //! calls, so calls on different buffers may run at the same time. A `Source` draws such choices, all but the cuts, from a
 //! seed of four words, so that a day can be repeated. A move or sweep may keep each system's energy current beside the
-//! spins ([`Keeps::Totals`]). A permutation of five may be lent as one byte, its number ([`Coding::Numbers`]).
+//! spins ([`Keeps::Totals`]). A permutation of five may be lent as one byte, its number ([`Coding::Numbers`]). Sites may be
+//! pinned ([`Step::pins`]): what hangs together with one does not move.
 //!
 //! ```
 //! use tsorvenk::{step, Form, Mode, Refusal, Step, Stepped};

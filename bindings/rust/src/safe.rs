@@ -4,6 +4,14 @@ use crate::answers::{NoRoom, Refusal, Stepped, Swept};
 use crate::calls::{Energy, Frames, HandOver, Label, MeterAll, ReadEdges, Step, Sweep, WriteEdges};
 use crate::foreign::*;
 
+/// What is lent where pins are left out: as many zeros as there are sites. More sites than these are refused with 1, whatever the
+/// length of the pins is.
+static UNPINNED: [u8; 4096] = [0; 4096];
+
+fn pins_or_none(pins: Option<&[u8]>, n: usize) -> &[u8] {
+    pins.unwrap_or(&UNPINNED[..n.min(UNPINNED.len())])
+}
+
 /// One move or observation of one group. The example of the [crate] is one; this one grows from its seed and labels nothing.
 ///
 /// ```
@@ -34,11 +42,12 @@ use crate::foreign::*;
 #[inline]
 #[rustfmt::skip]
 pub fn step(call: Step) -> Result<Stepped, Refusal> {
+    let pins = pins_or_none(call.pins, call.n);
     let number = unsafe {
         tsorvenk_step(
             call.mode as u8, call.form as u8, call.coding as u8, call.keeps as u8, call.n, call.d, call.s,
             call.spins.as_mut_ptr(), call.spins.len(), call.totals.as_mut_ptr(), call.totals.len(),
-            call.fwd.as_ptr(), call.fwd.len(), call.bwd.as_ptr(), call.bwd.len(),
+            call.fwd.as_ptr(), call.fwd.len(), call.bwd.as_ptr(), call.bwd.len(), pins.as_ptr(), pins.len(),
             call.couplings.as_ptr(), call.couplings.len(), call.group.as_ptr(), call.group.len(),
             call.temperature, call.cuts.as_ptr(), call.cuts.len(), call.reference, call.seed,
             call.flips.as_ptr(), call.flips.len(), call.perms.as_ptr(), call.perms.len(),
@@ -52,6 +61,7 @@ pub fn step(call: Step) -> Result<Stepped, Refusal> {
     match number {
         0 => Ok(Stepped::Moved),
         64 => Ok(Stepped::Idle),
+        66 => Ok(Stepped::Held),
         number => Err(Refusal { number }),
     }
 }
@@ -85,7 +95,7 @@ pub fn step(call: Step) -> Result<Stepped, Refusal> {
 ///     found: &mut found,
 ///     ..Default::default()
 /// })?;
-/// assert_eq!((swept.idle, swept.moved), (1, 1));
+/// assert_eq!((swept.idle, swept.moved, swept.held), (1, 1, 0));
 /// assert_eq!(spins, [-1, 1, 1, 1]);
 /// assert_eq!((found, counts), ([1, 1], [0, 1, 0, 0]), "what does not act is found and not counted");
 /// # Ok::<(), tsorvenk::Refusal>(())
@@ -93,13 +103,14 @@ pub fn step(call: Step) -> Result<Stepped, Refusal> {
 #[inline]
 #[rustfmt::skip]
 pub fn sweep(call: Sweep) -> Result<Swept, Refusal> {
-    let mut outcomes = [0u32; 2];
+    let pins = pins_or_none(call.pins, call.n);
+    let mut outcomes = [0u32; 3];
     let number = unsafe {
         tsorvenk_sweep(
             call.mode as u8, call.form as u8, call.coding as u8, call.keeps as u8,
             call.n, call.d, call.s, call.t, call.r, call.members,
             call.spins.as_mut_ptr(), call.spins.len(), call.totals.as_mut_ptr(), call.totals.len(),
-            call.fwd.as_ptr(), call.fwd.len(), call.bwd.as_ptr(), call.bwd.len(),
+            call.fwd.as_ptr(), call.fwd.len(), call.bwd.as_ptr(), call.bwd.len(), pins.as_ptr(), pins.len(),
             call.couplings.as_ptr(), call.couplings.len(), call.order.as_ptr(), call.order.len(),
             call.masks.as_ptr(), call.masks.len(), call.temperatures.as_ptr(), call.temperatures.len(),
             call.cuts.as_ptr(), call.cuts.len(), call.references.as_ptr(), call.references.len(),
@@ -114,7 +125,7 @@ pub fn sweep(call: Sweep) -> Result<Swept, Refusal> {
         )
     };
     match number {
-        0 => Ok(Swept { idle: outcomes[0], moved: outcomes[1] }),
+        0 => Ok(Swept { idle: outcomes[0], moved: outcomes[1], held: outcomes[2] }),
         number => Err(Refusal { number }),
     }
 }

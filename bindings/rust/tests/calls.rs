@@ -140,7 +140,7 @@ fn a_sweep_grows_in_its_tasks() {
     };
     assert_eq!(grow(&mut member_sites[..1]), Err(Refusal { number: 2 }));
     let swept = grow(&mut member_sites).unwrap();
-    assert_eq!((swept.idle, swept.moved), (1, 1));
+    assert_eq!((swept.idle, swept.moved, swept.held), (1, 1, 0));
     assert_eq!((spins, member_sites), ([-1, 1, 1, 1], [1, 0]));
 }
 
@@ -186,7 +186,7 @@ fn a_refusal_is_an_error_with_words() {
         .collect();
     assert_eq!(
         known,
-        [0, 1, 2, 3, 4, 5, 6, 7, 8, 9, 10, 11, 12, 13, 14, 64, 65]
+        [0, 1, 2, 3, 4, 5, 6, 7, 8, 9, 10, 11, 12, 13, 14, 64, 65, 66]
     );
     let mut words: Vec<&str> = known.iter().map(|&number| refusal_words(number)).collect();
     words.sort_unstable();

@@ -1,15 +1,19 @@
 -- What each site's column becomes, from the labels and the lent choices.
 use Prim.Native.Nat.{ℕ, _*_, _≤_, _<_}
-use mathlib.Core.Path.{_≡_}
-use mathlib.Core.Bool.{Bool, true, cond, _&&_}
+use mathlib.Core.Path.{_≡_, refl, _∙_, ap}
+use mathlib.Core.Bool.{Bool, true, not, cond, _&&_}
 use mathlib.Core.List.{List}
+use native.Mathlib.Omega.{arith}
+use borrow.Author.Tests.{eq-eqb}
 use lib.Dec.{eqb}
 use lib.ListN.{length, getD}
+use Rattle.lemmas.specs.Counts.{count-pos}
 use Rattle.paper.specs.declared.Form.{Form}
 use Rattle.paper.specs.declared.Mode.{Mode}
 use Rattle.paper.specs.Panel.Takes.{isSw, oneCluster, moves, entries}
-use Rattle.paper.specs.Component.Sizes.{labelOf, Sized}
-use Rattle.paper.specs.Move.Moving.{flipBy, permAt, greyAt, greyBit, flipSome, reachedBy}
+use Rattle.paper.specs.Component.Sizes.{labelOf, sizeOf, Sized}
+use Rattle.paper.specs.Component.Marks.{Flags}
+use Rattle.paper.specs.Move.Moving.{flipBy, permAt, greyAt, greyBit, flipSome, reachedBy, hasOne}
 use Rattle.columns.specs.Column.{shown, columnOf}
 use Rattle.columns.specs.Gauge.{permutedBy}
 
@@ -28,18 +32,54 @@ pub record Sites (reached labels cols : List ℕ) : Type 0 where
 abbrev pub isOne : List ℕ → ℕ → Bool
 isOne xs i = eqb (getD xs i 0) 1
 
+-- a site is one of those that have its label
+pub has-itself : (l : List ℕ) (i : ℕ) → i < length l → 0 < sizeOf l (labelOf l i)
+unfolding sizeOf
+has-itself l i h = count-pos (λ j. eqb (labelOf l j) (labelOf l i)) (length l) i h (eq-eqb (labelOf l i) (labelOf l i) refl)
+
+-- ---- which components are held
+
+-- what `hold_back` is lent: for each site a pin and a label, and as many numbers, one for each label
+pub record Holdable (pins labels tally : List ℕ) : Type 0 where
+  pub labelled : length labels ≡ length pins
+  pub tallied : length tally ≡ length pins
+  pub below : (i : ℕ) → i < length pins → getD labels i 0 < length pins
+
+-- the number of the label r becomes 0 where a site with that label is pinned
+abbrev pub heldBack : List ℕ → List ℕ → List ℕ → ℕ → ℕ
+heldBack pins labels tally r = cond (hasOne (isOne pins) labels r) 0 (getD tally r 0)
+
+-- the number is the size of a component that is not held, and 0 of one that is
+pub record Freed (pins l tally : List ℕ) : Type 0 where
+  pub long : length tally ≡ length l
+  pub each : (r : ℕ) → r < length l → getD tally r 0 ≡ cond (hasOne (isOne pins) l r) 0 (sizeOf l r)
+
+-- so it is once sizes are held back
+pub freed : {pins l old new : List ℕ} → Sized l old → Becomes (heldBack pins l old) old new → Freed pins l new
+freed {pins} {l} s b = record {
+  long = b .long ∙ s .long;
+  each = λ r h. b .at r (omega (arith, s .long)) ∙ ap (λ (x : ℕ). cond (hasOne (isOne pins) l r) 0 x) (s .each r h);
+}
+
 -- ---- which sites move
 
--- what `reach` is lent: a mark of each site that acts, its label, how many sites have each label, and the seed of one component
+-- what `reach` is lent: a mark of each site that acts, its label, how many sites have each label that is not held, and the seed of one component
 pub record Marked (form : Form) (seed : ℕ) (acts labels tally reached : List ℕ) : Type 0 where
   pub labelled : length labels ≡ length acts
   pub below : (i : ℕ) → i < length acts → getD labels i 0 < length acts
-  pub sized : Sized labels tally
+  pub pins : List ℕ
+  pub sized : Freed pins labels tally
   pub seeded : oneCluster form ≡ true → seed < length acts
   pub lent : length reached ≡ length acts
 
-abbrev pub reachedAt : Form → Mode → ℕ → List ℕ → List ℕ → ℕ → Bool
-reachedAt form mode seed acts labels i = isOne acts i && reachedBy form mode seed labels i
+abbrev pub reachedAt : Form → Mode → ℕ → List ℕ → List ℕ → List ℕ → ℕ → Bool
+reachedAt form mode seed pins acts labels i =
+    isOne acts i && (reachedBy form mode seed labels i && not (hasOne (isOne pins) labels (labelOf labels i)))
+
+-- a mark of each, for the pins by which the tally was held back
+abbrev pub Reached : Form → Mode → ℕ → List ℕ → List ℕ → List ℕ → List ℕ → Type 0
+Reached form mode seed acts labels tally ys =
+    (pins : List ℕ) → Freed pins labels tally → Flags (length acts) (reachedAt form mode seed pins acts labels) ys
 
 -- ---- flips
 

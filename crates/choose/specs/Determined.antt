@@ -8,8 +8,7 @@ use lib.Seq.{ext-getD}
 use Rattle.paper.specs.declared.Form.{Form}
 use Rattle.paper.specs.declared.Group.{Group}
 use Rattle.paper.specs.declared.Mode.{Mode}
-use Rattle.paper.specs.Component.Marks.{Flags}
-use Rattle.choose.specs.Chosen.{Becomes, reachedAt, flippedAt, greyed, greyedAt, permutedAt}
+use Rattle.choose.specs.Chosen.{Becomes, heldBack, Marked, Reached, flippedAt, greyed, greyedAt, permutedAt}
 
 -- a length and an entry at each place below it leave one list
 only : (n : ℕ) (f : ℕ → ℕ) (ys zs : List ℕ) → length ys ≡ n → length zs ≡ n → ((i : ℕ) → i < n → getD ys i 0 ≡ f i) → ((i : ℕ) → i < n → getD zs i 0 ≡ f i)
@@ -19,9 +18,16 @@ only n f ys zs l m p q = ext-getD 0 ys zs (l ∙ sym m) (λ i h. p i (omega arit
 pub becomes-determined : (f : ℕ → ℕ) (xs ys zs : List ℕ) → Becomes f xs ys → Becomes f xs zs → ys ≡ zs
 becomes-determined f xs ys zs p q = only (length xs) f ys zs (p .long) (q .long) (p .at) (q .at)
 
-pub reach-determined : (mode : Mode) (form : Form) (seed : ℕ) (acts labels ys zs : List ℕ) → Flags (length acts) (reachedAt form mode seed acts labels) ys
-    → Flags (length acts) (reachedAt form mode seed acts labels) zs → ys ≡ zs
-reach-determined mode form seed acts labels ys zs p q = only (length acts) _ ys zs (p .long) (q .long) (p .at) (q .at)
+pub hold-back-determined : (pins labels tally ys zs : List ℕ) → Becomes (heldBack pins labels tally) tally ys → Becomes (heldBack pins labels tally) tally zs
+    → ys ≡ zs
+hold-back-determined pins labels tally ys zs p q = becomes-determined _ tally ys zs p q
+
+pub reach-determined : (mode : Mode) (form : Form) (seed : ℕ) (acts labels tally reached ys zs : List ℕ) → Marked form seed acts labels tally reached
+    → Reached form mode seed acts labels tally ys → Reached form mode seed acts labels tally zs → ys ≡ zs
+reach-determined mode form seed acts labels tally reached ys zs m p q =
+    let a = p (m .pins) (m .sized) in
+    let b = q (m .pins) (m .sized) in
+    only (length acts) _ ys zs (a .long) (b .long) (a .at) (b .at)
 
 pub flip-columns-determined : (form : Form) (reached labels flips table cols ys zs : List ℕ) → Becomes (flippedAt form reached labels flips table cols) cols ys
     → Becomes (flippedAt form reached labels flips table cols) cols zs → ys ≡ zs

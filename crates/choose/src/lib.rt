@@ -1,4 +1,4 @@
-// The choose step of a move: each site's new column, from the labels and the lent choices.
+// The choose step of a move: each site's new column, from the labels, the pins and the lent choices.
 ghost use mathlib.Core.Path.{_≡_};
 ghost use mathlib.Core.Bool.{true, cond, _&&_};
 ghost use Prim.Native.Nat.{_<_};
@@ -6,11 +6,13 @@ ghost use lib.Dec.{eqb, leb};
 ghost use lib.ListN.{length, getD};
 ghost use Rattle.paper.specs.Panel.Takes.{isSw, oneCluster, growsBy, entry};
 ghost use Rattle.paper.specs.Move.Moving.{flipBy, leastSize};
-ghost use Rattle.paper.specs.Component.Marks.{Flags};
+ghost use Rattle.lemmas.specs.Tells.{Tells, Each};
 ghost use Rattle.choose.specs.Chosen.{
   Becomes,
+  Holdable,
+  heldBack,
   Marked,
-  reachedAt,
+  Reached,
   Flips,
   flippedAt,
   Grey,
@@ -59,18 +61,58 @@ fn home(form: Form, seed: usize, labels: &[u32]) -> u32
     }
 }
 
-// Does the form move the component with this label and size?
-fn reaches(form: Form, least: u32, size: u32, label: u32, home: u32) -> bool
-    ensures { λ r. ⌜ r ≡ cond (isSw form) (leb least size) (oneCluster form && eqb label home) ⌝ }
+// Is no site pinned? A look at every byte, without an early exit: so it is vector code.
+fn none_pinned(pins: &[u8]) -> bool
+    ensures { λ r. ⌜ Tells r (Each (length (now (pins .entry))) (λ i. getD (now (pins .entry)) i 0 ≡ 1 → ⊥)) ⌝ }
 {
-    match form {
-        Form::Sw => least <= size,
-        Form::Wolff => label == home,
-        Form::Observe => false,
-        Form::Grow => label == home,
+    let mut none = true;
+    let mut i: usize = 0;
+    while i < pins.len() {
+        none = none & (pins[i] != 1);
+        i += 1;
+    }
+    none
+}
+
+// `hold_back`, where some site is pinned.
+fn clear_held(pins: &[u8], labels: &[u32], tally: &mut [u32])
+    requires { ⌜ Holdable (now pins) (now labels) (now tally) ⌝ }
+    ensures { λ _. ⌜ Becomes (heldBack (now (pins .entry)) (now (labels .entry)) (now (tally .entry))) (now (tally .entry)) (now (tally .exit)) ⌝ }
+{
+    let n = pins.len();
+    let mut i: usize = 0;
+    while i < n {
+        if pins[i] == 1 {
+            let label = wide(labels[i]);
+            tally[label] = 0;
+        }
+        i += 1;
     }
 }
 
+// Makes the tally of each component with a pinned site 0: then `reach` finds no site in it.
+pub fn hold_back(pins: &[u8], labels: &[u32], tally: &mut [u32])
+    requires { ⌜ Holdable (now pins) (now labels) (now tally) ⌝ }
+    ensures { λ _. ⌜ Becomes (heldBack (now (pins .entry)) (now (labels .entry)) (now (tally .entry))) (now (tally .entry)) (now (tally .exit)) ⌝ }
+{
+    if !none_pinned(pins) {
+        clear_held(pins, labels, tally);
+    }
+}
+
+// Does the form move the component with this label and size? One that is held has the size 0.
+fn reaches(form: Form, least: u32, size: u32, label: u32, home: u32) -> bool
+    ensures { λ r. ⌜ r ≡ cond (isSw form) (leb least size) (oneCluster form && (eqb label home && leb 1 size)) ⌝ }
+{
+    match form {
+        Form::Sw => least <= size,
+        Form::Wolff => (label == home) & (1 <= size),
+        Form::Observe => false,
+        Form::Grow => (label == home) & (1 <= size),
+    }
+}
+
+// Marks the sites that move, by sizes from which `hold_back` took the components that are held.
 pub fn reach(
     mode: Mode,
     form: Form,
@@ -81,7 +123,7 @@ pub fn reach(
     reached: &mut [u8],
 )
     requires { ⌜ Marked form seed (now acts) (now labels) (now tally) (now reached) ⌝ }
-    ensures { λ _. ⌜ Flags (length (now (acts .entry))) (reachedAt form mode seed (now (acts .entry)) (now (labels .entry))) (now (reached .exit)) ⌝ }
+    ensures { λ _. ⌜ Reached form mode seed (now (acts .entry)) (now (labels .entry)) (now (tally .entry)) (now (reached .exit)) ⌝ }
 {
     let n = acts.len();
     let least = least_size(mode);

@@ -13,7 +13,7 @@ use Rattle.paper.specs.declared.Mode.{Mode}
 use Rattle.paper.specs.declared.Form.{Form}
 use Rattle.paper.specs.declared.Form.the-variants.{Sw, Wolff, Observe, Grow}
 use Rattle.paper.specs.declared.Answer.{Answer}
-use Rattle.paper.specs.declared.Answer.the-variants.{Refused, Idle, Moved}
+use Rattle.paper.specs.declared.Answer.the-variants.{Refused, Idle, Held, Moved}
 use Rattle.paper.specs.declared.SweepAnswer.{SweepAnswer}
 use Rattle.paper.specs.declared.SweepAnswer.the-variants.{Fault, Swept}
 use Rattle.paper.specs.Panel.Input.{Call, Choices, Buffers, size}
@@ -62,6 +62,7 @@ module _ (keeping : Bool) (c : Call) (p q : Choices) (b : Buffers) (ts : List �
     totals-kept = k .totals-kept;
   }
   refused-alike up uq Idle b′ ts′ k = absurd (up (k .valid .0) (k .valid .1 .0))
+  refused-alike up uq Held b′ ts′ k = absurd (up (k .valid .0) (k .valid .1 .0))
   refused-alike up uq Moved b′ ts′ k = absurd (up (k .valid .0) (k .valid .1 .0))
 
 module _ (keeping : Bool) (c : Call) (vs xs greys : List ℕ) (b : Buffers) (ts : List ℤ) (perms : takesPerms c ≡ true) (five : size c ≡ 5) where
@@ -103,7 +104,7 @@ module _ (keeping : Bool) (w : Sweep) (xs ys : List ℕ) (b : Buffers) (ts : Lis
     kept = k .kept;
     totals-kept = k .totals-kept;
   }
-  swept-alike ux uy (Swept idle moved) b′ ts′ k = absurd (ux (k .valid .0) (k .valid .1 .0))
+  swept-alike ux uy (Swept idle moved held) b′ ts′ k = absurd (ux (k .valid .0) (k .valid .1 .0))
 
 module _ (keeping : Bool) (w : Sweep) (vs xs : List ℕ) (b : Buffers) (ts : List ℤ)
     (perms : permsBy (w .mode) (w .form) ≡ true) (five : w .members ≡ 5)

@@ -66,6 +66,7 @@ module _ (c : Call) (p : Choices) (b : Buffers) (perms : takesPerms c ≡ true) 
     spins = e .spins;
     fwd = e .fwd;
     bwd = e .bwd;
+    pins = e .pins;
     couplings = e .couplings;
     cuts = e .cuts;
     choices = λ _. length-rows (p .choices) ∙ (ap (λ (m : ℕ). m * 5) long ∙ sym bytes);

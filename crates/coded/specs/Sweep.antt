@@ -17,6 +17,7 @@ withChoices xs w = record {
   mode = w .mode;
   form = w .form;
   lattice = w .lattice;
+  pins = w .pins;
   t = w .t;
   r = w .r;
   members = w .members;

@@ -41,6 +41,7 @@ pub fn overlap_step_by(
     totals: &mut [i64],
     fwd: &[u32],
     bwd: &[u32],
+    pins: &[u8],
     couplings: &[i32],
     cuts: &[f32],
     choices: &[u8],
@@ -55,7 +56,7 @@ pub fn overlap_step_by(
 ) -> Answer
     ensures { λ r. ⌜ CodedAnswers (numbersBy coding (t .mode) (t .form))
         (keepsBy (t .keeps) (t .form))
-        (callOf t (now (fwd .entry)) (now (bwd .entry)) (now (couplings .entry)) (now (cuts .entry)))
+        (callOf t (now (fwd .entry)) (now (bwd .entry)) (now (pins .entry)) (now (couplings .entry)) (now (cuts .entry)))
         (choicesOf (now (choices .entry)) (now (greys .entry)))
         (buffersOf (now (spins .entry)) (now (labels .entry)) (now («grey_labels» .entry)) (now (counts .entry)) (now (sizes .entry))
         (now (members .entry)) (now (found .entry)) (now («grey_found» .entry)))
@@ -74,6 +75,7 @@ pub fn overlap_step_by(
             totals,
             fwd,
             bwd,
+            pins,
             couplings,
             cuts,
             choices,
@@ -93,6 +95,7 @@ pub fn overlap_step_by(
         totals,
         fwd,
         bwd,
+        pins,
         couplings,
         cuts,
         choices,
@@ -115,6 +118,7 @@ pub fn overlap_update_by(
     totals: &mut [i64],
     fwd: &[u32],
     bwd: &[u32],
+    pins: &[u8],
     couplings: &[i32],
     order: &[u32],
     masks: &[u8],
@@ -133,7 +137,7 @@ pub fn overlap_update_by(
     grey_found: &mut [u32],
 ) -> SweepAnswer
     ensures { λ r. ⌜ SweepCodedAnswers (numbersBy coding (plan .mode) (plan .form)) (keepsBy (plan .keeps) (plan .form))
-        (sweepOf plan (now (fwd .entry)) (now (bwd .entry)) (now (couplings .entry)) (now (order .entry)) (now (masks .entry))
+        (sweepOf plan (now (fwd .entry)) (now (bwd .entry)) (now (pins .entry)) (now (couplings .entry)) (now (order .entry)) (now (masks .entry))
         (now (temperatures .entry)) (now (cuts .entry)) (now (references .entry)) (now (seeds .entry))
         (now (choices .entry)) (now (greys .entry)))
         (buffersOf (now (spins .entry)) (now (labels .entry)) (now («grey_labels» .entry)) (now (counts .entry)) (now (sizes .entry))
@@ -150,6 +154,7 @@ pub fn overlap_update_by(
             totals,
             fwd,
             bwd,
+            pins,
             couplings,
             order,
             masks,
@@ -174,6 +179,7 @@ pub fn overlap_update_by(
         totals,
         fwd,
         bwd,
+        pins,
         couplings,
         order,
         masks,

@@ -18,6 +18,7 @@ pub fn step_by_numbers(
     totals: &mut [i64],
     fwd: &[u32],
     bwd: &[u32],
+    pins: &[u8],
     couplings: &[i32],
     cuts: &[f32],
     choices: &[u8],
@@ -33,7 +34,7 @@ pub fn step_by_numbers(
     requires { ⌜ permsBy (t .mode) (t .form) ≡ true ⌝ }
     ensures { λ r. ⌜ CodedAnswers true
         (keepsBy (t .keeps) (t .form))
-        (callOf t (now (fwd .entry)) (now (bwd .entry)) (now (couplings .entry)) (now (cuts .entry)))
+        (callOf t (now (fwd .entry)) (now (bwd .entry)) (now (pins .entry)) (now (couplings .entry)) (now (cuts .entry)))
         (choicesOf (now (choices .entry)) (now (greys .entry)))
         (buffersOf (now (spins .entry)) (now (labels .entry)) (now («grey_labels» .entry)) (now (counts .entry)) (now (sizes .entry))
         (now (members .entry)) (now (found .entry)) (now («grey_found» .entry)))
@@ -55,6 +56,7 @@ pub fn step_by_numbers(
         totals,
         fwd,
         bwd,
+        pins,
         couplings,
         cuts,
         &area[..len],
@@ -76,6 +78,7 @@ pub fn update_by_numbers(
     totals: &mut [i64],
     fwd: &[u32],
     bwd: &[u32],
+    pins: &[u8],
     couplings: &[i32],
     order: &[u32],
     masks: &[u8],
@@ -95,7 +98,7 @@ pub fn update_by_numbers(
 ) -> SweepAnswer
     requires { ⌜ permsBy (plan .mode) (plan .form) ≡ true ⌝ }
     ensures { λ r. ⌜ SweepCodedAnswers true (keepsBy (plan .keeps) (plan .form))
-        (sweepOf plan (now (fwd .entry)) (now (bwd .entry)) (now (couplings .entry)) (now (order .entry)) (now (masks .entry))
+        (sweepOf plan (now (fwd .entry)) (now (bwd .entry)) (now (pins .entry)) (now (couplings .entry)) (now (order .entry)) (now (masks .entry))
         (now (temperatures .entry)) (now (cuts .entry)) (now (references .entry)) (now (seeds .entry))
         (now (choices .entry)) (now (greys .entry)))
         (buffersOf (now (spins .entry)) (now (labels .entry)) (now («grey_labels» .entry)) (now (counts .entry)) (now (sizes .entry))
@@ -114,6 +117,7 @@ pub fn update_by_numbers(
         totals,
         fwd,
         bwd,
+        pins,
         couplings,
         order,
         masks,

@@ -95,7 +95,7 @@ module _ {c : Call} {p : Choices} {xs : List ℤ} {l : List ℕ} {ys : List ℤ}
       label = s .told .joint i e hi he on
 
       alike : reached c xs l i ≡ reached c xs l (ahead c i e)
-      alike = rw (ai, aj) (same-reached (c .form) c l i (ahead c i e) label)
+      alike = rw (ai, aj, same-reached (c .form) c l i (ahead c i e) label, label) refl
 
       go : (t : Bool) → reached c xs l i ≡ t → Together i (ahead c i e)
       go false q = neither i (ahead c i e) hi hj q (sym alike ∙ q)

@@ -1,26 +1,27 @@
 -- After an accepted move of a reversible mode the next is accepted too, if its own choices and buffers are right, and it has an outcome.
 use Prim.Native.Nat.{ℕ, zero, suc, _<_}
 use mathlib.Core.Path.{_≡_, refl, sym, _∙_, ap}
-use mathlib.Core.Logic.{_⊎_, inl, inr}
-use mathlib.Core.Bool.{Bool, true, false}
+use mathlib.Core.Logic.{_↔_, _⊎_, inl, inr}
+use mathlib.Core.Bool.{Bool, true, false, _&&_}
 use mathlib.Core.List.{List}
 use native.Mathlib.Omega.{arith}
 use native.Mathlib.Decide.{ℕ-discrete}
 use lib.IntN.{ℤ}
-use Rattle.lemmas.specs.Bools.{never, and-right}
+use Rattle.lemmas.specs.Bools.{never, and-left, and-right}
 use Rattle.lemmas.specs.Places.{Placed, place}
 use Rattle.paper.specs.Panel.Input.{graph, Call, Choices, Buffers, spin, size, system}
-use Rattle.paper.specs.Panel.Takes.{labelsBy}
+use Rattle.paper.specs.Panel.Takes.{oneCluster, labelsBy}
 use Rattle.paper.specs.Site.Acting.{acts, SomeActs, NoneActs}
 use Rattle.paper.specs.Site.Bonds.{holds}
 use Rattle.paper.specs.Component.Labels.{Numbered}
 use Rattle.paper.specs.Component.Sizes.{Counted, Largest}
-use Rattle.paper.specs.Move.Moving.{final}
+use Rattle.paper.specs.Move.Moving.{held, final}
 use Rattle.paper.specs.Refusal.Rules.{Spin, AllSystems, Spins, Exact, Chosen, Seeded}
 use Rattle.paper.specs.Refusal.Kept.{Sound, Fit, Valid, valid-kept}
-use Rattle.paper.specs.Answer.Move.{Seen}
+use Rattle.paper.specs.Answer.Move.{Seen, SeedHeld}
 use Rattle.laws.specs.Forms.{forms-apart}
 use Rattle.laws.specs.Unique.{Outside}
+use Rattle.laws.specs.Holding.{held-labels}
 use Rattle.laws.specs.MovesExist.{write, moves-exist}
 use Rattle.demand3.specs.Statement.{Reversible, Move, Outcome}
 use Rattle.demand3.specs.Step.{Step, step, seen-of, valid-move}
@@ -93,18 +94,38 @@ module _
       one = forms-apart (c .form) f;
     }
 
+    -- the seed's component has a pinned site, told by the labels
+    held-so : oneCluster (c .form) ≡ true → (held c l (c .seed) ≡ true) ↔ SeedHeld c (d .spins)
+    held-so one = held-labels c (d .spins) (k .fit .seeded .below one) l (labels .labels)
+
+    -- some site acts: held, or moved
+    outcome-acting : SomeActs c (d .spins) → (t : Bool) → (oneCluster (c .form) && held c l (c .seed)) ≡ t → Outcome c r d
+    unfolding left seen
+    outcome-acting some true e =
+        let one = and-left (oneCluster (c .form)) _ e in
+        outcome (left (d .spins)) (Move.held (record {
+          valid = valid-kept c r d k;
+          some = some;
+          one = one;
+          held = held-so one .0 (and-right (oneCluster (c .form)) _ e);
+          still = refl;
+          seen = seen (d .spins);
+        }))
+    outcome-acting some false e = outcome (left (write c (d .spins) (final c r (d .spins) l (d .greyLabels)))) (Move.moved (record {
+      valid = valid-kept c r d k;
+      some = some;
+      free = λ one h. never (sym e ∙ rw (one, held-so one .1 h) refl);
+      moved = λ _. moves-exist c r (d .spins) l (d .greyLabels) (k .sound .grouped) (k .sound .exact .spins);
+      turned = forms-apart (c .form) f;
+      seen = seen _;
+    }))
+
     outcome-of : Outcome c r d
     unfolding left seen
     outcome-of = go (some-or-none (acts c (d .spins)) (c .lattice .n))
       where
         go : ((i : ℕ) × (i < c .lattice .n) × (acts c (d .spins) i ≡ true)) ⊎ NoneActs c (d .spins) → Outcome c r d
-        go (inl q) = outcome (left (write c (d .spins) (final c r (d .spins) l (d .greyLabels)))) (Move.moved (record {
-          valid = valid-kept c r d k;
-          some = record { site = q .0; below = q .1; does = q .2 };
-          moved = λ _. moves-exist c r (d .spins) l (d .greyLabels) (k .sound .grouped) (k .sound .exact .spins);
-          turned = forms-apart (c .form) f;
-          seen = seen _;
-        }))
+        go (inl q) = outcome-acting (record { site = q .0; below = q .1; does = q .2 }) (oneCluster (c .form) && held c l (c .seed)) refl
         go (inr q) = outcome (left (d .spins)) (Move.idle (record { valid = valid-kept c r d k; none = q; still = refl; seen = seen (d .spins) }))
 
 -- ---- other choices: on the buffers that a move was lent, and on any that have the spins that it left
@@ -127,6 +148,7 @@ module _
             exact = e;
             spins = sound .spins;
             inverse = sound .inverse;
+            pins = sound .pins;
             grouped = sound .grouped;
             couplings = sound .couplings;
             warm = sound .warm;
@@ -146,6 +168,7 @@ module _
             exact = e;
             spins = rw same (spins-after (step v f m) (sound .spins));
             inverse = sound .inverse;
+            pins = sound .pins;
             grouped = sound .grouped;
             couplings = sound .couplings;
             warm = sound .warm;
@@ -159,6 +182,7 @@ module _
       spins = e .spins;
       fwd = e .fwd;
       bwd = e .bwd;
+      pins = e .pins;
       couplings = e .couplings;
       cuts = e .cuts;
       choices = z .choices;
@@ -177,6 +201,7 @@ module _
       spins = step v f m .long ∙ e .spins;
       fwd = e .fwd;
       bwd = e .bwd;
+      pins = e .pins;
       couplings = e .couplings;
       cuts = e .cuts;
       choices = z .choices;

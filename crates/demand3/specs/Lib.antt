@@ -2,6 +2,7 @@
 pub mod Statement
 pub mod Reversible
 pub mod ActsKept
+pub mod Held
 pub mod Step
 pub mod Turns
 pub mod BondSums

@@ -13,7 +13,7 @@ use Rattle.lemmas.specs.Cells.{table}
 use Rattle.paper.specs.declared.Mode.{Mode}
 use Rattle.paper.specs.declared.Mode.the-variants.{Houd, Pair, Perm, Gperm, Jorg, Cmr}
 use Rattle.paper.specs.declared.Form.the-variants.{Sw, Wolff}
-use Rattle.paper.specs.declared.Answer.the-variants.{Idle, Moved}
+use Rattle.paper.specs.declared.Answer.the-variants.{Idle, Held, Moved}
 use Rattle.paper.specs.Panel.Input.{graph, Call, Choices, Buffers, pattern, spin, size, system}
 use Rattle.paper.specs.Panel.Takes.{isPerm, moves, entries}
 use Rattle.paper.specs.Site.Acting.{acts}
@@ -39,10 +39,12 @@ Reversible Cmr m = ⊥
 -- a move of the call c, choosing p, that is not refused; b are the lent buffers before it and b′ after it
 pub data Move (c : Call) (p : Choices) (b b′ : Buffers) : Type 0 where
   idle : Answers c p b Idle b′ → Move c p b b′
+  held : Answers c p b Held b′ → Move c p b b′
   moved : Answers c p b Moved b′ → Move c p b b′
 
--- "such" a move: of any call on c's panel with "the same mode, group, form, gauge site and seed", as far as these are taken. So two such moves may
--- differ in couplings, temperature and cuts, in group entries past N, in SW in the seed, outside gperm in the site, and in choices that are not taken
+-- "such" a move: of any call on c's panel, with the same pins, with "the same mode, group, form, gauge site and seed", as far as these are taken. So two
+-- such moves may differ in couplings, temperature and cuts, in group entries past N, in SW in the seed, outside gperm in the site, and in choices that
+-- are not taken
 pub record Such (c : Call) (p : Choices) (b b′ : Buffers) : Type 0 where
   pub call : Call
   pub choices : Choices

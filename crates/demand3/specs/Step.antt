@@ -16,7 +16,7 @@ use Rattle.paper.specs.Component.Links.{Linked.stay, Linked.along, trans, back}
 use Rattle.paper.specs.Component.Labels.{Joined, Labels}
 use Rattle.paper.specs.Component.Members.{Members}
 use Rattle.paper.specs.Component.Sizes.{labelOf}
-use Rattle.paper.specs.Move.Moving.{reached, reachedBy, after, final}
+use Rattle.paper.specs.Move.Moving.{reached, after, final}
 use Rattle.paper.specs.Refusal.Rules.{When, Permutes}
 use Rattle.paper.specs.Refusal.Kept.{Valid, valid-of}
 use Rattle.paper.specs.Answer.Move.{SeenAll, Goes}
@@ -26,6 +26,7 @@ use Rattle.laws.specs.Patterns.{Spinning}
 use Rattle.laws.specs.Entries.{permOf, perms-of, perms-grown, spin-of}
 use Rattle.demand3.specs.Statement.{Reversible, Move}
 use Rattle.demand3.specs.Reversible.{not-cmr}
+use Rattle.demand3.specs.Held.{none-reached}
 
 -- the list l tells each site's component: its number, or in grow whether it is a member. So it tells the site's entry of the choices
 pub record Told (c : Call) (p : Choices) (xs : List ℤ) (l : List ℕ) : Type 0 where
@@ -52,7 +53,7 @@ reached-no c xs l i e = rw e
 
 pub reached-acts : (c : Call) (xs : List ℤ) (l : List ℕ) (i : ℕ) → reached c xs l i ≡ true → acts c xs i ≡ true
 unfolding reached
-reached-acts c xs l i e = and-left (acts c xs i) (reachedBy (c .form) (c .mode) (c .seed) l i) e
+reached-acts c xs l i e = and-left (acts c xs i) _ e
 
 final-after : (c : Call) (p : Choices) (xs : List ℤ) (l g : List ℕ) (i k : ℕ) → isCmr (c .mode) ≡ false → final c p xs l g i k ≡ after c p xs l i k
 unfolding final
@@ -119,10 +120,12 @@ module _ {c : Call} {p : Choices} {b : Buffers} (valid : Valid c p b) where
 
 pub seen-of : {c : Call} {p : Choices} {b b′ : Buffers} → labelsBy (c .form) ≡ true → Move c p b b′ → SeenAll c b b′
 seen-of f (Move.idle w) = w .seen .all f
+seen-of f (Move.held w) = w .seen .all f
 seen-of f (Move.moved w) = w .seen .all f
 
 pub valid-move : {c : Call} {p : Choices} {b b′ : Buffers} → Move c p b b′ → Valid c p b
 valid-move {c} {p} {b} (Move.idle w) = valid-of c p b (w .valid)
+valid-move {c} {p} {b} (Move.held w) = valid-of c p b (w .valid)
 valid-move {c} {p} {b} (Move.moved w) = valid-of c p b (w .valid)
 
 pub step :
@@ -135,6 +138,13 @@ step {c} {p} {b} {b′} v f (Move.idle w) =
     let valid = valid-of c p b (w .valid) in
     step-of valid (b′ .labels) (b′ .spins) v (told-labels valid (b′ .labels) (w .seen .all f .labels .labels)) (ap length (w .still))
     (λ i k hi hk. rw (w .still, reached-no c (b .spins) (b′ .labels) i (w .none i hi)) refl)
+    (λ i t hi h. rw (w .still) refl)
+step {c} {p} {b} {b′} v f (Move.held w) =
+    let valid = valid-of c p b (w .valid) in
+    let labels = w .seen .all f .labels .labels in
+    let off = none-reached c (b .spins) f (w .one) (valid .fit .seeded .below (w .one)) (b′ .labels) labels (w .held) in
+    step-of valid (b′ .labels) (b′ .spins) v (told-labels valid (b′ .labels) labels) (ap length (w .still))
+    (λ i k hi hk. rw (w .still, off i) refl)
     (λ i t hi h. rw (w .still) refl)
 step {c} {p} {b} {b′} v f (Move.moved w) =
     let valid = valid-of c p b (w .valid) in

@@ -9,7 +9,7 @@ use lib.ListN.{getD}
 use lib.IntN.{ℤ, pos, negℤ, _+ℤ_, _*ℤ_, +ℤ-idr, +ℤ-invr}
 use Rattle.lemmas.specs.Sums.{sum, sum-ext, sum-add, sum-swap}
 use Rattle.paper.specs.declared.Answer.{Answer}
-use Rattle.paper.specs.declared.Answer.the-variants.{Refused, Idle, Moved}
+use Rattle.paper.specs.declared.Answer.the-variants.{Refused, Idle, Held, Moved}
 use Rattle.paper.specs.Panel.Input.{Call, Choices, Buffers, pattern, size, system, ahead, bond}
 use Rattle.paper.specs.Panel.Takes.{growsBy, labelsBy}
 use Rattle.paper.specs.Site.Energy.{energy, bondSum}
@@ -41,6 +41,7 @@ module _ (c : Call) (p : Choices) (b b′ : Buffers) (v : Reversible (c .mode) (
   pub bond-sums-stay : (a : Answer) → Answers c p b a b′ → SumsStay c (b .spins) (b′ .spins)
   bond-sums-stay (Refused r) w i e hi he = ap (λ (z : Buffers). bondSum c (z .spins) i e) (w .kept)
   bond-sums-stay Idle w i e hi he = ap (λ (zs : List ℤ). bondSum c zs i e) (w .still)
+  bond-sums-stay Held w i e hi he = ap (λ (zs : List ℤ). bondSum c zs i e) (w .still)
   bond-sums-stay Moved w i e hi he = goes-sums w i e hi he
 
 -- ---- the group's energies
@@ -124,24 +125,25 @@ group-total-kept keeping c p b b′ ts us a v = go a
     go : (a : Answer) → KeepAnswers keeping c p b ts a b′ us → groupTotal c us ≡ groupTotal c ts
     go (Refused r) f = ap (groupTotal c) (f .totals-kept)
     go Idle f = accepted Idle f
+    go Held f = accepted Held f
     go Moved f = accepted Moved f
 
 -- and in an accepted sweep that of each task's group
 pub task-total-kept :
-    (keeping : Bool) (w : Sweep) (b b′ : Buffers) (ts us : List ℤ) (idle moved : ℕ)
+    (keeping : Bool) (w : Sweep) (b b′ : Buffers) (ts us : List ℤ) (idle moved held : ℕ)
     → Reversible (w .mode) (w .members)
-    → SweepKeeps keeping w b ts idle moved b′ us
+    → SweepKeeps keeping w b ts idle moved held b′ us
     → (k : ℕ)
     → k < tasks w
     → masked w k ≡ false
     → sum (w .members) (λ x. total us (system (taskCall w k) x)) ≡ sum (w .members) (λ x. total ts (system (taskCall w k) x))
-task-total-kept keeping w b b′ ts us idle moved v f k below unmasked =
+task-total-kept keeping w b b′ ts us idle moved held v f k below unmasked =
     brought-sum c keeping (b .spins) ts (b′ .spins) us (valid .sound .grouped) sums (f .totals)
   where
     c : Call
     c = taskCall w k
 
-    done : Done w b b′ k
+    done : Done w b b′ k (f .answers .answered k)
     done = f .answers .each k below unmasked
 
     valid : Valid (taskCall w k) (taskChoices w k) (areas w b (b .spins) k)
@@ -152,4 +154,5 @@ task-total-kept keeping w b b′ ts us idle moved v f k below unmasked =
     sums i e hi he =
         let hj = valid .sound .inverse .there i e hi he .inside in
         sum-ext (w .members) _ _ (λ x hx. cc (done .rows i x hi hx, done .rows (ahead (taskCall w k) i e) x hj hx))
-        ∙ bond-sums-stay (taskCall w k) (taskChoices w k) (areas w b (b .spins) k) (areas w b′ (done .spins) k) v (done .answer) (done .answers) i e hi he
+        ∙ bond-sums-stay (taskCall w k) (taskChoices w k) (areas w b (b .spins) k) (areas w b′ (done .spins) k) v (f .answers .answered k) (done .answers)
+        i e hi he

@@ -5,7 +5,7 @@ use mathlib.Core.Bool.{Bool, true, false, cond, _&&_}
 use mathlib.Core.List.{List}
 use lib.ListN.{length}
 use lib.IntN.{ℤ}
-use Rattle.lemmas.specs.Bools.{never, and-right}
+use Rattle.lemmas.specs.Bools.{never}
 use Rattle.paper.specs.declared.Mode.{Mode}
 use Rattle.paper.specs.declared.Mode.the-variants.{Houd, Pair, Perm, Gperm, Jorg, Cmr}
 use Rattle.paper.specs.Panel.Input.{graph, Call, Choices, Pattern, pattern, size, ahead}
@@ -18,7 +18,7 @@ use Rattle.paper.specs.Move.Moving.{chosen, actBy, reached, after}
 use Rattle.paper.specs.Refusal.Rules.{Spin, Permutes}
 use Rattle.laws.specs.Unique.{HoldAlike, labels-ext, numbered-ext, counts-ext, sizes-ext}
 use Rattle.laws.specs.Patterns.{Spinning}
-use Rattle.laws.specs.Entries.{form-moves}
+use Rattle.laws.specs.Entries.{reached-moves}
 use Rattle.laws.specs.Acting.{acts-same, gauge-ext}
 use Rattle.demand3.specs.Reversible.{holds-both, gauge-back, chosen-permutes, act-gauged, act-spin}
 use Rattle.demand3.specs.ActsKept.{acts-chosen, reference-rests}
@@ -64,13 +64,12 @@ module _ {c : Call} {p : Choices} {xs : List ℤ} {l : List ℕ} {ys : List ℤ}
   reference-spins e = s .spins (c .reference) (s .reference e)
 
   pub permutes-at : (i : ℕ) → i < c .lattice .n → reached c xs l i ≡ true → Permutes (size c) (chosen c p (labelOf l i))
-  unfolding reached
   permutes-at i h e =
       chosen-permutes (c .mode) c p (labelOf l i) (s .reversible)
       (λ q. s .told .perms (taken q) i h)
     where
       taken : isPerm (c .mode) ≡ true → (moves (c .form) && isPerm (c .mode)) ≡ true
-      taken q = rw (form-moves (c .form) c l i (and-right (acts c xs i) _ e), q)
+      taken q = rw (reached-moves c xs l i e, q)
 
   -- a site that is not reached keeps its pattern
   pub unreached : (i k : ℕ) → i < c .lattice .n → k < size c → reached c xs l i ≡ false → pattern c ys i k ≡ pattern c xs i k

@@ -10,17 +10,17 @@ use Rattle.lemmas.specs.Bools.{never, every}
 use Rattle.lemmas.specs.Cells.{table}
 use Rattle.paper.specs.declared.Mode.the-variants.{Pair, Perm}
 use Rattle.paper.specs.declared.Form.the-variants.{Sw, Wolff}
-use Rattle.paper.specs.declared.Answer.the-variants.{Moved}
+use Rattle.paper.specs.declared.Answer.the-variants.{Held, Moved}
 use Rattle.paper.specs.Panel.Input.{Lattice, Call, Choices, Buffers, system}
 use Rattle.paper.specs.Site.Acting.{pairDiffers, acts}
 use Rattle.paper.specs.Site.Bonds.{whole, holds}
 use Rattle.paper.specs.Component.Sizes.{sizeOf, isFirst, labelOf}
-use Rattle.paper.specs.Move.Moving.{other, reached, final}
+use Rattle.paper.specs.Move.Moving.{other, hasOne, reached, final}
 use Rattle.paper.specs.Answer.Move.{Answers}
 use Rattle.paper.specs.Answer.Same.{SameTaken}
 use Rattle.paper.specs.Rows.Cases.{+, -, line, plain, first, buffers}
 use Rattle.laws.specs.Decided.{any}
-use Rattle.laws.specs.ByAnswer.{goes-by}
+use Rattle.laws.specs.ByAnswer.{goes-by, stays-by}
 use Rattle.demand3.specs.Statement.{Move, Such, Two, ComposedAt, Composed, composite, placeOf, inverse, identity}
 use Rattle.demand3.specs.Such.{itself}
 
@@ -37,6 +37,7 @@ hot = record {
   mode = Pair;
   form = Sw;
   lattice = twins (pos 3 ∷ []);
+  pins = warm .pins;
   group = record { len = 2; systems = 0 ∷ 1 ∷ 5 ∷ 0 ∷ 0 ∷ 0 ∷ 0 ∷ 0 ∷ [] };
   temperature = whole 2;
   cuts = nan ∷ [];
@@ -58,15 +59,15 @@ abbrev turned : List ℤ
 turned = - ∷ - ∷ + ∷ + ∷ []
 
 turns : Answers warm (flips (1 ∷ 0 ∷ [])) (at start) Moved (at turned)
-unfolding every any holds acts pairDiffers sizeOf isFirst countWhere other reached final
+unfolding every any holds acts pairDiffers sizeOf isFirst countWhere other hasOne reached final table
 turns = goes-by warm (flips (1 ∷ 0 ∷ [])) (at start) (at turned) (0 ∷ 0 ∷ []) [] refl (λ _. (refl, refl)) refl
 
 turns-both : Answers warm (flips (1 ∷ 1 ∷ [])) (at start) Moved (at turned)
-unfolding every any holds acts pairDiffers sizeOf isFirst countWhere other reached final
+unfolding every any holds acts pairDiffers sizeOf isFirst countWhere other hasOne reached final table
 turns-both = goes-by warm (flips (1 ∷ 1 ∷ [])) (at start) (at turned) (0 ∷ 0 ∷ []) [] refl (λ _. (refl, refl)) refl
 
 stays : Answers hot (flips (0 ∷ 0 ∷ [])) (at turned) Moved (at turned)
-unfolding every any holds acts pairDiffers sizeOf isFirst countWhere other reached final
+unfolding every any holds acts pairDiffers sizeOf isFirst countWhere other hasOne reached final table
 stays = goes-by hot (flips (0 ∷ 0 ∷ [])) (at turned) (at turned) (0 ∷ 0 ∷ []) [] refl (λ _. (refl, refl)) refl
 
 systems : (k : ℕ) → k < 2 → system hot k ≡ system warm k
@@ -80,6 +81,7 @@ taken p = record {
     mode = refl;
     form = refl;
     panel = record { n = refl; d = refl; s = refl; fwd = refl; bwd = refl; couplings = λ t. never t };
+    pins = refl;
     members = refl;
     systems = systems;
     temperature = λ t. never t;
@@ -111,6 +113,30 @@ smallest = record {
     used zero h k l = refl
     used (suc zero) h k l = refl
     used (suc (suc i)) h k l = absurd (omega arith)
+
+-- Wolff with site 1 pinned: the move is held, and the next such move is held too
+abbrev seam : Call
+seam = record {
+  mode = Pair;
+  form = Wolff;
+  lattice = twins [];
+  pins = 0 ∷ 1 ∷ [];
+  group = first 2;
+  temperature = whole 1;
+  cuts = [];
+  reference = 0;
+  seed = 0;
+}
+
+holds-still : Answers seam (flips []) (at start) Held (at start)
+unfolding every any holds acts pairDiffers sizeOf isFirst countWhere other hasOne reached final
+holds-still = stays-by seam (flips []) (at start) (at start) (0 ∷ 0 ∷ []) [] refl (λ _. (refl, refl)) refl refl
+
+held-once : Such seam (flips []) (at start) (at start)
+held-once = record { call = seam; choices = flips []; same = itself seam _; move = Move.held holds-still }
+
+pub held-twice : Two seam (flips []) (flips []) (at start) (at start) (at start) (at start)
+held-twice = record { first = held-once; second = held-once; handed = refl }
 
 -- demand 3's choices as buffers: row 7's composite, an inverse and the identity, in the Wolff form with three systems; and flips of four sites in SW
 abbrev three : Call

@@ -10,7 +10,7 @@ use lib.IntN.{ℤ}
 use Rattle.lemmas.specs.Cells.{table}
 use Rattle.paper.specs.declared.Group.{Group}
 use Rattle.paper.specs.declared.Answer.{Answer}
-use Rattle.paper.specs.declared.Answer.the-variants.{Refused, Idle, Moved}
+use Rattle.paper.specs.declared.Answer.the-variants.{Refused, Idle, Held, Moved}
 use Rattle.paper.specs.declared.Mode.the-variants.{Perm}
 use Rattle.paper.specs.declared.Form.the-variants.{Sw}
 use Rattle.paper.specs.declared.Keeps.the-variants.{Nothing}
@@ -18,7 +18,7 @@ use Rattle.paper.specs.Panel.Input.{Call, Choices, Buffers}
 use Rattle.paper.specs.Site.Bonds.{whole}
 use Rattle.paper.specs.Refusal.Rule.{Kept}
 use Rattle.paper.specs.Refusal.Rules.{Inverse, rules}
-use Rattle.paper.specs.Answer.Move.{Refuses, Answers, Accepted.idle, Accepted.moved}
+use Rattle.paper.specs.Answer.Move.{Refuses, Answers, Accepted.idle, Accepted.held, Accepted.moved}
 use Rattle.paper.specs.Answer.Frame.{frameLattice, frameCall, frameChoices, frameBuffers, HasBack, refusal, FrameAnswers}
 use Rattle.paper.specs.Panel.Made.{callOf, choicesOf, buffersOf}
 use Rattle.steps.specs.Rule.{taskOf}
@@ -28,7 +28,7 @@ use Rattle.frame_lines.specs.declared.Found.the-variants.{Fault, Panel}
 use Rattle.frame_lines.specs.declared.Written.{Written}
 use Rattle.frame_lines.specs.declared.Written.the-variants.{Wrote, NoRoom}
 use Rattle.frame_lines.specs.Spelling.{spellingRules, Spelling, spelling-of, misspelt, misvalued, all-kept, broken-small, misspelt-small}
-use Rattle.frame_lines.specs.Reading.{AnyPanelFits, Held, Misread, Readout, FoundAs}
+use Rattle.frame_lines.specs.Reading.{AnyPanelFits, Held as Lent, Misread, Readout, FoundAs}
 use Rattle.frame_lines.specs.Writing.{resultOf, TwoByte, Fitted, WrittenAs, RefusalAs, count, shorter, fitted-take, fitted-drop}
 use Rattle.frame.specs.Back.{Reversed, back-complete}
 use Rattle.frame.specs.Values.{values-kept, values-broken}
@@ -76,9 +76,9 @@ run-fits text before w after m r e = rw (fitted .is) (simp length-append (omega 
     fitted : Fitted (r .answer) before m after
     fitted = subst (λ (v : Written). WrittenAs (r .answer) before v after) e (r .written)
 
--- ---- one perm move, whose backward table is worked out
+-- ---- one perm move, whose backward table is worked out, with no site pinned
 abbrev pub permCall : ℕ → ℕ → ℕ → List ℕ → List ℕ → Group → Call
-permCall n d s fwd bwd g = callOf (taskOf Perm Sw Nothing n d s g (whole 1) 0 0) fwd bwd [] []
+permCall n d s fwd bwd g = callOf (taskOf Perm Sw Nothing n d s g (whole 1) 0 0) fwd bwd (table n (λ k. 0)) [] []
 
 pub record PermMoved (n d s : ℕ) (g : Group) (fwd perms : List ℕ) (b : Buffers) (r : Answer) (bwd : List ℕ) (spins : List ℤ)
     (labels counts sizes : List ℕ) : Type 0 where
@@ -94,12 +94,14 @@ pub record PermMoved (n d s : ℕ) (g : Group) (fwd perms : List ℕ) (b : Buffe
 abbrev pub answerText : Answer → List ℕ → List ℕ → List ℤ → List ℕ
 answerText (Refused c) labels counts spins = refusal c
 answerText Idle labels counts spins = resultOf labels counts spins
+answerText Held labels counts spins = resultOf labels counts spins
 answerText Moved labels counts spins = resultOf labels counts spins
 
 -- two decimal digits hold a refusal's number, and two bytes each label and count that is written
 abbrev pub Writable : Answer → List ℕ → List ℕ → Type 0
 Writable (Refused c) labels counts = c < 100
 Writable Idle labels counts = TwoByte labels counts
+Writable Held labels counts = TwoByte labels counts
 Writable Moved labels counts = TwoByte labels counts
 
 refused-small : {c : Call} {p : Choices} {b : Buffers} {r : ℕ} {b′ : Buffers} → Refuses c p b r b′ → r < 100
@@ -109,6 +111,8 @@ pub writable : {n d s : ℕ} {g : Group} {fwd perms : List ℕ} {b : Buffers} (r
     → n ≤ 4096 → PermMoved n d s g fwd perms b r bwd spins labels counts sizes → Writable r labels counts
 writable (Refused c) h m = refused-small (m .answers)
 writable {b = b} Idle {spins = spins} {labels} {counts} {sizes} h m =
+    seen-small _ b (buffersOf spins labels (m .grey) counts sizes (m .members) (m .found) (m .grey-found)) (m .answers .seen .all refl) h
+writable {b = b} Held {spins = spins} {labels} {counts} {sizes} h m =
     seen-small _ b (buffersOf spins labels (m .grey) counts sizes (m .members) (m .found) (m .grey-found)) (m .answers .seen .all refl) h
 writable {b = b} Moved {spins = spins} {labels} {counts} {sizes} h m =
     seen-small _ b (buffersOf spins labels (m .grey) counts sizes (m .members) (m .found) (m .grey-found)) (m .answers .seen .all refl) h
@@ -142,6 +146,17 @@ module _ (text bwd : List ℕ) (k : Kept (spellingRules text)) (long : length bw
         answer = Idle;
         after = after;
         accepted = idle;
+        answers = w;
+        written = refl;
+      })
+  moves-answer Held after w =
+      let v = values-kept text bwd (spelling-of text k) long (w .valid) in
+      inr (record {
+        valid = all-kept text k v;
+        back = record { bwd = bwd; long = long; inverse = inverse (v .1 .0) };
+        answer = Held;
+        after = after;
+        accepted = held;
         answers = w;
         written = refl;
       })
@@ -195,7 +210,7 @@ zeros-part (suc m) (x ∷ xs) l h = λ i. h 0 (omega arith) i ∷ zeros-part m x
 abbrev pub buffersRead : Sizes → List ℤ → List ℕ → List ℕ → List ℕ → Buffers
 buffersRead z spins labels counts sizes = buffersOf (take (z .s * z .n) spins) (take (z .n) labels) [] (take (z .n + 1) counts) sizes [] (0 ∷ []) []
 
-module _ {text : List ℕ} {b : Held} {z : Sizes} {g : Group} {a : Held} (h : Readout text b z g a)
+module _ {text : List ℕ} {b : Lent} {z : Sizes} {g : Group} {a : Lent} (h : Readout text b z g a)
     {bwd labels counts sizes : List ℕ} (k : Blank bwd labels counts sizes) (few : z .n ≤ 256) where
   is-labels : take (z .n) labels ≡ table (z .n) (λ k. 0)
   is-labels = zeros-part (z .n) labels (omega (arith, k .labels-long)) (k .labels-zero)
@@ -231,7 +246,7 @@ module _ {text : List ℕ} {b : Held} {z : Sizes} {g : Group} {a : Held} (h : Re
               (0 ∷ []) [])
 
 -- ---- from what the reading found
-pub misread-answers : (text : List ℕ) (b : Held) (f : Found) (g : Group) (a : Held) (r : ℕ) {out : List ℕ} {w : Written} {out′ : List ℕ}
+pub misread-answers : (text : List ℕ) (b : Lent) (f : Found) (g : Group) (a : Lent) (r : ℕ) {out : List ℕ} {w : Written} {out′ : List ℕ}
     → f ≡ Fault r → FoundAs text b f g a → RefusalAs r out w out′ → RunAs text out w out′
 misread-answers text b f g a r e h v = record {
   answer = refusal r;
@@ -242,10 +257,10 @@ misread-answers text b f g a r e h v = record {
     found : Misread text b r g a
     found = subst (λ (y : Found). FoundAs text b y g a) e h
 
-pub readout-of : (text : List ℕ) (b : Held) (f : Found) (g : Group) (a : Held) (z : Sizes) → f ≡ Panel z → FoundAs text b f g a → Readout text b z g a
+pub readout-of : (text : List ℕ) (b : Lent) (f : Found) (g : Group) (a : Lent) (z : Sizes) → f ≡ Panel z → FoundAs text b f g a → Readout text b z g a
 readout-of text b f g a z e h = subst (λ (y : Found). FoundAs text b y g a) e h
 
-pub panel-given : {text : List ℕ} {b : Held} {z : Sizes} {g : Group} {a : Held} {bwd labels counts sizes : List ℕ} → Readout text b z g a
+pub panel-given : {text : List ℕ} {b : Lent} {z : Sizes} {g : Group} {a : Lent} {bwd labels counts sizes : List ℕ} → Readout text b z g a
     → AnyPanelFits (length (b .spins)) (length (b .fwd)) (length (b .perms)) → Blank bwd labels counts sizes
     → PanelGiven z g (a .spins) (a .fwd) (a .perms) bwd labels counts sizes
 panel-given {text} {b} {z} {g} h r k = record {

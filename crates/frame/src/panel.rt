@@ -15,7 +15,8 @@ ghost use Rattle.frame_lines.specs.Reading.{Held, Readout};
 ghost use Rattle.frame_lines.specs.Writing.{WrittenAs};
 ghost use Rattle.frame.specs.Run.{PermMoved, Writable, answerText, MoveWritten, PanelGiven, RunAs};
 
-// The move keeps no totals, and takes no couplings, cuts, grey numbers or members: they are empty. How many components it finds is not written out.
+// The move keeps no totals, and takes no couplings, cuts, grey numbers or members: they are empty. No site is pinned. How many components it finds is
+// not written out.
 fn perm_move(
     n: usize,
     d: usize,
@@ -36,6 +37,7 @@ fn perm_move(
 {
     lattice::backward(n, d, fwd, bwd);
     let mut totals = [0i64; 1];
+    let pins = [0u8; 4096];
     let couplings = [0i32; 1];
     let cuts = [0f32; 1];
     let mut grey_labels = [0u32; 1];
@@ -60,6 +62,7 @@ fn perm_move(
         &mut totals[..0],
         fwd,
         bwd,
+        &pins[..n],
         &couplings[..0],
         &cuts[..0],
         perms,
@@ -74,7 +77,7 @@ fn perm_move(
     )
 }
 
-// Idle and moved are written alike.
+// Idle, held and moved are written alike.
 fn write_answer(r: Answer, labels: &[u32], counts: &[u32], spins: &[i8], out: &mut [u8]) -> Written
     requires { ⌜ Writable r (now labels) (now counts) ⌝ }
     ensures { λ w. ⌜ WrittenAs (answerText r (now (labels .entry)) (now (counts .entry)) (now (spins .entry))) (now (out .entry)) w (now (out .exit)) ⌝ }
@@ -82,6 +85,7 @@ fn write_answer(r: Answer, labels: &[u32], counts: &[u32], spins: &[i8], out: &m
     match r {
         Answer::Refused(c) => frame_lines::write_refusal(c, out),
         Answer::Idle => frame_lines::write(labels, counts, spins, out),
+        Answer::Held => frame_lines::write(labels, counts, spins, out),
         Answer::Moved => frame_lines::write(labels, counts, spins, out),
     }
 }

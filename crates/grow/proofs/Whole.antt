@@ -56,42 +56,42 @@ module _ {t : Task} {fwd bwd : List ℕ} {xs js : List ℤ} {cuts : List Float} 
 
     -- the first growth is by the paper's bonds
     pub first-by :
-        {r : Rule} {start len : ℕ} {l₀ m l : List ℕ} → Prepared t false xs r
+        (pins : List ℕ) {r : Rule} {start len : ℕ} {l₀ m l : List ℕ} → Prepared t false xs r
         → Spreads (graphFor (r .task) fwd) (ruled r fwd xs js cuts) (r .task .seed) start l₀ m l len
-        → Spreads (graph (callOf t fwd bwd js cuts)) (holds (callOf t fwd bwd js cuts) xs) (t .seed) start l₀ m l len
-    first-by p s = spreads-by (λ i e il el. judged-holds t fwd bwd js cuts xs i e _ refl) (rw (p .task, p .grey) at s)
+        → Spreads (graph (callOf t fwd bwd pins js cuts)) (holds (callOf t fwd bwd pins js cuts) xs) (t .seed) start l₀ m l len
+    first-by pins p s = spreads-by (λ i e il el. judged-holds t fwd bwd pins js cuts xs i e _ refl) (rw (p .task, p .grey) at s)
 
-    pub plain : isCmr (t .mode) ≡ false → {start len : ℕ} {l₀ m l : List ℕ}
-        → Spreads (graph (callOf t fwd bwd js cuts)) (holds (callOf t fwd bwd js cuts) xs) (t .seed) start l₀ m l len
-        → Grew (callOf t fwd bwd js cuts) xs m l len len
-    plain q {start} {len} {l₀} {m} {l} s = record {
+    pub plain : (pins : List ℕ) → isCmr (t .mode) ≡ false → {start len : ℕ} {l₀ m l : List ℕ}
+        → Spreads (graph (callOf t fwd bwd pins js cuts)) (holds (callOf t fwd bwd pins js cuts) xs) (t .seed) start l₀ m l len
+        → Grew (callOf t fwd bwd pins js cuts) xs m l len len
+    plain pins q {start} {len} {l₀} {m} {l} s = record {
       more = le-refl len;
       cluster = record { members = members-by (λ i e il el. rw q) (s .cluster .members); listed = s .cluster .listed };
       blues = m;
       first = s .cluster;
     }
 
-    module _ (q : isCmr (t .mode) ≡ true) where
+    module _ (pins : List ℕ) (q : isCmr (t .mode) ≡ true) where
       -- each blue site waits again
       pub blue-seeds :
           {r : Rule} {start blue : ℕ} {l₀ m l : List ℕ} → Prepared t true xs r
-          → Spreads (graph (callOf t fwd bwd js cuts)) (holds (callOf t fwd bwd js cuts) xs) (t .seed) start l₀ m l blue
+          → Spreads (graph (callOf t fwd bwd pins js cuts)) (holds (callOf t fwd bwd pins js cuts) xs) (t .seed) start l₀ m l blue
           → Growing (graphFor (r .task) fwd) (ruled r fwd xs js cuts) (r .task .seed) m l blue
       blue-seeds p s =
           rw (p .task, p .grey)
-          (again (g .seed-lt) (λ i e il el on. judged-grey t fwd bwd js cuts xs i e _ refl q ∙ blue-grey _ xs i e q on) (s .cluster))
+          (again (g .seed-lt) (λ i e il el on. judged-grey t fwd bwd pins js cuts xs i e _ refl q ∙ blue-grey _ xs i e q on) (s .cluster))
 
       pub second-by :
           {r : Rule} {start len : ℕ} {l₀ m l : List ℕ} → Prepared t true xs r
           → Spreads (graphFor (r .task) fwd) (ruled r fwd xs js cuts) (r .task .seed) start l₀ m l len
-          → Spreads (graph (callOf t fwd bwd js cuts)) (holdsGrey (callOf t fwd bwd js cuts) xs) (t .seed) start l₀ m l len
-      second-by p s = spreads-by (λ i e il el. judged-grey t fwd bwd js cuts xs i e _ refl q) (rw (p .task, p .grey) at s)
+          → Spreads (graph (callOf t fwd bwd pins js cuts)) (holdsGrey (callOf t fwd bwd pins js cuts) xs) (t .seed) start l₀ m l len
+      second-by p s = spreads-by (λ i e il el. judged-grey t fwd bwd pins js cuts xs i e _ refl q) (rw (p .task, p .grey) at s)
 
       pub both :
           {start blue len : ℕ} {l₀ m₁ l₁ m l : List ℕ}
-          → Spreads (graph (callOf t fwd bwd js cuts)) (holds (callOf t fwd bwd js cuts) xs) (t .seed) start l₀ m₁ l₁ blue
-          → Spreads (graph (callOf t fwd bwd js cuts)) (holdsGrey (callOf t fwd bwd js cuts) xs) (t .seed) blue l₁ m l len
-          → Grew (callOf t fwd bwd js cuts) xs m l blue len
+          → Spreads (graph (callOf t fwd bwd pins js cuts)) (holds (callOf t fwd bwd pins js cuts) xs) (t .seed) start l₀ m₁ l₁ blue
+          → Spreads (graph (callOf t fwd bwd pins js cuts)) (holdsGrey (callOf t fwd bwd pins js cuts) xs) (t .seed) blue l₁ m l len
+          → Grew (callOf t fwd bwd pins js cuts) xs m l blue len
       both {start} {blue} {len} {l₀} {m₁} {l₁} {m} {l} s w = record {
         more = w .more;
         cluster = record { members = members-by (λ i e il el. rw q) (w .cluster .members); listed = w .cluster .listed };

@@ -1,12 +1,13 @@
 -- What growing and turning leave is the paper's answer.
-use Prim.Native.Nat.{ℕ, _*_, _<_}
+use Prim.Native.Nat.{ℕ, _*_, _≤_, _<_}
 use mathlib.Core.Path.{_≡_, refl, sym, _∙_, ap}
 use mathlib.Core.Logic.{_⊎_, inl, inr}
-use mathlib.Core.Bool.{Bool, true, false, cond, _&&_}
-use mathlib.Core.List.{List}
+use mathlib.Core.Bool.{Bool, true, false, not, cond, _&&_}
+use mathlib.Core.List.{List, [], _∷_}
+use native.Mathlib.Decide.{decLt}
 use native.Mathlib.Nat.{zero-mul, zero-add, one-mul}
 use native.Mathlib.Omega.{arith}
-use borrow.Author.Tests.{eq-eqb, ne-eqb, ltb-true, ltb-false}
+use borrow.Author.Tests.{eq-eqb, ne-eqb, eqb-true, ltb-true, ltb-false}
 use lib.Dec.{eqb, ltb}
 use lib.ListN.{length, getD}
 use lib.IntN.{ℤ}
@@ -18,80 +19,38 @@ use Rattle.lemmas.specs.Stores.{Cleared}
 use Rattle.paper.specs.declared.Task.{Task}
 use Rattle.paper.specs.declared.Mode.{Mode}
 use Rattle.paper.specs.declared.Mode.the-variants.{Houd, Pair, Perm, Gperm, Jorg, Cmr}
-use Rattle.paper.specs.declared.Form.{Form}
-use Rattle.paper.specs.declared.Form.the-variants.{Sw, Wolff, Observe, Grow}
-use Rattle.paper.specs.declared.Answer.the-variants.{Idle, Moved}
-use Rattle.paper.specs.Panel.Input.{Call, Choices, Pattern, pattern, graph}
+use Rattle.paper.specs.declared.Answer.the-variants.{Idle, Held, Moved}
+use Rattle.paper.specs.Panel.Input.{Call, Choices, Pattern, pinned, pattern, graph}
 use Rattle.paper.specs.Panel.Made.{callOf, choicesOf}
-use Rattle.paper.specs.Panel.Takes.{isPerm, isCmr, growsBy, permsBy, greysBy, takesGreys, entries}
+use Rattle.paper.specs.Panel.Takes.{isCmr, permsBy, greysBy, takesGreys}
 use Rattle.paper.specs.Site.Acting.{acts, SomeActs}
 use Rattle.paper.specs.Component.Labels.{Joined}
 use Rattle.paper.specs.Component.Sizes.{labelOf}
-use Rattle.paper.specs.Move.Moving.{actBy, reachedBy, reached, after, final, Moves}
+use Rattle.paper.specs.Move.Moving.{flipSome, actBy, greyAt, greyBit, reachedBy, hasOne, held, reached, after, final, Moves}
 use Rattle.paper.specs.Refusal.Rules.{Permutes, permRow}
 use Rattle.paper.specs.Refusal.Kept.{Valid, valid-kept}
-use Rattle.paper.specs.Answer.Move.{memberBonds, Answers}
+use Rattle.paper.specs.Answer.Move.{memberBonds, Seen, Answers}
 use Rattle.laws.specs.Choices.{perms-taken, perms-bytes}
 use Rattle.laws.specs.Forms.{forms-apart, grows-one}
 use Rattle.laws.specs.Counting.{cmr-acts, acts-one}
+use Rattle.laws.specs.Holding.{held-members}
 use Rattle.column_rules.specs.Sight.{actsAt, SightedAt, none-acts}
 use Rattle.judge.specs.Judged.{Growable}
 use Rattle.judge.specs.Laws.{growable}
-use Rattle.turn.specs.Turned.{actedTo, turnedTo, OneCluster, Chooses, Turnable, Turned}
+use Rattle.turn.specs.Turned.{bare, actedTo, turnedTo, OneCluster, Chooses, Turnable}
 use Rattle.turn.specs.Laws.{act-any, grey-any}
+use Rattle.grow.specs.Formed.{one-cluster, reached-grown, is-cmr, and-yes, not-true, none-flips, grown-greys, grown-perms, grown-entries}
 use Rattle.grow.specs.Listed.{isIn, siteAt}
 use Rattle.grow.specs.Kept.{Kept}
 use Rattle.grow.specs.Spread.{cluster-site, cluster-joined}
 use Rattle.grow.specs.Contract.{Seedable, Grew}
+use Rattle.grow.specs.Pinned.{PinAmong, Lookable, TurnedFree, among-held, held-among}
 use Rattle.grow.specs.Task.{Outputs, noOutputs, withOutputs, GrowAsks, grown-with}
 
--- ---- the form
-one-cluster : (f : Form) (choices : List ℕ) → growsBy f ≡ true → OneCluster f choices
-one-cluster Sw choices e = never e
-one-cluster Wolff choices e = never e
-one-cluster Observe choices e = never e
-one-cluster Grow choices e = record { flips = λ r. refl; first = λ r. refl }
-
-reached-grown : (f : Form) (mode : Mode) (seed : ℕ) (l : List ℕ) (i : ℕ) → growsBy f ≡ true → reachedBy f mode seed l i ≡ eqb (labelOf l i) 1
-reached-grown Sw mode seed l i e = never e
-reached-grown Wolff mode seed l i e = never e
-reached-grown Observe mode seed l i e = never e
-reached-grown Grow mode seed l i e = refl
-
-is-cmr : (m : Mode) → isCmr m ≡ true → m ≡ Cmr
-is-cmr Houd e = never e
-is-cmr Pair e = never e
-is-cmr Perm e = never e
-is-cmr Gperm e = never e
-is-cmr Jorg e = never e
-is-cmr Cmr e = refl
-
-and-yes : (b : Bool) → (b && true) ≡ b
-and-yes true = refl
-and-yes false = refl
-
-grown-greys : (f : Form) (m : Mode) → growsBy f ≡ true → greysBy m f ≡ isCmr m
-grown-greys Sw m e = never e
-grown-greys Wolff m e = never e
-grown-greys Observe m e = never e
-grown-greys Grow m e = refl
-
-grown-perms : (f : Form) (m : Mode) → growsBy f ≡ true → permsBy m f ≡ isPerm m
-grown-perms Sw m e = never e
-grown-perms Wolff m e = never e
-grown-perms Observe m e = never e
-grown-perms Grow m e = refl
-
-grown-entries : (f : Form) (n : ℕ) → growsBy f ≡ true → entries f n ≡ 1
-grown-entries Sw n e = never e
-grown-entries Wolff n e = never e
-grown-entries Observe n e = never e
-grown-entries Grow n e = refl
-
-module _ (t : Task) (fwd bwd : List ℕ) (js : List ℤ) (cuts : List Float) (choices greys : List ℕ) (xs : List ℤ) (members : List ℕ)
-    (asks : GrowAsks (callOf t fwd bwd js cuts) (choicesOf choices greys) xs members) where
+module _ (t : Task) (fwd bwd pins : List ℕ) (js : List ℤ) (cuts : List Float) (choices greys : List ℕ) (xs : List ℤ) (members : List ℕ)
+    (asks : GrowAsks (callOf t fwd bwd pins js cuts) (choicesOf choices greys) xs members) where
   abbrev c : Call
-  c = callOf t fwd bwd js cuts
+  c = callOf t fwd bwd pins js cuts
 
   abbrev p : Choices
   p = choicesOf choices greys
@@ -104,7 +63,7 @@ module _ (t : Task) (fwd bwd : List ℕ) (js : List ℤ) (cuts : List Float) (ch
   seed-lt = v .fit .seeded .below (grows-one (t .form) (asks .grows))
 
   panel : Growable t xs js cuts
-  panel = growable t fwd bwd js cuts p (withOutputs noOutputs xs members) (v .sound) (v .fit .chosen .reference)
+  panel = growable t fwd bwd pins js cuts p (withOutputs noOutputs xs members) (v .sound) (v .fit .chosen .reference)
 
   pub seen-at : SightedAt (t .mode) (t .n) (t .group) (t .reference) xs (t .seed)
   seen-at = record { panel = panel .panel; below = seed-lt }
@@ -210,18 +169,48 @@ module _ (t : Task) (fwd bwd : List ℕ) (js : List ℤ) (cuts : List Float) (ch
         go true q = cmr-acts c xs (is-cmr (t .mode) q) i
         go false q = sym (acts-one c xs (rw q at j)) ∙ on
 
-    reached-in : (list : List ℕ) (i : ℕ) → acts c xs i ≡ true → reached c xs list i ≡ eqb (labelOf list i) 1
+    -- a list of members of which none is pinned
+    free-is : (list : List ℕ) (i : ℕ) → hasOne (pinned c) list 1 ≡ false → (eqb (labelOf list i) 1 && not (held c list i)) ≡ eqb (labelOf list i) 1
+    free-is list i free = go (eqb (labelOf list i) 1) refl
+      where
+        go : (b : Bool) → eqb (labelOf list i) 1 ≡ b → (b && not (held c list i)) ≡ b
+        go false e = refl
+        go true e = ap (λ (r : ℕ). not (hasOne (pinned c) list r)) (eqb-true (labelOf list i) 1 e) ∙ ap not free
+
+    reached-in : (list : List ℕ) (i : ℕ) → acts c xs i ≡ true → hasOne (pinned c) list 1 ≡ false → reached c xs list i ≡ eqb (labelOf list i) 1
     unfolding reached
-    reached-in list i e = rw e (reached-grown (t .form) (t .mode) (t .seed) list i (asks .grows))
+    reached-in list i e free = rw (e, reached-grown (t .form) (t .mode) (t .seed) list i (asks .grows)) (free-is list i free)
+
+    -- and one of which one is
+    reached-held : (list : List ℕ) (i : ℕ) → labelOf list i ≡ 1 → hasOne (pinned c) list 1 ≡ true → reached c xs list i ≡ false
+    unfolding reached
+    reached-held list i label h =
+        ap (λ (b : Bool). acts c xs i && (reachedBy (t .form) (t .mode) (t .seed) list i && not b)) (ap (hasOne (pinned c) list) label ∙ h)
+        ∙ (ap (λ (b : Bool). acts c xs i && b) (and-no (reachedBy (t .form) (t .mode) (t .seed) list i)) ∙ and-no (acts c xs i))
 
     reached-out : (list : List ℕ) (i : ℕ) → (labelOf list i ≡ 1 → ⊥) → reached c xs list i ≡ false
     unfolding reached
     reached-out list i other =
-        ap (λ (b : Bool). acts c xs i && b) (reached-grown (t .form) (t .mode) (t .seed) list i (asks .grows) ∙ ne-eqb (labelOf list i) 1 other)
+        ap (λ (b : Bool). acts c xs i && (b && not (held c list i)))
+        (reached-grown (t .form) (t .mode) (t .seed) list i (asks .grows) ∙ ne-eqb (labelOf list i) 1 other)
         ∙ and-no (acts c xs i)
 
     abbrev one : OneCluster (t .form) choices
     one = chooses .one
+
+    -- the grey number 0 leaves a pattern
+    no-grey : (b : Bool) (f : Pattern) (k : ℕ) → cond b (flipSome (greyBit (greyAt (t .form) (0 ∷ []) 0)) f k) (f k) ≡ f k
+    no-grey true f k = rw (one .first 0, none-flips k)
+    no-grey false f k = refl
+
+    -- where the blue ones are free, a pin of the grey component stands behind them
+    grey-pin : hasOne (pinned c) (g .blues) 1 ≡ false → hasOne (pinned c) m 1 ≡ true → PinAmong pins l blue len
+    grey-pin free e = let q = held-among c (g .cluster .listed) e in at q (decLt (q .place) blue)
+      where
+        at : (q : PinAmong pins l 0 len) → Dec (q .place < blue) → PinAmong pins l blue len
+        at q (yes h) =
+            never (sym free ∙ among-held c (g .first .listed) (record { place = q .place; low = q .low; high = h; pin = q .pin }))
+        at q (no h) = record { place = q .place; low = omega arith; high = q .high; pin = q .pin }
 
     -- ---- at the place x of the list
     module _ (x : ℕ) (xl : x < len) where
@@ -239,29 +228,62 @@ module _ (t : Task) (fwd bwd : List ℕ) (js : List ℤ) (cuts : List Float) (ch
               let same = g .cluster .listed .apart x (w .0) xl (omega (arith, w .1, g .more)) (w .2) in
               omega (arith, same, w .1, ltb-false x blue e))
 
-      chosen-same : (P f : Pattern) (k : ℕ) (b : Bool)
-          → cond b (actBy (t .mode) c p P (labelOf (g .blues) (siteAt l x)) f k) (f k) ≡ actedTo t choices greys P b f k
-      chosen-same P f k true = act-any t choices one greys fwd bwd js cuts (labelOf (g .blues) (siteAt l x)) (t .mode) P f k
-      chosen-same P f k false = refl
+      -- the grey number is not read
+      act-greys : (grey : List ℕ) (m : Mode) (P f : Pattern) (k : ℕ)
+          → actBy m (bare t) (choicesOf choices greys) P 0 f k ≡ actBy m (bare t) (choicesOf choices grey) P 0 f k
+      act-greys grey Houd P f k = refl
+      act-greys grey Pair P f k = refl
+      act-greys grey Perm P f k = refl
+      act-greys grey Gperm P f k = refl
+      act-greys grey Jorg P f k = refl
+      act-greys grey Cmr P f k = refl
 
-      after-is : (k : ℕ)
-          → after c p xs (g .blues) (siteAt l x) k
-          ≡ actedTo t choices greys (pattern c xs (t .reference)) (ltb x blue) (pattern c xs (siteAt l x)) k
-      after-is k =
-          rw (reached-in (g .blues) (siteAt l x) does ∙ blue-is)
-          (chosen-same (pattern c xs (t .reference)) (pattern c xs (siteAt l x)) k (ltb x blue))
+      chosen-same : (grey : List ℕ) (P f : Pattern) (k : ℕ) (b : Bool)
+          → cond b (actBy (t .mode) c p P (labelOf (g .blues) (siteAt l x)) f k) (f k) ≡ actedTo t choices grey P b f k
+      chosen-same grey P f k true =
+          act-any t choices one greys fwd bwd pins js cuts (labelOf (g .blues) (siteAt l x)) (t .mode) P f k ∙ act-greys grey (t .mode) P f k
+      chosen-same grey P f k false = refl
 
-      pub final-is : (k : ℕ)
-          → final c p xs (g .blues) m (siteAt l x) k
-          ≡ turnedTo t choices greys (pattern c xs (t .reference)) (ltb x blue) (pattern c xs (siteAt l x)) k
-      unfolding final
-      final-is k =
-          rw (grey-here, grey-any t choices one greys fwd bwd js cuts (labelOf m (siteAt l x)), after-is k)
-        where
-          grey-here : (takesGreys c && reached c xs m (siteAt l x)) ≡ isCmr (t .mode)
-          grey-here =
-              rw (grown-greys (t .form) (t .mode) (asks .grows), reached-in m (siteAt l x) does, eq-eqb _ _ (g .cluster .listed .each x xl))
-              (and-yes (isCmr (t .mode)))
+      module _ (free : hasOne (pinned c) (g .blues) 1 ≡ false) where
+        after-is : (grey : List ℕ) (k : ℕ)
+            → after c p xs (g .blues) (siteAt l x) k
+            ≡ actedTo t choices grey (pattern c xs (t .reference)) (ltb x blue) (pattern c xs (siteAt l x)) k
+        after-is grey k =
+            rw (reached-in (g .blues) (siteAt l x) does free ∙ blue-is)
+            (chosen-same grey (pattern c xs (t .reference)) (pattern c xs (siteAt l x)) k (ltb x blue))
+
+        final-free : hasOne (pinned c) m 1 ≡ false → (k : ℕ)
+            → final c p xs (g .blues) m (siteAt l x) k
+            ≡ turnedTo t choices greys (pattern c xs (t .reference)) (ltb x blue) (pattern c xs (siteAt l x)) k
+        unfolding final
+        final-free none k =
+            rw (grey-here, grey-any t choices one greys fwd bwd pins js cuts (labelOf m (siteAt l x)), after-is greys k)
+          where
+            grey-here : (takesGreys c && reached c xs m (siteAt l x)) ≡ isCmr (t .mode)
+            grey-here =
+                rw (grown-greys (t .form) (t .mode) (asks .grows), reached-in m (siteAt l x) does none, eq-eqb _ _ (g .cluster .listed .each x xl))
+                (and-yes (isCmr (t .mode)))
+
+        -- a grey component that is held takes no grey flip
+        final-held : hasOne (pinned c) m 1 ≡ true → (k : ℕ)
+            → final c p xs (g .blues) m (siteAt l x) k
+            ≡ turnedTo t choices (0 ∷ []) (pattern c xs (t .reference)) (ltb x blue) (pattern c xs (siteAt l x)) k
+        unfolding final
+        final-held some k =
+            rw (reached-held m (siteAt l x) (g .cluster .listed .each x xl) some, and-no (takesGreys c))
+            (after-is (0 ∷ []) k
+            ∙ sym (no-grey (isCmr (t .mode)) (actedTo t choices (0 ∷ []) (pattern c xs (t .reference)) (ltb x blue) (pattern c xs (siteAt l x))) k))
+
+        pub final-is : {ys : List ℤ} (w : TurnedFree t pins choices greys l blue len xs ys) (k : ℕ)
+            → final c p xs (g .blues) m (siteAt l x) k
+            ≡ turnedTo t choices (w .grey) (pattern c xs (t .reference)) (ltb x blue) (pattern c xs (siteAt l x)) k
+        final-is w k = go (hasOne (pinned c) m 1) refl
+          where
+            go : (h : Bool) → hasOne (pinned c) m 1 ≡ h
+                → final c p xs (g .blues) m (siteAt l x) k
+                ≡ turnedTo t choices (w .grey) (pattern c xs (t .reference)) (ltb x blue) (pattern c xs (siteAt l x)) k
+            go true e = rw (w .none (grey-pin free e)) (final-held e k)
+            go false e = rw (w .kept (λ q. never (sym e ∙ among-held c (g .cluster .listed) q))) (final-free e k)
 
     -- ---- at a site that is not listed
     module _ (i k : ℕ) (apart : Unplaced len (siteAt l) i) where
@@ -274,36 +296,65 @@ module _ (t : Task) (fwd bwd : List ℕ) (js : List ℤ) (cuts : List Float) (ch
             and-no (takesGreys c),
           )
 
-    pub moved : {ys : List ℤ} → Turned t choices greys l blue len xs ys → Moves c p xs (g .blues) m ys
-    moved {ys} w = record {
-      long = w .long;
-      group = λ i k il kl. at i k il kl (place len (siteAt l) i);
-      others = λ i s il none. w .systems i s il none;
-    }
-      where
-        at : (i k : ℕ) → i < t .n → k < t .group .len → Placed len (siteAt l) i ⊎ Unplaced len (siteAt l) i
-            → pattern c ys i k ≡ final c p xs (g .blues) m i k
-        at i k il kl (inl q) = rw (q .2) (w .listed (q .0) k (q .1) kl ∙ sym (final-is (q .0) (q .1) k))
-        at i k il kl (inr q) = w .others i _ il q ∙ sym (final-else i k q)
-
-    pub moved-answers : {ys : List ℤ} → Turned t choices greys l blue len xs ys → (o : Outputs)
-        → Answers c p (withOutputs o xs members) Moved (withOutputs o ys m)
-    moved-answers {ys} w o = record {
-      valid = valid-kept c p (withOutputs o xs members) (answered o);
-      some = record { site = t .seed; below = seed-lt; does = on };
-      moved = λ e. forms-apart (t .form) e (asks .grows);
-      turned = λ e. record { blue = g .blues; joined = g .first .members; moved = moved w };
-      seen = record {
-        all = λ e. forms-apart (t .form) e (asks .grows);
-        one = λ e. record {
-          members = λ _. g .cluster .members;
-          none = λ off. never (sym off ∙ on);
-          labels-kept = refl;
-          grey-kept = refl;
-          counts-kept = refl;
-          sizes-kept = refl;
-          found-kept = refl;
-          grey-found-kept = refl;
-        };
+    seen : (o : Outputs) (ys : List ℤ) → Seen c (withOutputs o xs members) (withOutputs o ys m)
+    seen o ys = record {
+      all = λ e. forms-apart (t .form) e (asks .grows);
+      one = λ e. record {
+        members = λ _. g .cluster .members;
+        none = λ off. never (sym off ∙ on);
+        labels-kept = refl;
+        grey-kept = refl;
+        counts-kept = refl;
+        sizes-kept = refl;
+        found-kept = refl;
+        grey-found-kept = refl;
       };
     }
+
+    -- ---- the pins of the list
+    pub lookable : (from to : ℕ) → from ≤ to → to ≤ len → Lookable (length pins) l from to
+    lookable from to h k = let w = g .cluster .listed in record {
+      order = h;
+      sites = record {
+        few = omega (arith, w .number, count-most (isIn m) (length m), g .cluster .members .long, v .sound .ranged .lattice .n-high);
+        long = omega (arith, w .number, count-most (isIn m) (length m), w .room);
+        below = λ a al. omega (arith, cluster-site (g .cluster) a (omega arith), v .sound .exact .pins);
+      };
+    }
+
+    -- one of a blue site holds the cluster
+    pub held-answers : PinAmong pins l 0 blue → (o : Outputs) → Answers c p (withOutputs o xs members) Held (withOutputs o xs m)
+    held-answers q o = record {
+      valid = valid-kept c p (withOutputs o xs members) (answered o);
+      some = record { site = t .seed; below = seed-lt; does = on };
+      one = grows-one (t .form) (asks .grows);
+      held = held-members c xs seed-lt (g .blues) (g .first .members) .0 (among-held c (g .first .listed) q);
+      still = refl;
+      seen = seen o xs;
+    }
+
+    module _ (none : PinAmong pins l 0 blue → ⊥) {ys : List ℤ} (w : TurnedFree t pins choices greys l blue len xs ys) where
+      free : hasOne (pinned c) (g .blues) 1 ≡ false
+      free = not-true (hasOne (pinned c) (g .blues) 1) (λ e. none (held-among c (g .first .listed) e))
+
+      moved : Moves c p xs (g .blues) m ys
+      moved = record {
+        long = w .turned .long;
+        group = λ i k il kl. at i k il kl (place len (siteAt l) i);
+        others = λ i s il none. w .turned .systems i s il none;
+      }
+        where
+          at : (i k : ℕ) → i < t .n → k < t .group .len → Placed len (siteAt l) i ⊎ Unplaced len (siteAt l) i
+              → pattern c ys i k ≡ final c p xs (g .blues) m i k
+          at i k il kl (inl q) = rw (q .2) (w .turned .listed (q .0) k (q .1) kl ∙ sym (final-is (q .0) (q .1) free w k))
+          at i k il kl (inr q) = w .turned .others i _ il q ∙ sym (final-else i k q)
+
+      pub moved-answers : (o : Outputs) → Answers c p (withOutputs o xs members) Moved (withOutputs o ys m)
+      moved-answers o = record {
+        valid = valid-kept c p (withOutputs o xs members) (answered o);
+        some = record { site = t .seed; below = seed-lt; does = on };
+        free = λ _ s. never (sym free ∙ held-members c xs seed-lt (g .blues) (g .first .members) .1 s);
+        moved = λ e. forms-apart (t .form) e (asks .grows);
+        turned = λ e. record { blue = g .blues; joined = g .first .members; moved = moved };
+        seen = seen o ys;
+      }

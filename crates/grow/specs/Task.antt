@@ -41,6 +41,7 @@ grown-with {c} o u f v = let s = v .sound in let e = s .exact in record {
       spins = e .spins;
       fwd = e .fwd;
       bwd = e .bwd;
+      pins = e .pins;
       couplings = e .couplings;
       cuts = e .cuts;
       choices = e .choices;
@@ -55,6 +56,7 @@ grown-with {c} o u f v = let s = v .sound in let e = s .exact in record {
     };
     spins = s .spins;
     inverse = s .inverse;
+    pins = s .pins;
     grouped = s .grouped;
     couplings = s .couplings;
     warm = s .warm;

@@ -105,8 +105,8 @@ module _ {g : Lattice} {group : Group} {totals ys : List ℤ} (h : Bringable g g
             ∙ shown-column (group .len) (patternOf (g .n) group ys i) k kl (r .spins (member group k) i (h .grouped .below k kl) il))
 
 -- ---- one task
-module _ (t : Task) (fwd bwd : List ℕ) (js : List ℤ) (cuts : List Float) (choices greys : List ℕ) (xs : List ℤ) (members : List ℕ)
-    (asks : GrowAsks (callOf t fwd bwd js cuts) (choicesOf choices greys) xs members) {totals : List ℤ}
+module _ (t : Task) (fwd bwd pins : List ℕ) (js : List ℤ) (cuts : List Float) (choices greys : List ℕ) (xs : List ℤ) (members : List ℕ)
+    (asks : GrowAsks (callOf t fwd bwd pins js cuts) (choicesOf choices greys) xs members) {totals : List ℤ}
     (ready : TotalsReady (keepsBy (t .keeps) (t .form)) (latticeFor t fwd bwd js) (t .group) totals)
   where
     abbrev keeping : Bool
@@ -129,7 +129,7 @@ module _ (t : Task) (fwd bwd : List ℕ) (js : List ℤ) (cuts : List Float) (ch
       totals-small = ready .small on;
     }
 
-    module _ {m l : List ℕ} {blue len : ℕ} (grew : Grew (callOf t fwd bwd js cuts) xs m l blue len) {cols : List ℕ} (kept : Kept t xs m cols) where
+    module _ {m l : List ℕ} {blue len : ℕ} (grew : Grew (callOf t fwd bwd pins js cuts) xs m l blue len) {cols : List ℕ} (kept : Kept t xs m cols) where
       pub changed : Changed (t .n) m l len (length cols)
       changed = let w = grew .cluster .listed in record {
         sites = record {
@@ -144,7 +144,7 @@ module _ (t : Task) (fwd bwd : List ℕ) (js : List ℤ) (cuts : List Float) (ch
         listed = λ i il on. w .all i on;
       }
 
-      module _ {ys : List ℤ} (turned : Turned t choices greys l blue len xs ys) where
+      module _ {grey : List ℕ} {ys : List ℤ} (turned : Turned t choices grey l blue len xs ys) where
         -- every spin is one again
         pub spun : Spun g ys
         spun = record {

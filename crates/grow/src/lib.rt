@@ -1,6 +1,8 @@
 // The cluster of a seed, grown from site to site: only what it reaches is looked at.
 ghost use lib.ListN.{length, getD};
 ghost use mathlib.Core.Path.{_≡_};
+ghost use mathlib.Core.List.{List};
+ghost use Prim.Native.Nat.{ℕ};
 ghost use Rattle.paper.specs.Panel.Made.{latticeOf, callOf, choicesOf};
 ghost use Rattle.paper.specs.Panel.Takes.{keepsBy};
 ghost use Rattle.paper.specs.Answer.Move.{Answers};
@@ -12,16 +14,19 @@ ghost use Rattle.grow.specs.Growth.{Growing, Met, Visiting};
 ghost use Rattle.grow.specs.Spread.{Next, Spreads};
 ghost use Rattle.grow.specs.Contract.{graphFor, ruled, Grounds, Meeting, Waiting, Seedable, Grew};
 ghost use Rattle.grow.specs.Task.{Outputs, withOutputs, GrowAsks};
-ghost use Rattle.totals.specs.Contract.{latticeFor, Bringable, Spun};
-ghost use Rattle.totals.specs.Listed.{BringsListed};
-ghost use Rattle.grow.specs.Totals.{Readable, ReadAt, Changed};
+
+mod held;
+mod keep;
+
+use held::some_pinned;
+use held::turn_free;
 use judge::Rule;
 use judge::judge;
 use judge::prepare;
+use keep::keep_totals;
 use lemmas::bytes::clear;
 use lemmas::wide;
 use paper::Answer;
-use paper::Group;
 use paper::Mode;
 use paper::Sampler;
 use paper::Task;
@@ -204,7 +209,8 @@ struct Grown {
     len: usize,
 }
 
-// The cluster of the task's seed. In CMR it is the grey one: it grows on from every site of the blue one, which stands first in the list.
+// The cluster of the task's seed, whatever is pinned. In CMR it is the grey one: it grows on from every site of the blue one, which stands first in the
+// list.
 fn grow_cluster(
     t: Task,
     spins: &[i8],
@@ -217,8 +223,8 @@ fn grow_cluster(
     cols: &mut [u8],
 ) -> Grown
     requires { ⌜ Seedable t (now fwd) (now bwd) (now spins) (now couplings) (now cuts) (length (now members)) (length (now list)) (length (now cols)) ⌝ }
-    ensures { λ r. ⌜ Keeping (Grew
-        (callOf t (now (fwd .entry)) (now (bwd .entry)) (now (couplings .entry)) (now (cuts .entry))) (now (spins .entry))
+    ensures { λ r. ⌜ Keeping ((pins : List ℕ) → Grew
+        (callOf t (now (fwd .entry)) (now (bwd .entry)) pins (now (couplings .entry)) (now (cuts .entry))) (now (spins .entry))
         (now (members .exit)) (now (list .exit)) (r .blue) (r .len))
         t (now (spins .entry)) (now (members .exit)) (now (cols .exit)) ⌝ }
 {
@@ -267,67 +273,16 @@ fn grow_cluster(
     }
 }
 
-// Reads the columns of the first len sites of the list. The quicker reading is left to the growth alone:
-// called from one place it is inlined there.
-fn read_listed(spins: &[i8], n: usize, group: Group, list: &[u32], len: usize, news: &mut [u8])
-    requires { ⌜ Readable n group (now spins) (now list) len (length (now news)) ⌝ }
-    ensures { λ _. ⌜ ReadAt n group (now (spins .entry)) (now (list .entry)) len (now (news .entry)) (now (news .exit)) ⌝ }
-{
-    let mut a: usize = 0;
-    while a < len {
-        let i = wide(list[a]);
-        news[i] = columns::column_at(spins, n, group, i);
-        a += 1;
-    }
-}
-
-// Brings the totals along once the members, which are listed, are turned. The spins are those after it; of the columns before it `olds` has the members',
-// and is overwritten elsewhere.
-fn keep_totals(
-    t: Task,
-    spins: &[i8],
-    totals: &mut [i64],
-    fwd: &[u32],
-    bwd: &[u32],
-    couplings: &[i32],
-    members: &[u8],
-    list: &[u32],
-    len: usize,
-    olds: &mut [u8],
-)
-    requires { ⌜ Bringable (latticeFor t (now fwd) (now bwd) (now couplings)) (t .group) (now totals) ⌝ }
-    requires { ⌜ Spun (latticeFor t (now fwd) (now bwd) (now couplings)) (now spins) ⌝ }
-    requires { ⌜ Changed (t .n) (now members) (now list) len (length (now olds)) ⌝ }
-    ensures { λ _. ⌜ BringsListed
-        (latticeFor t (now (fwd .entry)) (now (bwd .entry)) (now (couplings .entry))) (t .group) (now (spins .entry)) (now (members .entry))
-        (now (olds .entry)) (now (totals .entry)) (now (totals .exit)) ⌝ }
-{
-    let mut news = [0u8; 4096];
-    let group = t.group;
-    read_listed(spins, t.n, group, list, len, &mut news);
-    totals::bring_listed(
-        t,
-        spins,
-        fwd,
-        bwd,
-        couplings,
-        members,
-        list,
-        len,
-        olds,
-        &mut news,
-        totals,
-    );
-}
-
 // One task of the form that grows, once its input is tested: the members and the spins as the paper has them, and the totals brought along where the task
-// keeps them. Beside the seed, and in gperm the reference, no site is read that the cluster does not reach; but for totals also those next to it.
+// keeps them. Where a site that the bonds join to the seed is pinned, in CMR a blue one, the members are written and nothing turns. Beside the seed, and in
+// gperm the reference, no site is read that the cluster does not reach, nor its pin; but for totals also those next to it.
 pub fn run_grow(
     t: Task,
     spins: &mut [i8],
     totals: &mut [i64],
     fwd: &[u32],
     bwd: &[u32],
+    pins: &[u8],
     couplings: &[i32],
     cuts: &[f32],
     choices: &[u8],
@@ -335,10 +290,10 @@ pub fn run_grow(
     members: &mut [u8],
 ) -> Answer
     requires { ⌜ GrowAsks
-        (callOf t (now fwd) (now bwd) (now couplings) (now cuts)) (choicesOf (now choices) (now greys)) (now spins) (now members) ⌝ }
+        (callOf t (now fwd) (now bwd) (now pins) (now couplings) (now cuts)) (choicesOf (now choices) (now greys)) (now spins) (now members) ⌝ }
     requires { ⌜ TotalsReady (keepsBy (t .keeps) (t .form)) (latticeOf (t .n) (t .d) (t .s) (now fwd) (now bwd) (now couplings)) (t .group) (now totals) ⌝ }
     ensures { λ r. ⌜ ((o : Outputs) → Answers
-        (callOf t (now (fwd .entry)) (now (bwd .entry)) (now (couplings .entry)) (now (cuts .entry)))
+        (callOf t (now (fwd .entry)) (now (bwd .entry)) (now (pins .entry)) (now (couplings .entry)) (now (cuts .entry)))
         (choicesOf (now (choices .entry)) (now (greys .entry)))
         (withOutputs o (now (spins .entry)) (now (members .entry)))
         r
@@ -366,9 +321,13 @@ pub fn run_grow(
         &mut list,
         &mut cols,
     );
-    turn::turn(
+    if some_pinned(pins, &list, 0, grown.blue) {
+        return Answer::Held;
+    }
+    turn_free(
         t,
         spins,
+        pins,
         choices,
         greys,
         &list,

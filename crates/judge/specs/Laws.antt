@@ -22,8 +22,8 @@ use Rattle.columns.specs.Column.{Inside}
 use Rattle.judge.specs.declared.Rule.{Rule}
 use Rattle.judge.specs.Judged.{Growable, Prepared, Ready, judgedBy, judged}
 
-module _ (t : Task) (fwd bwd : List ℕ) (js : List ℤ) (cuts : List Float) (xs : List ℤ) (i e j : ℕ) (leads : getD fwd (i * t .d + e) 0 ≡ j) where
-  by-mode : (m : Mode) → judgedBy m t false xs js cuts i e j ≡ holdsBy m (callOf t fwd bwd js cuts) xs i e
+module _ (t : Task) (fwd bwd pins : List ℕ) (js : List ℤ) (cuts : List Float) (xs : List ℤ) (i e j : ℕ) (leads : getD fwd (i * t .d + e) 0 ≡ j) where
+  by-mode : (m : Mode) → judgedBy m t false xs js cuts i e j ≡ holdsBy m (callOf t fwd bwd pins js cuts) xs i e
   unfolding acts
   by-mode Houd = rw leads
   by-mode Pair = rw leads
@@ -32,15 +32,15 @@ module _ (t : Task) (fwd bwd : List ℕ) (js : List ℤ) (cuts : List Float) (xs
   by-mode Jorg = rw leads
   by-mode Cmr = rw leads
 
-  pub judged-holds : judged t false xs js cuts i e j ≡ holds (callOf t fwd bwd js cuts) xs i e
+  pub judged-holds : judged t false xs js cuts i e j ≡ holds (callOf t fwd bwd pins js cuts) xs i e
   unfolding judged holds
   judged-holds = by-mode (t .mode)
 
-  pub judged-grey : isCmr (t .mode) ≡ true → judged t true xs js cuts i e j ≡ holdsGrey (callOf t fwd bwd js cuts) xs i e
+  pub judged-grey : isCmr (t .mode) ≡ true → judged t true xs js cuts i e j ≡ holdsGrey (callOf t fwd bwd pins js cuts) xs i e
   unfolding judged holdsGrey
   judged-grey q = go (t .mode) q
     where
-      go : (m : Mode) → isCmr m ≡ true → judgedBy m t true xs js cuts i e j ≡ holdsGrey (callOf t fwd bwd js cuts) xs i e
+      go : (m : Mode) → isCmr m ≡ true → judgedBy m t true xs js cuts i e j ≡ holdsGrey (callOf t fwd bwd pins js cuts) xs i e
       go Houd q = never q
       go Pair q = never q
       go Perm q = never q
@@ -50,10 +50,10 @@ module _ (t : Task) (fwd bwd : List ℕ) (js : List ℤ) (cuts : List Float) (xs
 
 -- an accepted call's panel can be grown on
 pub growable :
-    (t : Task) (fwd bwd : List ℕ) (js : List ℤ) (cuts : List Float) (p : Choices) (b : Buffers)
-    → Sound (callOf t fwd bwd js cuts) p b → (isGperm (t .mode) ≡ true → t .reference < t .n)
+    (t : Task) (fwd bwd pins : List ℕ) (js : List ℤ) (cuts : List Float) (p : Choices) (b : Buffers)
+    → Sound (callOf t fwd bwd pins js cuts) p b → (isGperm (t .mode) ≡ true → t .reference < t .n)
     → Growable t (b .spins) js cuts
-growable t fwd bwd js cuts p b s site = record {
+growable t fwd bwd pins js cuts p b s site = record {
   panel = record {
     n-high = s .ranged .lattice .n-high;
     size-low = omega (arith, s .ranged .size-low);

@@ -8,7 +8,7 @@ use lib.ListN.{length}
 use lib.IntN.{ℤ}
 use Rattle.lemmas.specs.Bools.{and-right}
 use Rattle.paper.specs.declared.Answer.{Answer}
-use Rattle.paper.specs.declared.Answer.the-variants.{Idle, Moved}
+use Rattle.paper.specs.declared.Answer.the-variants.{Idle, Held, Moved}
 use Rattle.paper.specs.Panel.Input.{graph, Call, Choices, Buffers, pattern, size}
 use Rattle.paper.specs.Panel.Takes.{isCmr, isPerm, growsBy, moves}
 use Rattle.paper.specs.Site.Acting.{acts, SomeActs}
@@ -18,10 +18,10 @@ use Rattle.paper.specs.Component.Sizes.{labelOf}
 use Rattle.paper.specs.Move.Moving.{reached, Moves}
 use Rattle.paper.specs.Refusal.Rules.{AllSystems, Spins, Exact, Seeded, Permutes}
 use Rattle.paper.specs.Refusal.Kept.{Valid, valid-of, valid-kept}
-use Rattle.paper.specs.Answer.Move.{SeenAll, SeenOne, Seen, memberBonds, Turns, Answers, Accepted, Accepted.idle, Accepted.moved}
+use Rattle.paper.specs.Answer.Move.{SeenAll, SeenOne, Seen, memberBonds, SeedHeld, Turns, Answers, Accepted, Accepted.idle, Accepted.held, Accepted.moved}
 use Rattle.laws.specs.Forms.{grows-one, grows-moves}
-use Rattle.laws.specs.Unique.{HoldAlike, GroupIs, OthersOf, label-lt, spins-equal, numbered-ext, members-ext, counts-ext, sizes-ext}
-use Rattle.laws.specs.Entries.{permOf, form-moves, perms-of, perms-grown}
+use Rattle.laws.specs.Unique.{HoldAlike, GroupIs, OthersOf, label-lt, spins-equal, joined-ext, numbered-ext, members-ext, counts-ext, sizes-ext}
+use Rattle.laws.specs.Entries.{permOf, reached-moves, perms-of, perms-grown}
 use Rattle.laws.specs.Local.{Agree, Alike, acts-local, holds-local, grey-local, final-local}
 
 abbrev pub withSpins : Buffers → List ℤ → Buffers
@@ -72,6 +72,7 @@ module _ {c : Call} {p : Choices} {b : Buffers} {xs : List ℤ} (s : Instead c b
     spins = s .long ∙ e .spins;
     fwd = e .fwd;
     bwd = e .bwd;
+    pins = e .pins;
     couplings = e .couplings;
     cuts = e .cuts;
     choices = e .choices;
@@ -98,6 +99,7 @@ module _ {c : Call} {p : Choices} {b : Buffers} {xs : List ℤ} (s : Instead c b
       exact = exact-there;
       spins = s .spinning;
       inverse = v .sound .inverse;
+      pins = v .sound .pins;
       grouped = v .sound .grouped;
       couplings = v .sound .couplings;
       warm = v .sound .warm;
@@ -108,6 +110,23 @@ module _ {c : Call} {p : Choices} {b : Buffers} {xs : List ℤ} (s : Instead c b
   -- the same bonds hold
   blue : HoldAlike (graph c) (holds c (b .spins)) (holds c xs)
   blue i e hi he = sym (holds-local c xs (b .spins) alike i e hi he)
+
+  -- so the seed's component is held by the same site
+  held-there : SeedHeld c (b .spins) → SeedHeld c xs
+  held-there h = record {
+    site = h .site;
+    below = h .below;
+    pin = h .pin;
+    joined = joined-ext (graph c) (holds c (b .spins)) (holds c xs) blue (h .joined);
+  }
+
+  held-back : SeedHeld c xs → SeedHeld c (b .spins)
+  held-back h = record {
+    site = h .site;
+    below = h .below;
+    pin = h .pin;
+    joined = joined-ext (graph c) (holds c xs) (holds c (b .spins)) (λ i e hi he. sym (blue i e hi he)) (h .joined);
+  }
 
   grey : isCmr (c .mode) ≡ true → HoldAlike (graph c) (holdsGrey c (b .spins)) (holdsGrey c xs)
   grey t i e hi he = sym (grey-local c xs (b .spins) alike t i e hi he)
@@ -161,9 +180,8 @@ module _ {c : Call} {p : Choices} {b : Buffers} {xs : List ℤ} (s : Instead c b
       → reached c xs l i ≡ true
       → isPerm (c .mode) ≡ true
       → Permutes (size c) (permOf c p (labelOf l i))
-  unfolding reached
   perms-at l h i hi e q =
-      perms-of v (rw (form-moves (c .form) c l i (and-right (acts c xs i) _ e), q)) (labelOf l i)
+      perms-of v (rw (reached-moves c xs l i e, q)) (labelOf l i)
       (label-lt (graph c) (holds c (b .spins)) l h i hi)
 
   -- the choices are right wherever the list l says that a site is reached
@@ -193,19 +211,32 @@ module _
     s : Instead c b xs
     s = record { long = long; spinning = spinning; same = same }
 
+    -- spins that stay stay here too
+    stays : {ys : List ℤ} → Valid c p b → b′ .spins ≡ b .spins → Rows c xs (b′ .spins) ys → ys ≡ xs
+    stays {ys} v still r = spins-equal c ys xs (v .sound .ranged .lattice .n-low) (r .long) back (r .others)
+      where
+        back : GroupIs c ys (pattern c xs)
+        back i k hi hk = r .group i hi k hk ∙ (ap (λ (z : List ℤ). pattern c z i k) still ∙ sym (same i hi k hk))
+
     pub local : (a : Answer) → Accepted a → Answers c p b a b′ → (ys : List ℤ) → Rows c xs (b′ .spins) ys → Answers c p (withSpins b xs) a (withSpins b′ ys)
     local Idle idle w ys r = let v = valid-of c p b (w .valid) in record {
       valid = valid-kept c p (withSpins b xs) (valid-there s v);
       none = λ i h. acts-same s v i h ∙ w .none i h;
-      still = spins-equal c ys xs (v .sound .ranged .lattice .n-low) (r .long) back (r .others);
+      still = stays v (w .still) r;
       seen = seen-there s v (w .seen) ys;
     }
-      where
-        back : GroupIs c ys (pattern c xs)
-        back i k hi hk = r .group i hi k hk ∙ (ap (λ (z : List ℤ). pattern c z i k) (w .still) ∙ sym (same i hi k hk))
+    local Held held w ys r = let v = valid-of c p b (w .valid) in record {
+      valid = valid-kept c p (withSpins b xs) (valid-there s v);
+      some = some-back s v (w .some);
+      one = w .one;
+      held = held-there s v (w .held);
+      still = stays v (w .still) r;
+      seen = seen-there s v (w .seen) ys;
+    }
     local Moved moved w ys r = let v = valid-of c p b (w .valid) in record {
       valid = valid-kept c p (withSpins b xs) (valid-there s v);
       some = some-back s v (w .some);
+      free = λ one h. w .free one (held-back s v h);
       moved = λ t. moves-there s v (b′ .labels) (b′ .greyLabels) (perms-at s v (b′ .labels) (w .seen .all t .labels .labels)) (w .moved t) ys r;
       turned = λ t. turned-there s v t (w .turned t) ys r;
       seen = seen-there s v (w .seen) ys;

@@ -2,7 +2,7 @@
 use Prim.Native.Nat.{ℕ, zero, suc, _+_, _*_, _≤_, _<_}
 use mathlib.Core.Path.{_≡_, refl, sym, _∙_, ap, subst}
 use mathlib.Core.Logic.{_⊎_, inl, inr}
-use mathlib.Core.Bool.{Bool, true, false}
+use mathlib.Core.Bool.{Bool, true, false, not, _&&_}
 use mathlib.Core.List.{List}
 use native.Mathlib.Omega.{arith}
 use native.Mathlib.Decide.{decLt}
@@ -10,25 +10,27 @@ use native.Mathlib.Nat.{mul-le-mul-right}
 use lib.ListN.{length, getD, List·getD-eq-default}
 use lib.Seq.{ext-getD}
 use lib.IntN.{ℤ, pos}
-use Rattle.paper.specs.declared.Answer.the-variants.{Idle, Moved}
+use Rattle.paper.specs.declared.Answer.the-variants.{Idle, Held, Moved}
 use Rattle.paper.specs.Panel.Input.{Graph, leadsTo, graph, Call, Choices, Buffers, spin, pattern, size, system}
-use Rattle.paper.specs.Panel.Takes.{labelsBy, takesGreys}
+use Rattle.paper.specs.Panel.Takes.{oneCluster, labelsBy, takesGreys}
 use Rattle.paper.specs.Site.Acting.{acts, NoneActs}
 use Rattle.paper.specs.Site.Bonds.{holds, holdsGrey}
+use Rattle.lemmas.specs.Bools.{never, and-left, and-right}
 use Rattle.lemmas.specs.Counts.{countWhere}
 use Rattle.lemmas.specs.Places.{Placed}
 use Rattle.paper.specs.Component.Links.{Linked.stay, Linked.along, Linked.against, trans, back}
 use Rattle.paper.specs.Component.Labels.{Bond, Joined, Numbered}
 use Rattle.paper.specs.Component.Sizes.{labelOf, isFirst, ofSize, atLeast, Counted, Rank, Largest}
-use Rattle.paper.specs.Move.Moving.{final}
+use Rattle.paper.specs.Move.Moving.{held, final}
 use Rattle.paper.specs.Refusal.Rule.{Kept}
 use Rattle.paper.specs.Refusal.Rules.{When, rules}
 use Rattle.paper.specs.Refusal.Kept.{valid-of}
 use Rattle.paper.specs.Refusal.Verdict.{Verdict}
-use Rattle.paper.specs.Answer.Move.{Seen, Answers}
+use Rattle.paper.specs.Answer.Move.{Seen, SeedHeld, Answers}
 use Rattle.laws.specs.Forms.{forms-apart}
 use Rattle.laws.specs.Numbering.{first-one, first-of, count-rises, nth}
 use Rattle.laws.specs.Unique.{OthersOf}
+use Rattle.laws.specs.Holding.{held-labels}
 use Rattle.laws.specs.Decided.{Decided, denies, le, lt, eq, same, is, iff, both, either, implies, when, all, some}
 use Rattle.laws.specs.Verdicts.{someActs, refusalOf, verdict}
 
@@ -234,14 +236,43 @@ module _
             let far = beyond (omega arith) in
             List·getD-eq-default (b′ .spins) (pos 0) (omega (arith, far, w .long)) ∙ sym (List·getD-eq-default (b .spins) (pos 0) far)
 
-    pub goes-by : someActs c (b .spins) .test ≡ true → Answers c p b Moved b′
+    seed-lt : oneCluster (c .form) ≡ true → c .seed < c .lattice .n
+    seed-lt t = valid-of c p b kept .fit .seeded .below t
+
+    -- the form moves one component, and that is held
+    abbrev heldSeed : Bool
+    heldSeed = oneCluster (c .form) && held c (b′ .labels) (c .seed)
+
+    pub goes-by : (someActs c (b .spins) .test && not heldSeed) ≡ true → Answers c p b Moved b′
     goes-by e = record {
       valid = kept;
-      some = someActs c (b .spins) .holds e;
+      some = someActs c (b .spins) .holds (and-left (someActs c (b .spins) .test) _ e);
+      free = free;
       moved = λ _. record { long = w .long; group = λ i k hi hk. w .group i hi k hk; others = others };
       turned = forms-apart (c .form) (w .labelled);
       seen = seen;
     }
+      where
+        free : oneCluster (c .form) ≡ true → SeedHeld c (b .spins) → ⊥
+        free one h =
+            let on = held-labels c (b .spins) (seed-lt one) (b′ .labels) (labels-by (w .labels) .labels) .1 h in
+            never (rw (one, on) at (and-right (someActs c (b .spins) .test) (not heldSeed) e))
+
+    pub stays-by : (someActs c (b .spins) .test && heldSeed) ≡ true → b′ .spins ≡ b .spins → Answers c p b Held b′
+    stays-by e still = record {
+      valid = kept;
+      some = someActs c (b .spins) .holds (and-left (someActs c (b .spins) .test) _ e);
+      one = one;
+      held = held-labels c (b .spins) (seed-lt one) (b′ .labels) (labels-by (w .labels) .labels) .0 (and-right (oneCluster (c .form)) _ both);
+      still = still;
+      seen = seen;
+    }
+      where
+        both : heldSeed ≡ true
+        both = and-right (someActs c (b .spins) .test) heldSeed e
+
+        one : oneCluster (c .form) ≡ true
+        one = and-left (oneCluster (c .form)) _ both
 
     pub rests-by : someActs c (b .spins) .test ≡ false → b′ .spins ≡ b .spins → Answers c p b Idle b′
     rests-by e still = record { valid = kept; none = none; still = still; seen = seen }

@@ -5,7 +5,7 @@ use mathlib.Core.List.{List}
 use lib.IntN.{ℤ, _+ℤ_, negℤ, +ℤ-comm, -ℤ-+ℤ-cancel}
 use Rattle.paper.specs.declared.Keeps.the-variants.{Totals}
 use Rattle.paper.specs.declared.Answer.{Answer}
-use Rattle.paper.specs.declared.Answer.the-variants.{Refused, Idle, Moved}
+use Rattle.paper.specs.declared.Answer.the-variants.{Refused, Idle, Held, Moved}
 use Rattle.paper.specs.declared.SweepAnswer.{SweepAnswer}
 use Rattle.paper.specs.declared.SweepAnswer.the-variants.{Fault, Swept}
 use Rattle.paper.specs.Panel.Input.{Lattice, Call, Choices, Buffers}
@@ -18,7 +18,8 @@ use Rattle.paper.specs.Answer.Totals.{Current, Brought, TotalsAfter, KeepAccept
 use Rattle.laws.specs.Observed.{observed-still, sweep-observed-still}
 
 -- one call: before it the spins are xs and the totals ts, after it ys and us. It is a move or a sweep of any mode, form, group and choices that keeps
--- totals, on the lattice g: its sizes, tables and couplings. To observe keeps none, so each call that observes is one of these, whatever it is lent
+-- totals, on the lattice g: its sizes, tables and couplings. Pins are no part of it, so each call has its own. To observe keeps none, so each call that
+-- observes is one of these, whatever it is lent
 pub data Called (g : Lattice) (xs ts ys us : List ℤ) : Type 0 where
   move :
       (c : Call) (p : Choices) (b b′ : Buffers) (a : Answer)
@@ -74,14 +75,15 @@ module _ (g : Lattice) (ts us : List ℤ) (b b′ : Buffers) (h : Current g (b .
     move-current : (a : Answer) → KeepAnswers (keepsBy Totals (c .form)) c p b ts a b′ us → Current g (b′ .spins) us
     move-current (Refused r) f = refused-current (f .kept) (f .totals-kept)
     move-current Idle f = accepted-current Idle f
+    move-current Held f = accepted-current Held f
     move-current Moved f = accepted-current Moved f
 
   module _ (w : Sweep) (same : When (keepsBy Totals (w .form)) (w .lattice ≡ g)) where
     sweep-current : (a : SweepAnswer) → SweepKeepAnswers (keepsBy Totals (w .form)) w b ts a b′ us → Current g (b′ .spins) us
     sweep-current (Fault r) f = refused-current (f .kept) (f .totals-kept)
-    sweep-current (Swept i m) f =
+    sweep-current (Swept i m n) f =
         after-current g (b .spins) ts (b′ .spins) us h (keepsBy Totals (w .form)) (w .lattice) same (f .totals)
-        (λ e. sweep-observed-still w e b b′ i m (f .answers))
+        (λ e. sweep-observed-still w e b b′ i m n (f .answers))
 
 pub called-current : {g : Lattice} {xs ts ys us : List ℤ} → Current g xs ts → Called g xs ts ys us → Current g ys us
 called-current {g} {ts = ts} {us = us} h (Called.move c p b b′ a same before after f) =

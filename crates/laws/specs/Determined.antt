@@ -8,7 +8,7 @@ use native.Mathlib.Omega.{arith}
 use lib.IntN.{ℤ}
 use Rattle.lemmas.specs.Determined.{clear-determined}
 use Rattle.paper.specs.declared.Answer.{Answer}
-use Rattle.paper.specs.declared.Answer.the-variants.{Refused, Idle, Moved}
+use Rattle.paper.specs.declared.Answer.the-variants.{Refused, Idle, Held, Moved}
 use Rattle.paper.specs.Panel.Input.{graph, Call, Choices, Buffers}
 use Rattle.paper.specs.Panel.Takes.{growsBy, labelsBy, takesGreys}
 use Rattle.paper.specs.Site.Acting.{acts, SomeActs, NoneActs}
@@ -119,18 +119,26 @@ module _ (c : Call) (p : Choices) (b : Buffers) (y z : Buffers) where
     buffers = f .kept ∙ sym (g .kept);
   }
   determined (Refused r) Idle f g = absurd (broken-not-kept (rules c p b) r (f .why) (g .valid))
+  determined (Refused r) Held f g = absurd (broken-not-kept (rules c p b) r (f .why) (g .valid))
   determined (Refused r) Moved f g = absurd (broken-not-kept (rules c p b) r (f .why) (g .valid))
   determined Idle (Refused s) f g = absurd (broken-not-kept (rules c p b) s (g .why) (f .valid))
   determined Idle Idle f g = record { answer = refl; buffers = seen-same (f .still ∙ sym (g .still)) (f .seen) (g .seen) }
+  determined Idle Held f g = absurd (not-both c (b .spins) (g .some) (f .none))
   determined Idle Moved f g = absurd (not-both c (b .spins) (g .some) (f .none))
+  determined Held (Refused s) f g = absurd (broken-not-kept (rules c p b) s (g .why) (f .valid))
+  determined Held Idle f g = absurd (not-both c (b .spins) (f .some) (g .none))
+  determined Held Held f g = record { answer = refl; buffers = seen-same (f .still ∙ sym (g .still)) (f .seen) (g .seen) }
+  determined Held Moved f g = absurd (g .free (f .one) (f .held))
   determined Moved (Refused s) f g = absurd (broken-not-kept (rules c p b) s (g .why) (f .valid))
   determined Moved Idle f g = absurd (not-both c (b .spins) (f .some) (g .none))
+  determined Moved Held f g = absurd (f .free (g .one) (g .held))
   determined Moved Moved f g = record { answer = refl; buffers = goes-same f g }
 
 -- `given exactly when`: where rule r is the first that is broken the answer is the refusal r, and where all are kept it is none
 pub must-refuse : (c : Call) (p : Choices) (b b′ : Buffers) (a : Answer) (r : ℕ) → Answers c p b a b′ → Broken (rules c p b) r → a ≡ Refused r
 must-refuse c p b b′ (Refused s) r f w = ap Refused (broken-unique (rules c p b) s r (f .why) w)
 must-refuse c p b b′ Idle r f w = absurd (broken-not-kept (rules c p b) r w (f .valid))
+must-refuse c p b b′ Held r f w = absurd (broken-not-kept (rules c p b) r w (f .valid))
 must-refuse c p b b′ Moved r f w = absurd (broken-not-kept (rules c p b) r w (f .valid))
 
 pub must-accept : (c : Call) (p : Choices) (b b′ : Buffers) (r : ℕ) → Answers c p b (Refused r) b′ → Kept (rules c p b) → ⊥

@@ -4,9 +4,11 @@ use mathlib.Core.Bool.{Bool, true}
 use mathlib.Core.Path.{_≡_, refl}
 use mathlib.Core.List.{List}
 use native.Mathlib.Omega.{arith}
-use Rattle.lemmas.specs.Bools.{never, and-left}
+use lib.IntN.{ℤ}
+use Rattle.lemmas.specs.Bools.{never, and-left, and-right}
 use Rattle.paper.specs.Panel.Input.{Call, Choices, size, Buffers, pattern, system}
-use Rattle.paper.specs.Move.Moving.{flipBy, permAt, reachedBy}
+use Rattle.paper.specs.Site.Acting.{acts}
+use Rattle.paper.specs.Move.Moving.{flipBy, permAt, reachedBy, reached}
 use Rattle.paper.specs.declared.Form.{Form}
 use Rattle.paper.specs.declared.Form.the-variants.{Sw, Wolff, Observe, Grow}
 use Rattle.paper.specs.Panel.Takes.{growsBy, moves, takesPerms, entry, entries}
@@ -28,6 +30,11 @@ form-moves Sw c l i e = refl
 form-moves Wolff c l i e = refl
 form-moves Observe c l i e = e
 form-moves Grow c l i e = refl
+
+pub reached-moves : (c : Call) (xs : List ℤ) (l : List ℕ) (i : ℕ) → reached c xs l i ≡ true → moves (c .form) ≡ true
+unfolding reached
+reached-moves c xs l i e =
+    form-moves (c .form) c l i (and-left (reachedBy (c .form) (c .mode) (c .seed) l i) _ (and-right (acts c xs i) _ e))
 
 pub entry-lt : (f : Form) (n r : ℕ) → moves f ≡ true → r < n → entry f r < entries f n
 entry-lt Sw n r e h = h

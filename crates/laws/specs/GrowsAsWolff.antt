@@ -2,10 +2,10 @@
 use Prim.Native.Nat.{ℕ, _+_, _<_}
 use mathlib.Core.Path.{_≡_, refl, sym, _∙_, ap, subst}
 use mathlib.Core.Logic.{_↔_}
-use mathlib.Core.Bool.{Bool, true, false, cond}
+use mathlib.Core.Bool.{Bool, true, false, not, cond, _&&_}
 use mathlib.Core.List.{List}
 use native.Mathlib.Decide.{ℕ-discrete}
-use borrow.Author.Tests.{eq-eqb, ne-eqb}
+use borrow.Author.Tests.{eq-eqb, ne-eqb, eqb-true}
 use lib.Dec.{eqb}
 use lib.ListN.{length, getD}
 use lib.IntN.{ℤ}
@@ -15,8 +15,8 @@ use Rattle.paper.specs.declared.Mode.the-variants.{Houd, Pair, Perm, Gperm, Jor
 use Rattle.paper.specs.declared.Form.{Form}
 use Rattle.paper.specs.declared.Form.the-variants.{Wolff, Grow}
 use Rattle.paper.specs.declared.Answer.{Answer}
-use Rattle.paper.specs.declared.Answer.the-variants.{Refused, Idle, Moved}
-use Rattle.paper.specs.Panel.Input.{Graph, graph, Call, Choices, Buffers, Pattern, pattern}
+use Rattle.paper.specs.declared.Answer.the-variants.{Refused, Idle, Held, Moved}
+use Rattle.paper.specs.Panel.Input.{Graph, graph, Call, Choices, Buffers, Pattern, pinned, pattern}
 use Rattle.paper.specs.Panel.Takes.{isCmr}
 use Rattle.paper.specs.Site.Acting.{acts, SomeActs}
 use Rattle.paper.specs.Site.Bonds.{holdsBy, holds, holdsGrey}
@@ -24,12 +24,13 @@ use Rattle.paper.specs.Component.Links.{back}
 use Rattle.paper.specs.Component.Labels.{Labels}
 use Rattle.paper.specs.Component.Members.{Members}
 use Rattle.paper.specs.Component.Sizes.{labelOf}
-use Rattle.paper.specs.Move.Moving.{actBy, reached, after, final}
+use Rattle.paper.specs.Move.Moving.{actBy, hasOne, held, reached, after, final}
 use Rattle.paper.specs.Refusal.Rule.{Kept, Broken, broken-unique, broken-not-kept}
 use Rattle.paper.specs.Refusal.Rules.{When, Exact, Chosen, Seeded, choiceRules, rules}
 use Rattle.paper.specs.Refusal.Kept.{Valid, valid-of}
-use Rattle.paper.specs.Answer.Move.{memberBonds, SeenAll, Turns, Goes, Answers}
-use Rattle.laws.specs.Unique.{HoldAlike, same-label, members-ext, spins-equal}
+use Rattle.paper.specs.Answer.Move.{memberBonds, SeenAll, SeenOne, SeedHeld, Turns, Goes, Answers}
+use Rattle.laws.specs.Unique.{HoldAlike, same-label, joined-ext, members-ext, spins-equal}
+use Rattle.laws.specs.Holding.{one-ext}
 use Rattle.laws.specs.Determined.{buffers-equal, not-both}
 use Rattle.laws.specs.Matched.{Matched, matched-kept, matched-broken, itself}
 use Rattle.laws.specs.Counting.{idle-members}
@@ -41,6 +42,7 @@ withForm f c = record {
   mode = c .mode;
   form = f;
   lattice = c .lattice;
+  pins = c .pins;
   group = c .group;
   temperature = c .temperature;
   cuts = c .cuts;
@@ -67,6 +69,8 @@ memberLabels c b = cond (isCmr (c .mode)) (b .greyLabels) (b .labels)
 abbrev pub MembersBy : Answer → Call → Buffers → Buffers → Type 0
 MembersBy (Refused r) c b′ d′ = Unit {0}
 MembersBy Idle c b′ d′ = (i : ℕ) → i < c .lattice .n → getD (d′ .members) i 0 ≡ 0
+MembersBy Held c b′ d′ =
+    (i : ℕ) → i < c .lattice .n → (getD (d′ .members) i 0 ≡ 1) ↔ (labelOf (memberLabels c b′) i ≡ labelOf (memberLabels c b′) (c .seed))
 MembersBy Moved c b′ d′ =
     (i : ℕ) → i < c .lattice .n → (getD (d′ .members) i 0 ≡ 1) ↔ (labelOf (memberLabels c b′) i ≡ labelOf (memberLabels c b′) (c .seed))
 
@@ -132,6 +136,50 @@ module _ (c : Call) where
     some-back : SomeActs grow xs → SomeActs wolff xs
     some-back q = record { site = q .site; below = q .below; does = acts-same (q .site) ∙ q .does }
 
+    -- the seed's component is held for both
+    held-there : SeedHeld wolff xs → SeedHeld grow xs
+    held-there h = record {
+      site = h .site;
+      below = h .below;
+      pin = h .pin;
+      joined = joined-ext (graph c) (holds wolff xs) (holds grow xs) (λ i e hi he. sym (holds-same i e hi he)) (h .joined);
+    }
+
+    held-back : SeedHeld grow xs → SeedHeld wolff xs
+    held-back h = record {
+      site = h .site;
+      below = h .below;
+      pin = h .pin;
+      joined = joined-ext (graph c) (holds grow xs) (holds wolff xs) holds-same (h .joined);
+    }
+
+    -- the list m has a 1 where the list l has the seed's label: they tell the same component, and so whether it is held
+    reached-same :
+        (l m : List ℕ)
+        → length l ≡ c .lattice .n
+        → length m ≡ c .lattice .n
+        → ((i : ℕ) → i < c .lattice .n → (getD m i 0 ≡ 1) ↔ (labelOf l i ≡ labelOf l (c .seed)))
+        → (i : ℕ)
+        → i < c .lattice .n
+        → reached wolff xs l i ≡ reached grow xs m i
+    unfolding reached
+    reached-same l m ll lm e i h = cc (acts-same i, go (eqb (getD m i 0) 1) refl)
+      where
+        same : (j : ℕ) → j < c .lattice .n → eqb (labelOf l j) (labelOf l (c .seed)) ≡ eqb (getD m j 0) 1
+        same j hj = tests-same (getD m j 0) 1 (labelOf l j) (labelOf l (c .seed)) (e j hj)
+
+        one : hasOne (pinned c) l (labelOf l (c .seed)) ≡ hasOne (pinned c) m 1
+        one = one-ext (pinned c) l m (labelOf l (c .seed)) 1 (ll ∙ sym lm) (λ j hj. same j (rw ll at hj))
+
+        go :
+            (t : Bool)
+            → eqb (getD m i 0) 1 ≡ t
+            → (eqb (labelOf l i) (labelOf l (c .seed)) && not (held wolff l i)) ≡ (eqb (labelOf m i) 1 && not (held grow m i))
+        go true q =
+            let at : getD m i 0 ≡ 1 = eqb-true _ _ q in
+            rw (same i h, q, e i h .0 at, at, one) refl
+        go false q = rw (same i h, q) refl
+
   act-same : (m : Mode) (p : Choices) (P f : Pattern) (r r′ k : ℕ) → actBy m grow p P r′ f k ≡ actBy m wolff p P r f k
   act-same Houd p P f r r′ k = refl
   act-same Pair p P f r r′ k = refl
@@ -148,6 +196,7 @@ module _ (c : Call) where
         spins = h .spins;
         fwd = h .fwd;
         bwd = h .bwd;
+        pins = h .pins;
         couplings = h .couplings;
         cuts = h .cuts;
         choices = h .choices;
@@ -164,6 +213,7 @@ module _ (c : Call) where
         spins = h .spins;
         fwd = h .fwd;
         bwd = h .bwd;
+        pins = h .pins;
         couplings = h .couplings;
         cuts = h .cuts;
         choices = h .choices;
@@ -208,41 +258,27 @@ module _ (c : Call) where
     rules-same =
         let choices : Matched (choiceRules wolff p (b .spins)) (choiceRules grow p (b .spins)) =
         (refl, itself, (refl, (chosen-there, chosen-back), (refl, seeded-same (b .spins), tt))) in
-        (refl, itself, (refl, exact-same, (refl, itself, (refl, itself, (refl, itself, (refl, itself, (refl, itself, choices)))))))
+        (refl, itself, (refl, exact-same, (refl, itself, (refl, itself, (refl, itself, (refl, itself, (refl, itself, (refl, itself, choices))))))))
 
-    -- ---- the spins
-    module _ (b′ d′ : Buffers) (w : Goes wolff p b b′) (g : Goes grow p (onto b d) d′) where
-      abbrev xs : List ℤ
-      xs = b .spins
+    abbrev xs : List ℤ
+    xs = b .spins
 
-      valid : Valid wolff p b
-      valid = valid-of wolff p b (w .valid)
+    seed-lt : Valid wolff p b → c .seed < c .lattice .n
+    seed-lt valid = valid .fit .seeded .below refl
 
-      seed-lt : c .seed < c .lattice .n
-      seed-lt = valid .fit .seeded .below refl
-
-      all : SeenAll wolff b b′
-      all = w .seen .all refl
-
-      turned : Turns grow p xs (d′ .members) (d′ .spins)
-      turned = g .turned refl
-
-      -- the seed's component, by the bonds that hold and in CMR by the grey ones
-      blue-label : (i : ℕ) → i < c .lattice .n → (getD (turned .blue) i 0 ≡ 1) ↔ (labelOf (b′ .labels) i ≡ labelOf (b′ .labels) (c .seed))
-      blue-label =
-          member-label (graph c) (holds wolff xs) (c .seed) (b′ .labels) (turned .blue) seed-lt (all .labels .labels)
-          (members-ext (graph c) (holds grow xs) (holds wolff xs) (c .seed) (turned .blue) (holds-same xs) (turned .joined))
-
+    -- ---- what is seen: the seed's component
+    module _ (b′ d′ : Buffers) (valid : Valid wolff p b) (some : SomeActs wolff (b .spins)) (all : SeenAll wolff b b′) (one : SeenOne grow (onto b d) d′) where
       members : Members (graph c) (memberBonds grow xs) (c .seed) (d′ .members)
-      members = g .seen .one refl .members (sym (acts-same xs (c .seed)) ∙ valid .fit .seeded .acting refl (w .some))
+      members = one .members (sym (acts-same xs (c .seed)) ∙ valid .fit .seeded .acting refl some)
 
+      -- by the bonds that hold and in CMR by the grey ones
       grey-label :
           isCmr (c .mode) ≡ true
           → (i : ℕ)
           → i < c .lattice .n
           → (getD (d′ .members) i 0 ≡ 1) ↔ (labelOf (b′ .greyLabels) i ≡ labelOf (b′ .greyLabels) (c .seed))
       grey-label q =
-          member-label (graph c) (holdsGrey wolff xs) (c .seed) (b′ .greyLabels) (d′ .members) seed-lt (all .grey-labels q .labels)
+          member-label (graph c) (holdsGrey wolff xs) (c .seed) (b′ .greyLabels) (d′ .members) (seed-lt valid) (all .grey-labels q .labels)
           (members-ext (graph c) (holdsGrey grow xs) (holdsGrey wolff xs) (c .seed) (d′ .members) (grey-same xs) (rw q at members))
 
       plain-label :
@@ -251,7 +287,7 @@ module _ (c : Call) where
           → i < c .lattice .n
           → (getD (d′ .members) i 0 ≡ 1) ↔ (labelOf (b′ .labels) i ≡ labelOf (b′ .labels) (c .seed))
       plain-label q =
-          member-label (graph c) (holds wolff xs) (c .seed) (b′ .labels) (d′ .members) seed-lt (all .labels .labels)
+          member-label (graph c) (holds wolff xs) (c .seed) (b′ .labels) (d′ .members) (seed-lt valid) (all .labels .labels)
           (members-ext (graph c) (holds grow xs) (holds wolff xs) (c .seed) (d′ .members) (holds-same xs) (rw q at members))
 
       members-are : MembersBy Moved c b′ d′
@@ -264,15 +300,32 @@ module _ (c : Call) where
           go true q = rw q (grey-label q i h)
           go false q = rw q (plain-label q i h)
 
-      reached-same : (l m : List ℕ) (i : ℕ) → (getD m i 0 ≡ 1) ↔ (labelOf l i ≡ labelOf l (c .seed)) → reached wolff xs l i ≡ reached grow xs m i
-      unfolding reached
-      reached-same l m i e = cc (acts-same xs i, tests-same (getD m i 0) 1 (labelOf l i) (labelOf l (c .seed)) e)
+    -- ---- the spins
+    module _ (b′ d′ : Buffers) (w : Goes wolff p b b′) (g : Goes grow p (onto b d) d′) where
+      valid : Valid wolff p b
+      valid = valid-of wolff p b (w .valid)
+
+      all : SeenAll wolff b b′
+      all = w .seen .all refl
+
+      turned : Turns grow p xs (d′ .members) (d′ .spins)
+      turned = g .turned refl
+
+      blue-label : (i : ℕ) → i < c .lattice .n → (getD (turned .blue) i 0 ≡ 1) ↔ (labelOf (b′ .labels) i ≡ labelOf (b′ .labels) (c .seed))
+      blue-label =
+          member-label (graph c) (holds wolff xs) (c .seed) (b′ .labels) (turned .blue) (seed-lt valid) (all .labels .labels)
+          (members-ext (graph c) (holds grow xs) (holds wolff xs) (c .seed) (turned .blue) (holds-same xs) (turned .joined))
 
       after-same : (i k : ℕ) → i < c .lattice .n → after wolff p xs (b′ .labels) i k ≡ after grow p xs (turned .blue) i k
       after-same i k h = cc (
-        reached-same (b′ .labels) (turned .blue) i (blue-label i h),
+        reached-same xs (b′ .labels) (turned .blue) (all .labels .labels .long) (turned .joined .long) blue-label i h,
         act-same (c .mode) p (pattern c xs (c .reference)) (pattern c xs i) (labelOf (b′ .labels) i) (labelOf (turned .blue) i) k,
       )
+
+      grey-reached : isCmr (c .mode) ≡ true → (i : ℕ) → i < c .lattice .n → reached wolff xs (b′ .greyLabels) i ≡ reached grow xs (d′ .members) i
+      grey-reached q =
+          reached-same xs (b′ .greyLabels) (d′ .members) (all .grey-labels q .labels .long)
+          (members b′ d′ valid (w .some) all (g .seen .one refl) .long) (grey-label b′ d′ valid (w .some) all (g .seen .one refl) q)
 
       final-same :
           (i k : ℕ)
@@ -282,7 +335,7 @@ module _ (c : Call) where
       final-same i k h = go (isCmr (c .mode)) refl
         where
           go : (t : Bool) → isCmr (c .mode) ≡ t → final wolff p xs (b′ .labels) (b′ .greyLabels) i k ≡ final grow p xs (turned .blue) (d′ .members) i k
-          go true q = cc (reached-same (b′ .greyLabels) (d′ .members) i (grey-label q i h), after-same i k h)
+          go true q = cc (grey-reached q i h, after-same i k h)
           go false q = rw q (after-same i k h)
 
       spins-same : d′ .spins ≡ b′ .spins
@@ -311,13 +364,28 @@ module _ (c : Call) where
       members = tt;
     }
     there (Refused r) b′ Idle d′ f g = absurd (broken-not-kept (rules grow p (onto b d)) r (broken-there r (f .why)) (g .valid))
+    there (Refused r) b′ Held d′ f g = absurd (broken-not-kept (rules grow p (onto b d)) r (broken-there r (f .why)) (g .valid))
     there (Refused r) b′ Moved d′ f g = absurd (broken-not-kept (rules grow p (onto b d)) r (broken-there r (f .why)) (g .valid))
     there Idle b′ (Refused s) d′ f g = absurd (broken-not-kept (rules grow p (onto b d)) s (g .why) (kept-there (f .valid)))
     there Idle b′ Idle d′ f g = record { answer = refl; spins = g .still ∙ sym (f .still); members = idle-members grow p (onto b d) d′ g refl }
+    there Idle b′ Held d′ f g = absurd (not-both wolff (b .spins) (some-back (b .spins) (g .some)) (f .none))
     there Idle b′ Moved d′ f g = absurd (not-both wolff (b .spins) (some-back (b .spins) (g .some)) (f .none))
+    there Held b′ (Refused s) d′ f g = absurd (broken-not-kept (rules grow p (onto b d)) s (g .why) (kept-there (f .valid)))
+    there Held b′ Idle d′ f g = absurd (not-both grow (b .spins) (some-there (b .spins) (f .some)) (g .none))
+    there Held b′ Held d′ f g = record {
+      answer = refl;
+      spins = g .still ∙ sym (f .still);
+      members = members-are b′ d′ (valid-of wolff p b (f .valid)) (f .some) (f .seen .all refl) (g .seen .one refl);
+    }
+    there Held b′ Moved d′ f g = absurd (g .free refl (held-there (b .spins) (f .held)))
     there Moved b′ (Refused s) d′ f g = absurd (broken-not-kept (rules grow p (onto b d)) s (g .why) (kept-there (f .valid)))
     there Moved b′ Idle d′ f g = absurd (not-both grow (b .spins) (some-there (b .spins) (f .some)) (g .none))
-    there Moved b′ Moved d′ f g = record { answer = refl; spins = spins-same b′ d′ f g; members = members-are b′ d′ f g }
+    there Moved b′ Held d′ f g = absurd (f .free refl (held-back (b .spins) (g .held)))
+    there Moved b′ Moved d′ f g = record {
+      answer = refl;
+      spins = spins-same b′ d′ f g;
+      members = members-are b′ d′ (valid-of wolff p b (f .valid)) (f .some) (f .seen .all refl) (g .seen .one refl);
+    }
 
     pub grows-as-wolff :
         (a : Answer) (b′ : Buffers) (a′ : Answer) (d′ : Buffers)

@@ -7,7 +7,7 @@ use lib.ListN.{length}
 use lib.Seq.{ext-getD}
 use lib.IntN.{ℤ, pos}
 use Rattle.paper.specs.declared.Answer.{Answer}
-use Rattle.paper.specs.declared.Answer.the-variants.{Refused, Idle, Moved}
+use Rattle.paper.specs.declared.Answer.the-variants.{Refused, Idle, Held, Moved}
 use Rattle.paper.specs.declared.SweepAnswer.{SweepAnswer}
 use Rattle.paper.specs.declared.SweepAnswer.the-variants.{Fault, Swept}
 use Rattle.paper.specs.Panel.Input.{Lattice, Call, Choices, Buffers}
@@ -58,12 +58,19 @@ module _ (keeping : Bool) (c : Call) (p : Choices) (b : Buffers) (ts : List ℤ)
     totals = f .totals-kept ∙ sym (g .totals-kept);
   }
   keep-determined (Refused r) Idle f g = absurd (broken-not-kept (keptRules keeping c p b ts) r (f .why) (g .valid))
+  keep-determined (Refused r) Held f g = absurd (broken-not-kept (keptRules keeping c p b ts) r (f .why) (g .valid))
   keep-determined (Refused r) Moved f g = absurd (broken-not-kept (keptRules keeping c p b ts) r (f .why) (g .valid))
   keep-determined Idle (Refused s) f g = absurd (broken-not-kept (keptRules keeping c p b ts) s (g .why) (f .valid))
+  keep-determined Held (Refused s) f g = absurd (broken-not-kept (keptRules keeping c p b ts) s (g .why) (f .valid))
   keep-determined Moved (Refused s) f g = absurd (broken-not-kept (keptRules keeping c p b ts) s (g .why) (f .valid))
   keep-determined Idle Idle f g = accepted-same Idle Idle f g
+  keep-determined Idle Held f g = accepted-same Idle Held f g
   keep-determined Idle Moved f g = accepted-same Idle Moved f g
+  keep-determined Held Idle f g = accepted-same Held Idle f g
+  keep-determined Held Held f g = accepted-same Held Held f g
+  keep-determined Held Moved f g = accepted-same Held Moved f g
   keep-determined Moved Idle f g = accepted-same Moved Idle f g
+  keep-determined Moved Held f g = accepted-same Moved Held f g
   keep-determined Moved Moved f g = accepted-same Moved Moved f g
 
 -- ---- a sweep
@@ -74,18 +81,18 @@ pub record SameSweepKept (a₁ : SweepAnswer) (b₁ : Buffers) (ts₁ : List ℤ
 
 module _ (keeping : Bool) (w : Sweep) (b : Buffers) (ts : List ℤ) (y z : Buffers) (us vs : List ℤ) where
   swept-same :
-      (i m j o : ℕ)
-      → SweepKeeps keeping w b ts i m y us
-      → SweepKeeps keeping w b ts j o z vs
-      → SameSweepKept (Swept i m) y us (Swept j o) z vs
-  swept-same i m j o f g = record {
+      (i m h j o l : ℕ)
+      → SweepKeeps keeping w b ts i m h y us
+      → SweepKeeps keeping w b ts j o l z vs
+      → SameSweepKept (Swept i m h) y us (Swept j o l) z vs
+  swept-same i m h j o l f g = record {
     answer = s .answer;
     buffers = s .buffers;
     totals = totals-same keeping (w .lattice) (b .spins) ts (z .spins) us vs (f .valid .1 .1 .0) (rw (s .buffers) at (f .totals)) (g .totals);
   }
     where
-      s : SameSweep (Swept i m) y (Swept j o) z
-      s = sweep-determined w b y z (Swept i m) (Swept j o) (f .answers) (g .answers)
+      s : SameSweep (Swept i m h) y (Swept j o l) z
+      s = sweep-determined w b y z (Swept i m h) (Swept j o l) (f .answers) (g .answers)
 
   pub sweep-keep-determined :
       (a a′ : SweepAnswer)
@@ -97,6 +104,6 @@ module _ (keeping : Bool) (w : Sweep) (b : Buffers) (ts : List ℤ) (y z : Buffe
     buffers = f .kept ∙ sym (g .kept);
     totals = f .totals-kept ∙ sym (g .totals-kept);
   }
-  sweep-keep-determined (Fault r) (Swept i m) f g = absurd (broken-not-kept (sweptRules keeping w b ts) r (f .why) (g .valid))
-  sweep-keep-determined (Swept i m) (Fault s) f g = absurd (broken-not-kept (sweptRules keeping w b ts) s (g .why) (f .valid))
-  sweep-keep-determined (Swept i m) (Swept j o) f g = swept-same i m j o f g
+  sweep-keep-determined (Fault r) (Swept i m h) f g = absurd (broken-not-kept (sweptRules keeping w b ts) r (f .why) (g .valid))
+  sweep-keep-determined (Swept i m h) (Fault s) f g = absurd (broken-not-kept (sweptRules keeping w b ts) s (g .why) (f .valid))
+  sweep-keep-determined (Swept i m h) (Swept j o l) f g = swept-same i m h j o l f g

@@ -2,65 +2,23 @@
 -- everything else. And so a sweep.
 use Prim.Native.Nat.{ℕ}
 use mathlib.Core.Path.{_≡_, refl}
-use mathlib.Core.Logic.{_↔_, inl, inr}
 use mathlib.Core.Bool.{Bool, false}
-use mathlib.Core.List.{List, [], _∷_, _++_}
+use mathlib.Core.List.{List, []}
 use lib.IntN.{ℤ}
 use Rattle.lemmas.specs.Bools.{never}
 use Rattle.paper.specs.declared.Answer.{Answer}
-use Rattle.paper.specs.declared.Answer.the-variants.{Refused, Idle, Moved}
+use Rattle.paper.specs.declared.Answer.the-variants.{Refused, Idle, Held, Moved}
 use Rattle.paper.specs.declared.SweepAnswer.{SweepAnswer}
 use Rattle.paper.specs.declared.SweepAnswer.the-variants.{Fault, Swept}
 use Rattle.paper.specs.Panel.Input.{Lattice, Call, Choices, Buffers}
-use Rattle.paper.specs.Refusal.Rule.{Rule, Kept, Broken}
 use Rattle.paper.specs.Refusal.Rules.{rules}
-use Rattle.paper.specs.Answer.Move.{Accepted, Accepted.idle, Accepted.moved, Answers}
+use Rattle.paper.specs.Answer.Move.{Accepted, Accepted.idle, Accepted.held, Accepted.moved, Answers}
 use Rattle.paper.specs.Answer.Task.{Sweep, tasks}
 use Rattle.paper.specs.Answer.Sweep.{taskRules, sweepRules, SweepAnswers}
 use Rattle.paper.specs.Answer.Totals.{keptRules, sweptRules, TotalsAfter, KeepAnswers, SweepKeeps, SweepKeepAnswers}
+use Rattle.laws.specs.Matched.{SameVerdict, unchanged, behind, past, past-last}
 use Rattle.laws.specs.Determined.{Same, determined}
 use Rattle.laws.specs.SweepDetermined.{SameSweep, sweep-determined}
-
--- ---- rules more that are kept anyway change no verdict
-pub record SameVerdict (qs rs : List Rule) : Type 0 where
-  pub kept : Kept qs ↔ Kept rs
-  pub broken : (r : ℕ) → Broken qs r ↔ Broken rs r
-
-unchanged : (rs : List Rule) → SameVerdict rs rs
-unchanged rs = record { kept = ((λ k. k), (λ k. k)); broken = λ r. ((λ w. w), (λ w. w)) }
-
--- behind the same rule
-behind : (x : Rule) (qs rs : List Rule) → SameVerdict qs rs → SameVerdict (x ∷ qs) (x ∷ rs)
-behind x qs rs s = record { kept = ((λ k. (k .0, s .kept .0 (k .1))), (λ k. (k .0, s .kept .1 (k .1)))); broken = λ r. (there r, back r) }
-  where
-    there : (r : ℕ) → Broken (x ∷ qs) r → Broken (x ∷ rs) r
-    there r (inl w) = inl w
-    there r (inr w) = inr (w .0, s .broken r .0 (w .1))
-
-    back : (r : ℕ) → Broken (x ∷ rs) r → Broken (x ∷ qs) r
-    back r (inl w) = inl w
-    back r (inr w) = inr (w .0, s .broken r .1 (w .1))
-
--- behind the same rules
-behind-all : (xs qs rs : List Rule) → SameVerdict qs rs → SameVerdict (xs ++ qs) (xs ++ rs)
-behind-all [] qs rs s = s
-behind-all (x ∷ xs) qs rs s = behind x (xs ++ qs) (xs ++ rs) (behind-all xs qs rs s)
-
--- with one rule more
-past : (x : Rule) (qs rs : List Rule) → x .claim → SameVerdict qs rs → SameVerdict (x ∷ qs) rs
-past x qs rs h s = record {
-  kept = ((λ k. s .kept .0 (k .1)), (λ k. (h, s .kept .1 k)));
-  broken = λ r. (there r, λ w. inr (h, s .broken r .1 w));
-}
-  where
-    there : (r : ℕ) → Broken (x ∷ qs) r → Broken rs r
-    there r (inl w) = absurd (w .0 h)
-    there r (inr w) = s .broken r .0 (w .1)
-
--- with one rule more at the end
-past-last : (x : Rule) (rs : List Rule) → x .claim → SameVerdict (rs ++ (x ∷ [])) rs
-past-last x [] h = past x [] [] h (unchanged [])
-past-last x (r ∷ rs) h = behind r (rs ++ (x ∷ [])) rs (past-last x rs h)
 
 left-alone : {g : Lattice} {xs ts ys : List ℤ} → TotalsAfter false g xs ts ys ts
 left-alone = record { brought = λ e. never e; left = λ _. refl }
@@ -76,12 +34,13 @@ module _ (c : Call) (p : Choices) (b : Buffers) (ts : List ℤ) where
       (behind _ _ _
       (behind _ _ _
       (behind _ _ _
+      (behind _ _ _
       (past _ _ _ (λ e. never e)
       (behind _ _ _
       (behind _ _ _
       (behind _ _ _
       (behind _ _ _
-      (past _ _ _ (λ e. never e) (unchanged [])))))))))))))
+      (past _ _ _ (λ e. never e) (unchanged []))))))))))))))
 
   pub record AsBefore (a : Answer) (b′ : Buffers) (ts′ : List ℤ) : Type 0 where
     pub answers : Answers c p b a b′
@@ -94,11 +53,13 @@ module _ (c : Call) (p : Choices) (b : Buffers) (ts : List ℤ) where
     totals = f .totals-kept;
   }
   keeps-none Idle b′ ts′ f = record { answers = f .answers; totals = f .totals .left refl }
+  keeps-none Held b′ ts′ f = record { answers = f .answers; totals = f .totals .left refl }
   keeps-none Moved b′ ts′ f = record { answers = f .answers; totals = f .totals .left refl }
 
   pub none-kept : (a : Answer) (b′ : Buffers) → Answers c p b a b′ → KeepAnswers false c p b ts a b′ ts
   none-kept (Refused r) b′ f = record { why = rules-as-before .broken _ .1 (f .why); kept = f .kept; totals-kept = refl }
   none-kept Idle b′ f = record { valid = rules-as-before .kept .1 (f .valid); answers = f; totals = left-alone }
+  none-kept Held b′ f = record { valid = rules-as-before .kept .1 (f .valid); answers = f; totals = left-alone }
   none-kept Moved b′ f = record { valid = rules-as-before .kept .1 (f .valid); answers = f; totals = left-alone }
 
   -- where a call that keeps totals is accepted, the call that keeps none answers the same and leaves the same in every other buffer
@@ -109,6 +70,7 @@ module _ (c : Call) (p : Choices) (b : Buffers) (ts : List ℤ) where
       → Answers c p b a′ z
       → Same a y a′ z
   totals-beside keeping Idle a′ y z ts′ idle f g = determined c p b y z Idle a′ (f .answers) g
+  totals-beside keeping Held a′ y z ts′ held f g = determined c p b y z Held a′ (f .answers) g
   totals-beside keeping Moved a′ y z ts′ moved f g = determined c p b y z Moved a′ (f .answers) g
 
 -- ---- a sweep
@@ -122,7 +84,8 @@ module _ (w : Sweep) (b : Buffers) (ts : List ℤ) where
       (behind _ _ _
       (behind _ _ _
       (behind _ _ _
-      (past _ _ _ (λ e. never e) (behind _ _ _ (behind _ _ _ (past-last _ (taskRules w b (tasks w)) (λ e. never e)))))))))))
+      (behind _ _ _
+      (past _ _ _ (λ e. never e) (behind _ _ _ (behind _ _ _ (past-last _ (taskRules w b (tasks w)) (λ e. never e))))))))))))
 
   pub record SweepAsBefore (a : SweepAnswer) (b′ : Buffers) (ts′ : List ℤ) : Type 0 where
     pub answers : SweepAnswers w b a b′
@@ -133,15 +96,15 @@ module _ (w : Sweep) (b : Buffers) (ts : List ℤ) where
     answers = record { why = sweep-rules-as-before .broken _ .0 (f .why); kept = f .kept };
     totals = f .totals-kept;
   }
-  sweep-keeps-none (Swept i m) b′ ts′ f = record { answers = f .answers; totals = f .totals .left refl }
+  sweep-keeps-none (Swept i m h) b′ ts′ f = record { answers = f .answers; totals = f .totals .left refl }
 
   pub sweep-none-kept : (a : SweepAnswer) (b′ : Buffers) → SweepAnswers w b a b′ → SweepKeepAnswers false w b ts a b′ ts
   sweep-none-kept (Fault r) b′ f = record { why = sweep-rules-as-before .broken _ .1 (f .why); kept = f .kept; totals-kept = refl }
-  sweep-none-kept (Swept i m) b′ f = record { valid = sweep-rules-as-before .kept .1 (f .valid); answers = f; totals = left-alone }
+  sweep-none-kept (Swept i m h) b′ f = record { valid = sweep-rules-as-before .kept .1 (f .valid); answers = f; totals = left-alone }
 
   pub sweep-totals-beside :
-      (keeping : Bool) (i m : ℕ) (a′ : SweepAnswer) (y z : Buffers) (ts′ : List ℤ)
-      → SweepKeeps keeping w b ts i m y ts′
+      (keeping : Bool) (i m h : ℕ) (a′ : SweepAnswer) (y z : Buffers) (ts′ : List ℤ)
+      → SweepKeeps keeping w b ts i m h y ts′
       → SweepAnswers w b a′ z
-      → SameSweep (Swept i m) y a′ z
-  sweep-totals-beside keeping i m a′ y z ts′ f g = sweep-determined w b y z (Swept i m) a′ (f .answers) g
+      → SameSweep (Swept i m h) y a′ z
+  sweep-totals-beside keeping i m h a′ y z ts′ f g = sweep-determined w b y z (Swept i m h) a′ (f .answers) g

@@ -6,6 +6,7 @@ pub mod Partners
 pub mod Permuted
 pub mod Numbering
 pub mod Unique
+pub mod Holding
 pub mod Renumbered
 pub mod Decided
 pub mod Verdicts
@@ -22,12 +23,16 @@ pub mod Matched
 pub mod Untaken
 pub mod UntakenRules
 pub mod UntakenAnswers
+pub mod HeldStill
 pub mod GrowsAsWolff
+pub mod Was
+pub mod Unpinned
 pub mod SweepKept
 pub mod SweepVerdicts
 pub mod SweepTasks
 pub mod SweepAscending
 pub mod SweepCounts
+pub mod SweepUnpinned
 pub mod SweepDetermined
 pub mod SweepUntaken
 pub mod KeepDetermined

@@ -133,7 +133,7 @@ module _ (c : Call) (xs ys : List ℤ) (a : Alike c xs ys) where
       → (reached c xs l i ≡ true → isPerm (c .mode) ≡ true → Permutes (size c) (permOf c p (labelOf l i)))
       → final c p xs l g i k ≡ final c p ys l g i k
   unfolding final
-  final-local p l g i k hi hk perms = cc (after-local (reached c xs l i) refl, reached-local g i hi, a .patterns i hi k hk)
+  final-local p l g i k hi hk perms = cc (after-local (reached c xs l i) refl, reached-local g i hi)
     where
       after-local : (t : Bool) → reached c xs l i ≡ t → after c p xs l i k ≡ after c p ys l i k
       after-local true e =

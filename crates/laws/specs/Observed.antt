@@ -10,7 +10,7 @@ use Rattle.paper.specs.declared.Mode.{Mode}
 use Rattle.paper.specs.declared.Form.{Form}
 use Rattle.paper.specs.declared.Form.the-variants.{Sw, Wolff, Observe, Grow}
 use Rattle.paper.specs.declared.Answer.{Answer}
-use Rattle.paper.specs.declared.Answer.the-variants.{Refused, Idle, Moved}
+use Rattle.paper.specs.declared.Answer.the-variants.{Refused, Idle, Held, Moved}
 use Rattle.paper.specs.declared.SweepAnswer.the-variants.{Swept}
 use Rattle.paper.specs.Panel.Input.{Call, Choices, Buffers, pattern}
 use Rattle.paper.specs.Panel.Takes.{growsBy, labelsBy, moves, takesGreys}
@@ -58,10 +58,11 @@ module _ (c : Call) (p : Choices) (still : moves (c .form) ≡ false) where
   pub observed-still : (b b′ : Buffers) (a : Answer) → Answers c p b a b′ → b′ .spins ≡ b .spins
   observed-still b b′ (Refused r) w = ap (λ (z : Buffers). z .spins) (w .kept)
   observed-still b b′ Idle w = w .still
+  observed-still b b′ Held w = w .still
   observed-still b b′ Moved w = goes-nowhere b b′ w
 
 -- ---- a sweep
-module _ (w : Sweep) (still : moves (w .form) ≡ false) (b b′ : Buffers) (i m : ℕ) (s : Sweeps w b i m b′) where
+module _ (w : Sweep) (still : moves (w .form) ≡ false) (b b′ : Buffers) (i m h : ℕ) (s : Sweeps w b i m h b′) where
   -- what the sweep left, with the spins before it
   abbrev unmoved : Buffers
   unmoved = record {
@@ -75,17 +76,18 @@ module _ (w : Sweep) (still : moves (w .form) ≡ false) (b b′ : Buffers) (i m
     greyFound = b′ .greyFound;
   }
 
-  done : (k : ℕ) → k < tasks w → masked w k ≡ false → Done w b unmoved k
+  done : (k : ℕ) → k < tasks w → masked w k ≡ false → Done w b unmoved k (s .answered k)
   done k h e =
       let d = s .each k h e in
       let stay : d .spins ≡ b .spins =
-      observed-still (taskCall w k) (taskChoices w k) still (areas w b (b .spins) k) (areas w b′ (d .spins) k) (d .answer) (d .answers) in
-      record { answer = d .answer; spins = b .spins; answers = rw stay at (d .answers); rows = λ _ _ _ _. refl }
+      observed-still (taskCall w k) (taskChoices w k) still (areas w b (b .spins) k) (areas w b′ (d .spins) k) (s .answered k) (d .answers) in
+      record { spins = b .spins; answers = rw stay at (d .answers); rows = λ _ _ _ _. refl }
 
   -- that is an outcome of the sweep too, and a sweep has one
-  again : Sweeps w b i m unmoved
+  again : Sweeps w b i m h unmoved
   again = record {
     valid = s .valid;
+    answered = s .answered;
     counts = s .counts;
     lengths = record {
       spins = refl;
@@ -112,4 +114,4 @@ module _ (w : Sweep) (still : moves (w .form) ≡ false) (b b′ : Buffers) (i m
   }
 
   pub sweep-observed-still : b′ .spins ≡ b .spins
-  sweep-observed-still = ap (λ (z : Buffers). z .spins) (sweep-determined w b b′ unmoved (Swept i m) (Swept i m) s again .buffers)
+  sweep-observed-still = ap (λ (z : Buffers). z .spins) (sweep-determined w b b′ unmoved (Swept i m h) (Swept i m h) s again .buffers)

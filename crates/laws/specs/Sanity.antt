@@ -9,7 +9,7 @@ use Rattle.lemmas.specs.Bools.{never, and-no}
 use Rattle.paper.specs.declared.Mode.the-variants.{Cmr}
 use Rattle.paper.specs.declared.Form.the-variants.{Observe}
 use Rattle.paper.specs.declared.Answer.{Answer}
-use Rattle.paper.specs.declared.Answer.the-variants.{Refused, Idle, Moved}
+use Rattle.paper.specs.declared.Answer.the-variants.{Refused, Idle, Held, Moved}
 use Rattle.paper.specs.Panel.Input.{Call, Choices, Buffers, spin}
 use Rattle.paper.specs.Site.Acting.{acts}
 use Rattle.paper.specs.Panel.Takes.{growsBy, labelsBy}
@@ -41,6 +41,7 @@ some-moves c p b b′ w = go (by-form (c .form))
 pub others-kept : (c : Call) (p : Choices) (b b′ : Buffers) (a : Answer) → Answers c p b a b′ → OthersOf c (b .spins) (b′ .spins)
 others-kept c p b b′ (Refused r) w i t h o = ap (λ (z : Buffers). spin (c .lattice .n) (z .spins) t i) (w .kept)
 others-kept c p b b′ Idle w i t h o = ap (λ (z : List ℤ). spin (c .lattice .n) z t i) (w .still)
+others-kept c p b b′ Held w i t h o = ap (λ (z : List ℤ). spin (c .lattice .n) z t i) (w .still)
 others-kept c p b b′ Moved w i t h o = some-moves c p b b′ w .moved .others i t h o
 
 -- to observe changes no spin
@@ -52,6 +53,7 @@ observed c p xs l g ys e some m =
 pub observe-still : (c : Call) (p : Choices) (b b′ : Buffers) (a : Answer) → c .form ≡ Observe → Answers c p b a b′ → b′ .spins ≡ b .spins
 observe-still c p b b′ (Refused r) e w = ap (λ (z : Buffers). z .spins) (w .kept)
 observe-still c p b b′ Idle e w = w .still
+observe-still c p b b′ Held e w = w .still
 observe-still c p b b′ Moved e w =
     let m = some-moves c p b b′ w in
     observed c p (b .spins) (m .blue) (m .grey) (b′ .spins) e (valid-of c p b (w .valid) .sound .ranged .lattice .n-low) (m .moved)

@@ -145,9 +145,8 @@ pub done :
     → Accepted a
     → Answers (taskCall w k) (taskChoices w k) (areas w b xs k) a (areas w b′ ys k)
     → ((i x : ℕ) → i < w .lattice .n → x < w .members → pattern (taskCall w k) (b′ .spins) i x ≡ pattern (taskCall w k) ys i x)
-    → Done w b b′ k
+    → Done w b b′ k a
 done w b b′ k a xs ys spinning long long′ own acc ans stays = record {
-  answer = a;
   spins = merged (taskCall w k) (b .spins) ys;
   answers =
       local (taskCall w k) (taskChoices w k) (areas w b xs k) (areas w b′ ys k) (b .spins) long spinning own a acc ans

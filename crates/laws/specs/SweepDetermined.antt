@@ -2,7 +2,7 @@
 use Prim.Native.Nat.{ℕ, zero, suc, _+_, _*_, _/_, _%_, _<_}
 use mathlib.Core.Path.{_≡_, refl, sym, _∙_, ap}
 use mathlib.Core.Logic.{_⊎_, inl, inr, _≢_}
-use mathlib.Core.Bool.{Bool, true, false}
+use mathlib.Core.Bool.{Bool, true, false, not, _&&_}
 use mathlib.Core.List.{List}
 use native.Mathlib.Omega.{arith}
 use native.Mathlib.Nat.{div-add-mod', mod-lt, div-lt-iff-lt-mul}
@@ -11,17 +11,19 @@ use lib.ListN.{length, getD, drop}
 use lib.Seq.{ext-getD, getD-take, getD-drop}
 use lib.IntN.{ℤ, pos}
 use Rattle.lemmas.specs.Bools.{never}
+use Rattle.lemmas.specs.Counts.{count-ext}
 use Rattle.lemmas.specs.Places.{Placed, Unplaced, place}
+use Rattle.paper.specs.declared.Answer.{Answer}
 use Rattle.paper.specs.declared.SweepAnswer.{SweepAnswer}
 use Rattle.paper.specs.declared.SweepAnswer.the-variants.{Fault, Swept}
 use Rattle.paper.specs.Panel.Input.{Buffers, spin, pattern, system}
 use Rattle.paper.specs.Panel.Takes.{growsBy, labelsBy, takesGreyLabels}
 use Rattle.paper.specs.Refusal.Rule.{broken-unique, broken-not-kept}
 use Rattle.paper.specs.Refusal.Rules.{When}
-use Rattle.paper.specs.Answer.Task.{Sweep, tasks, masked, part, taskCall, taskChoices, areas}
+use Rattle.paper.specs.Answer.Task.{Sweep, tasks, masked, part, taskCall, taskChoices, areas, isIdle, isMoved, isHeld, tasksThat}
 use Rattle.paper.specs.Answer.Sweep.{common, sweepRules, Sweeps, SweepAnswers}
 use Rattle.laws.specs.SweepKept.{SweepValid, sweep-valid-of}
-use Rattle.laws.specs.Determined.{buffers-equal, determined}
+use Rattle.laws.specs.Determined.{Same, buffers-equal, determined}
 
 -- ---- a list is its parts
 part-at : (k m : ℕ) (xs : List ℕ) (o : ℕ) → o < m → getD (part k m xs) o 0 ≡ getD xs (k * m + o) 0
@@ -79,12 +81,30 @@ locate w (suc K) t = go (locate w K t) (masked w K) refl (place (w .members) (sy
     go (inr r) false e (inr q) = inr (extend r (λ x _ l. q x l))
     go (inr r) true e q = inr (extend r (λ x f l. never (sym f ∙ e)))
 
-module _ (w : Sweep) (b y z : Buffers) (i₁ m₁ i₂ m₂ : ℕ) (p : Sweeps w b i₁ m₁ y) (q : Sweeps w b i₂ m₂ z) where
-  -- what the two leave of one task
-  task-same : (k : ℕ) (h : k < tasks w) (e : masked w k ≡ false) → areas w y (p .each k h e .spins) k ≡ areas w z (q .each k h e .spins) k
-  task-same k h e =
+module _ (w : Sweep) (b y z : Buffers) (i₁ m₁ h₁ i₂ m₂ h₂ : ℕ) (p : Sweeps w b i₁ m₁ h₁ y) (q : Sweeps w b i₂ m₂ h₂ z) where
+  -- what the two answer to one task, and what they leave of it
+  task-determined :
+      (k : ℕ) (h : k < tasks w) (e : masked w k ≡ false)
+      → Same (p .answered k) (areas w y (p .each k h e .spins) k) (q .answered k) (areas w z (q .each k h e .spins) k)
+  task-determined k h e =
       determined (taskCall w k) (taskChoices w k) (areas w b (b .spins) k) (areas w y (p .each k h e .spins) k) (areas w z (q .each k h e .spins) k)
-      (p .each k h e .answer) (q .each k h e .answer) (p .each k h e .answers) (q .each k h e .answers) .buffers
+      (p .answered k) (q .answered k) (p .each k h e .answers) (q .each k h e .answers)
+
+  task-same : (k : ℕ) (h : k < tasks w) (e : masked w k ≡ false) → areas w y (p .each k h e .spins) k ≡ areas w z (q .each k h e .spins) k
+  task-same k h e = task-determined k h e .buffers
+
+  -- so as many tasks have an answer of one kind
+  kind-same : (kind : Answer → Bool) → tasksThat kind w (p .answered) ≡ tasksThat kind w (q .answered)
+  kind-same kind = count-ext _ _ (tasks w) (λ k h. at k h (masked w k) refl)
+    where
+      at : (k : ℕ) → k < tasks w → (t : Bool) → masked w k ≡ t → (not t && kind (p .answered k)) ≡ (not t && kind (q .answered k))
+      at k h false e = ap kind (task-determined k h e .answer)
+      at k h true e = refl
+
+  answer-same : Swept i₁ m₁ h₁ ≡ Swept i₂ m₂ h₂
+  answer-same =
+      ap (λ (vs : List ℕ). Swept (getD vs 0 0) (getD vs 1 0) (getD vs 2 0))
+      (p .counts ∙ (cc (kind-same isIdle, kind-same isMoved, kind-same isHeld) ∙ sym (q .counts)))
 
   -- a field f of the areas that is not the spins
   areas-same :
@@ -191,9 +211,9 @@ sweep-determined w b y z (Fault r) (Fault s) f g = record {
   answer = ap Fault (broken-unique (sweepRules w b) r s (f .why) (g .why));
   buffers = f .kept ∙ sym (g .kept);
 }
-sweep-determined w b y z (Fault r) (Swept i m) f g = absurd (broken-not-kept (sweepRules w b) r (f .why) (g .valid))
-sweep-determined w b y z (Swept i m) (Fault s) f g = absurd (broken-not-kept (sweepRules w b) s (g .why) (f .valid))
-sweep-determined w b y z (Swept i m) (Swept j o) f g = record {
-  answer = ap (λ (vs : List ℕ). Swept (getD vs 0 0) (getD vs 1 0)) (f .counts ∙ sym (g .counts));
-  buffers = buffers-same w b y z _ _ _ _ f g;
+sweep-determined w b y z (Fault r) (Swept i m h) f g = absurd (broken-not-kept (sweepRules w b) r (f .why) (g .valid))
+sweep-determined w b y z (Swept i m h) (Fault s) f g = absurd (broken-not-kept (sweepRules w b) s (g .why) (f .valid))
+sweep-determined w b y z (Swept i m h) (Swept j o l) f g = record {
+  answer = answer-same w b y z i m h j o l f g;
+  buffers = buffers-same w b y z _ _ _ _ _ _ f g;
 }

@@ -11,7 +11,7 @@ use Rattle.lemmas.specs.Bools.{never}
 use Rattle.paper.specs.Panel.Input.{Buffers}
 use Rattle.paper.specs.Panel.Takes.{takesCuts}
 use Rattle.paper.specs.Refusal.Rule.{Rule, Kept}
-use Rattle.paper.specs.Refusal.Rules.{When, AllSystems, Spins, Inverse, Permutes, SmallCouplings, Warm, choiceRules}
+use Rattle.paper.specs.Refusal.Rules.{When, AllSystems, Spins, Inverse, Pins, Permutes, SmallCouplings, Warm, choiceRules}
 use Rattle.paper.specs.Refusal.Kept.{Fit, fit-of, fit-kept}
 use Rattle.paper.specs.Refusal.Verdict.{kept-both}
 use Rattle.paper.specs.Answer.Task.{Sweep, tasks, masked, taskCall, taskChoices}
@@ -23,6 +23,7 @@ pub record SweepValid (w : Sweep) (b : Buffers) : Type 0 where
   pub exact : SweepExact w b
   pub spins : Spins (w .lattice .n) (AllSystems (w .lattice .s)) (b .spins)
   pub inverse : Inverse (w .lattice .n) (w .lattice .d) (w .lattice .fwd) (w .lattice .bwd)
+  pub pins : Pins (w .pins)
   pub order : Permutes (w .lattice .s) (λ k. getD (w .order) k 0)
   pub couplings : When (takesCuts (common w)) (SmallCouplings (w .lattice .couplings))
   pub warm : When (takesCuts (common w)) ((j : ℕ) → j < w .t → Warm (getD (w .temperatures) j nan))
@@ -72,15 +73,16 @@ module _ (w : Sweep) (b : Buffers) where
     exact = k .1 .0;
     spins = k .1 .1 .0;
     inverse = k .1 .1 .1 .0;
-    order = k .1 .1 .1 .1 .0;
-    couplings = k .1 .1 .1 .1 .1 .0;
-    warm = k .1 .1 .1 .1 .1 .1 .0;
-    masks = k .1 .1 .1 .1 .1 .1 .1 .0;
-    each = λ j h e. fit-of (taskCall w j) (taskChoices w j) (b .spins) (tasks-of (tasks w) (k .1 .1 .1 .1 .1 .1 .1 .1) j h e);
+    pins = k .1 .1 .1 .1 .0;
+    order = k .1 .1 .1 .1 .1 .0;
+    couplings = k .1 .1 .1 .1 .1 .1 .0;
+    warm = k .1 .1 .1 .1 .1 .1 .1 .0;
+    masks = k .1 .1 .1 .1 .1 .1 .1 .1 .0;
+    each = λ j h e. fit-of (taskCall w j) (taskChoices w j) (b .spins) (tasks-of (tasks w) (k .1 .1 .1 .1 .1 .1 .1 .1 .1) j h e);
   }
 
   pub sweep-valid-kept : SweepValid w b → Kept (sweepRules w b)
-  sweep-valid-kept v = (v .ranged, (v .exact, (v .spins, (v .inverse, (v .order, (v .couplings, (v .warm, (v .masks, each))))))))
+  sweep-valid-kept v = (v .ranged, (v .exact, (v .spins, (v .inverse, (v .pins, (v .order, (v .couplings, (v .warm, (v .masks, each)))))))))
     where
       each : Kept (taskRules w b (tasks w))
       each = tasks-kept (tasks w) (λ k h e. fit-kept (taskCall w k) (taskChoices w k) (b .spins) (v .each k h e))

@@ -59,6 +59,7 @@ module _ (w : Sweep) (b : Buffers) (v : Kept (sweepRules w b)) (k : ℕ) (below 
     spins = e .spins;
     fwd = e .fwd;
     bwd = e .bwd;
+    pins = e .pins;
     couplings = e .couplings;
     cuts = λ t. part-length (tasks w) (w .lattice .n * w .lattice .d) k (w .cuts) below (e .cuts t);
     choices = λ t. part-length (tasks w) (choiceBytes (w .mode) (w .form) (w .lattice .n) (w .members)) k (w .choices) below (e .choices t);
@@ -79,6 +80,7 @@ module _ (w : Sweep) (b : Buffers) (v : Kept (sweepRules w b)) (k : ℕ) (below 
       exact = exact;
       spins = valid .spins;
       inverse = valid .inverse;
+      pins = valid .pins;
       grouped = grouped;
       couplings = valid .couplings;
       warm = λ t. valid .warm t (temperatureOf w k) temperature-lt;

@@ -1,27 +1,24 @@
 -- Two sweeps that agree on all that is taken have the same answers: what areas of masked tasks hold does not matter.
 use Prim.Native.Nat.{ℕ, zero, suc, _*_, _<_, _≤_}
-use mathlib.Core.Path.{_≡_, refl, sym, _∙_, ap, subst}
+use mathlib.Core.Path.{_≡_, refl, sym, subst}
 use mathlib.Core.Logic.{_↔_}
-use mathlib.Core.Bool.{Bool, true, false, not, cond, _&&_}
+use mathlib.Core.Bool.{Bool, true, false, cond}
 use mathlib.Core.List.{List, []}
 use native.Mathlib.Omega.{arith}
 use native.Mathlib.Nat.{le-refl}
-use lib.Dec.{eqb}
 use lib.ListN.{length, getD}
 use lib.IntN.{ℤ}
 use lib.Ieee.{Float, nan}
-use Rattle.lemmas.specs.Counts.{countWhere}
+use Rattle.paper.specs.declared.Answer.{Answer}
 use Rattle.paper.specs.declared.SweepAnswer.{SweepAnswer}
 use Rattle.paper.specs.declared.SweepAnswer.the-variants.{Fault, Swept}
 use Rattle.paper.specs.Panel.Input.{Buffers}
 use Rattle.paper.specs.Panel.Takes.{takesCuts, takesChoices, takesGreys, takesReference, takesSeed, entries, choiceBytes}
-use Rattle.paper.specs.Site.Acting.{acts}
 use Rattle.paper.specs.Refusal.Rules.{SmallCouplings, Warm, choiceRules}
-use Rattle.paper.specs.Answer.Task.{Sweep, tasks, masked, taskCall, taskChoices, areas, idleTask, idleTasks, movedTasks}
+use Rattle.paper.specs.Answer.Task.{Sweep, tasks, masked, taskCall, taskChoices, areas}
 use Rattle.paper.specs.Answer.Sweep.{common, SweepRanged, SweepExact, taskRules, sweepRules, Done, SweepAnswers}
 use Rattle.paper.specs.Answer.Same.{SameTaken, SameSwept}
 use Rattle.laws.specs.Matched.{Matched, matched-kept, matched-broken, matched-both, taken-same, itself}
-use Rattle.laws.specs.Untaken.{acts-same}
 use Rattle.laws.specs.UntakenRules.{choice-rules-same}
 use Rattle.laws.specs.UntakenAnswers.{taken-back, untaken}
 
@@ -38,6 +35,7 @@ over w v = record {
     bwd = w .lattice .bwd;
     couplings = v .lattice .couplings;
   };
+  pins = w .pins;
   t = w .t;
   r = w .r;
   members = w .members;
@@ -63,6 +61,7 @@ is-over {w} {v} h = λ i. record {
     bwd = h .panel .bwd i;
     couplings = v .lattice .couplings;
   };
+  pins = h .pins i;
   t = h .t i;
   r = h .r i;
   members = h .members i;
@@ -75,11 +74,6 @@ is-over {w} {v} h = λ i. record {
   choices = v .choices;
   greys = v .greys;
 }
-
-counts-ext : (f g : ℕ → Bool) (m : ℕ) → ((k : ℕ) → k < m → g k ≡ f k) → countWhere g m ≡ countWhere f m
-unfolding countWhere
-counts-ext f g zero h = refl
-counts-ext f g (suc m) h = cc (counts-ext f g m (λ k l. h k (omega arith)), h m (omega arith))
 
 module _ {w v : Sweep} (same : SameSwept w v) where
   each : (k : ℕ) → k < tasks w → masked w k ≡ false → SameTaken (taskCall w k) (taskChoices w k) (taskCall (over w v) k) (taskChoices (over w v) k)
@@ -107,6 +101,7 @@ module _ {w v : Sweep} (same : SameSwept w v) where
             spins = h .spins;
             fwd = h .fwd;
             bwd = h .bwd;
+            pins = h .pins;
             order = h .order;
             masks = h .masks;
             couplings = couplings .0 (h .couplings);
@@ -128,6 +123,7 @@ module _ {w v : Sweep} (same : SameSwept w v) where
             spins = h .spins;
             fwd = h .fwd;
             bwd = h .bwd;
+            pins = h .pins;
             order = h .order;
             masks = h .masks;
             couplings = couplings .1 (h .couplings);
@@ -170,47 +166,24 @@ module _ {w v : Sweep} (same : SameSwept w v) where
         let of-tasks = tasks-same (tasks w) (le-refl (tasks w)) in (
           refl,
           ranged-same,
-          (refl, exact-same, (refl, itself, (refl, itself, (refl, itself, (refl, couplings, (refl, warm, (refl, itself, of-tasks))))))),
+          (refl, exact-same, (refl, itself, (refl, itself, (refl, itself, (refl, itself, (refl, couplings, (refl, warm, (refl, itself, of-tasks)))))))),
         )
 
-  -- ---- the counts
-  module _ (xs : List ℤ) where
-    idle-same : (k : ℕ) → k < tasks w → masked w k ≡ false → idleTask (over w v) xs k ≡ idleTask w xs k
-    idle-same k h e =
-        ap (λ (x : ℕ). eqb x 0)
-        (counts-ext (acts (taskCall w k) xs) (acts (taskCall (over w v) k) xs) (w .lattice .n) (λ i _. acts-same (each k h e .call) xs i))
-
-    unmasked-same :
-        (f : Bool → Bool) (k : ℕ)
-        → k < tasks w
-        → (not (masked w k) && f (idleTask (over w v) xs k)) ≡ (not (masked w k) && f (idleTask w xs k))
-    unmasked-same f k h = go (masked w k) refl
-      where
-        go : (t : Bool) → masked w k ≡ t → (not t && f (idleTask (over w v) xs k)) ≡ (not t && f (idleTask w xs k))
-        go true e = refl
-        go false e = ap f (idle-same k h e)
-
-    idles-same : idleTasks (over w v) xs ≡ idleTasks w xs
-    idles-same = counts-ext _ _ (tasks w) (unmasked-same (λ t. t))
-
-    moveds-same : movedTasks (over w v) xs ≡ movedTasks w xs
-    moveds-same = counts-ext _ _ (tasks w) (unmasked-same not)
-
-  done-there : (b b′ : Buffers) (k : ℕ) → k < tasks w → masked w k ≡ false → Done w b b′ k → Done (over w v) b b′ k
-  done-there b b′ k h e d = record {
-    answer = d .answer;
+  done-there : (b b′ : Buffers) (k : ℕ) (a : Answer) → k < tasks w → masked w k ≡ false → Done w b b′ k a → Done (over w v) b b′ k a
+  done-there b b′ k a h e d = record {
     spins = d .spins;
-    answers = untaken (each k h e) (areas w b (b .spins) k) (d .answer) (areas w b′ (d .spins) k) .0 (d .answers);
+    answers = untaken (each k h e) (areas w b (b .spins) k) a (areas w b′ (d .spins) k) .0 (d .answers);
     rows = d .rows;
   }
 
   there : (b : Buffers) (r : SweepAnswer) (b′ : Buffers) → SweepAnswers w b r b′ → SweepAnswers (over w v) b r b′
   there b (Fault r) b′ q = record { why = matched-broken (sweepRules w b) (sweepRules (over w v) b) r (sweep-rules-same b) (q .why); kept = q .kept }
-  there b (Swept i m) b′ q = record {
+  there b (Swept i m h) b′ q = record {
     valid = matched-kept (sweepRules w b) (sweepRules (over w v) b) (sweep-rules-same b) (q .valid);
-    counts = q .counts ∙ cc (idles-same (b .spins), moveds-same (b .spins));
+    answered = q .answered;
+    counts = q .counts;
     lengths = q .lengths;
-    each = λ k h e. done-there b b′ k h e (q .each k h e);
+    each = λ k h e. done-there b b′ k (q .answered k) h e (q .each k h e);
     skipped = q .skipped;
     others = q .others;
     kept = record {
@@ -233,6 +206,7 @@ module _ {w v : Sweep} (same : SameSwept w v) where
     mode = refl;
     form = refl;
     panel = record { n = refl; d = refl; s = refl; fwd = refl; bwd = refl; couplings = λ t. sym (same .panel .couplings t) };
+    pins = refl;
     t = refl;
     r = refl;
     members = refl;

@@ -15,7 +15,7 @@ use Rattle.paper.specs.Refusal.Verdict.{Verdict}
 use Rattle.paper.specs.Answer.Task.{Sweep, tasks, masked, taskCall, taskChoices}
 use Rattle.paper.specs.Answer.Sweep.{common, SweepRanged, SweepExact, taskRules, sweepRules}
 use Rattle.laws.specs.Decided.{Decided, le, eq, iff, both, when, all, DecidedAll, refusal, numbered, verdict-by, joined}
-use Rattle.laws.specs.Verdicts.{ranged, spins, inverse, permutes, smallCouplings, warm, choices}
+use Rattle.laws.specs.Verdicts.{ranged, spins, inverse, pins, permutes, smallCouplings, warm, choices}
 
 abbrev pub sweepRanged : (w : Sweep) → Decided (SweepRanged w)
 sweepRanged w =
@@ -27,10 +27,11 @@ sweepRanged w =
 abbrev pub sweepExact : (w : Sweep) (b : Buffers) → Decided (SweepExact w b)
 sweepExact w b =
     iff
-    (λ (x1, (x2, (x3, (x4, (x5, (x6, (x7, (x8, (x9, (x10, (x11, (x12, (x13, (x14, (x15, (x16, (x17, (x18, x19)))))))))))))))))). record {
+    (λ (x1, (x2, (x3, (x, (x4, (x5, (x6, (x7, (x8, (x9, (x10, (x11, (x12, (x13, (x14, (x15, (x16, (x17, (x18, x19))))))))))))))))))). record {
       spins = x1;
       fwd = x2;
       bwd = x3;
+      pins = x;
       order = x4;
       masks = x5;
       couplings = x6;
@@ -55,24 +56,27 @@ sweepExact w b =
         (
           r .bwd,
           (
-            r .order,
+            r .pins,
             (
-              r .masks,
+              r .order,
               (
-                r .couplings,
+                r .masks,
                 (
-                  r .temperatures,
+                  r .couplings,
                   (
-                    r .cuts,
+                    r .temperatures,
                     (
-                      r .choices,
+                      r .cuts,
                       (
-                        r .greys,
+                        r .choices,
                         (
-                          r .references,
+                          r .greys,
                           (
-                            r .seeds,
-                            (r .labels, (r .grey-labels, (r .counts, (r .sizes, (r .members, (r .found, r .grey-found)))))),
+                            r .references,
+                            (
+                              r .seeds,
+                              (r .labels, (r .grey-labels, (r .counts, (r .sizes, (r .members, (r .found, r .grey-found)))))),
+                            ),
                           ),
                         ),
                       ),
@@ -88,6 +92,7 @@ sweepExact w b =
     (both (eq (length (b .spins)) (w .lattice .s * w .lattice .n))
     (both (eq (length (w .lattice .fwd)) (w .lattice .n * w .lattice .d))
     (both (eq (length (w .lattice .bwd)) (w .lattice .n * w .lattice .d))
+    (both (eq (length (w .pins)) (w .lattice .n))
     (both (eq (length (w .order)) (w .lattice .s))
     (both (eq (length (w .masks)) (w .t))
     (both (when (takesCuts (common w)) (eq (length (w .lattice .couplings)) (w .lattice .n * w .lattice .d)))
@@ -103,7 +108,7 @@ sweepExact w b =
     (both (when (labelsBy (w .form)) (eq (length (b .sizes)) (tasks w * 4)))
     (both (when (growsBy (w .form)) (eq (length (b .members)) (tasks w * w .lattice .n)))
     (both (when (labelsBy (w .form)) (eq (length (b .found)) (tasks w)))
-    (when (takesGreyLabels (common w)) (eq (length (b .greyFound)) (tasks w)))))))))))))))))))))
+    (when (takesGreyLabels (common w)) (eq (length (b .greyFound)) (tasks w))))))))))))))))))))))
 
 -- unmasked tasks in ascending order
 abbrev pub inTurn : (t : Bool) (rs : List Rule) → DecidedAll rs → DecidedAll (cond t [] rs)
@@ -126,12 +131,15 @@ sweepDecided w b = (
       (
         inverse (w .lattice .n) (w .lattice .d) (w .lattice .fwd) (w .lattice .bwd),
         (
-          permutes (w .lattice .s) (λ k. getD (w .order) k 0),
+          pins (w .pins),
           (
-            when (takesCuts (common w)) (smallCouplings (w .lattice .couplings)),
+            permutes (w .lattice .s) (λ k. getD (w .order) k 0),
             (
-              when (takesCuts (common w)) (all (w .t) (λ j. warm (getD (w .temperatures) j nan))),
-              (all (w .t) (λ j. le (getD (w .masks) j 0) 1), tasksDecided w b (tasks w)),
+              when (takesCuts (common w)) (smallCouplings (w .lattice .couplings)),
+              (
+                when (takesCuts (common w)) (all (w .t) (λ j. warm (getD (w .temperatures) j nan))),
+                (all (w .t) (λ j. le (getD (w .masks) j 0) 1), tasksDecided w b (tasks w)),
+              ),
             ),
           ),
         ),

@@ -197,6 +197,9 @@ carry t g h q a b e = along (record { site = e .site; dir = e .dir; dir-lt = e .
     on : h a (e .dir) ≡ true
     on = sym (q a (e .dir) (e .site) (e .dir-lt)) ∙ e .on
 
+pub joined-ext : (t : Graph) (h₁ h₂ : ℕ → ℕ → Bool) {i j : ℕ} → HoldAlike t h₁ h₂ → Joined t h₁ i j → Joined t h₂ i j
+joined-ext t h₁ h₂ same q = bind (carry t h₁ h₂ same) q
+
 module _ (t : Graph) (h₁ h₂ : ℕ → ℕ → Bool) where
   pub labels-ext : {found : ℕ} (l : List ℕ) → HoldAlike t h₁ h₂ → Labels t h₁ l found → Labels t h₂ l found
   labels-ext l same w = record {

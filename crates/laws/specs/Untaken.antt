@@ -6,7 +6,6 @@ use mathlib.Core.List.{List}
 use native.Mathlib.Omega.{arith}
 use lib.IntN.{ℤ}
 use Rattle.lemmas.specs.Sums.{sum, sum-ext}
-use Rattle.lemmas.specs.Bools.{and-right}
 use Rattle.paper.specs.declared.Mode.{Mode}
 use Rattle.paper.specs.declared.Mode.the-variants.{Houd, Pair, Perm, Gperm, Jorg, Cmr}
 use Rattle.paper.specs.declared.Form.{Form}
@@ -21,7 +20,7 @@ use Rattle.paper.specs.Refusal.Rules.{Permutes}
 use Rattle.paper.specs.Answer.Same.{SameCall, SameChoices}
 use Rattle.laws.specs.Choices.{flips-taken, perms-taken}
 use Rattle.laws.specs.Local.{Agree, term-ext, act-ext, kind-ext}
-use Rattle.laws.specs.Entries.{permOf, flipOf, form-moves}
+use Rattle.laws.specs.Entries.{permOf, flipOf, reached-moves}
 use Rattle.laws.specs.Acting.{test-ext, gauge-ext}
 
 -- ---- the call c with all of a that may differ; the lent buffers d with the spins of b
@@ -37,6 +36,7 @@ over c a = record {
     bwd = c .lattice .bwd;
     couplings = a .lattice .couplings;
   };
+  pins = c .pins;
   group = record { len = c .group .len; systems = a .group .systems };
   temperature = a .temperature;
   cuts = a .cuts;
@@ -56,6 +56,7 @@ is-over {c} {a} h = λ i. record {
     bwd = h .panel .bwd i;
     couplings = a .lattice .couplings;
   };
+  pins = h .pins i;
   group = record { len = h .members i; systems = a .group .systems };
   temperature = a .temperature;
   cuts = a .cuts;
@@ -188,7 +189,6 @@ module _ {c a : Call} (same : SameCall c a) (xs : List ℤ) where
         → k < size c
         → (reached c xs l i ≡ true → isPerm (c .mode) ≡ true → Permutes (size c) (permOf c p (labelOf l i)))
         → after (over c a) o xs l i k ≡ after c p xs l i k
-    unfolding reached
     after-same l i k hk perms = go (reached c xs l i) refl
       where
         go : (t : Bool) → reached c xs l i ≡ t → after (over c a) o xs l i k ≡ after c p xs l i k
@@ -196,7 +196,7 @@ module _ {c a : Call} (same : SameCall c a) (xs : List ℤ) where
             rw (reached-same l i, e)
             (choice-in c a p o (c .mode) (labelOf l i) (pattern (over c a) xs (a .reference)) (pattern (over c a) xs i)
             (λ q. flip-in (c .form) (c .mode) (p .choices) (o .choices) (labelOf l i) q (λ t. chosen .choices (flips-taken (c .mode) (c .form) t)))
-            (λ q. chosen .choices (perms-taken (c .mode) (c .form) (rw (form-moves (c .form) c l i (and-right (acts c xs i) _ e), q)))) k
+            (λ q. chosen .choices (perms-taken (c .mode) (c .form) (rw (reached-moves c xs l i e, q)))) k
             ∙ act-ext (c .mode) c p (labelOf l i) (pattern (over c a) xs (a .reference)) (pattern c xs (c .reference)) (pattern (over c a) xs i)
             (pattern c xs i) (perms e) reference-same (pattern-same i) k hk)
         go false e = rw (reached-same l i, e) (pattern-same i k hk)
@@ -212,5 +212,5 @@ module _ {c a : Call} (same : SameCall c a) (xs : List ℤ) where
     final-same l g g′ i k same-grey hk perms = go (takesGreys c) refl
       where
         go : (t : Bool) → takesGreys c ≡ t → final (over c a) o xs l g′ i k ≡ final c p xs l g i k
-        go true e = cc (same-grey e, reached-same g i, chosen .greys e, after-same l i k hk perms, pattern-same i k hk)
+        go true e = cc (same-grey e, reached-same g i, chosen .greys e, after-same l i k hk perms)
         go false e = rw e (after-same l i k hk perms)

@@ -9,27 +9,27 @@ use Rattle.lemmas.specs.Bools.{never, and-right}
 use Rattle.paper.specs.declared.Mode.{Mode}
 use Rattle.paper.specs.declared.Mode.the-variants.{Houd, Pair, Perm, Gperm, Jorg, Cmr}
 use Rattle.paper.specs.declared.Answer.{Answer}
-use Rattle.paper.specs.declared.Answer.the-variants.{Refused, Idle, Moved}
+use Rattle.paper.specs.declared.Answer.the-variants.{Refused, Idle, Held, Moved}
 use Rattle.paper.specs.Panel.Input.{graph, Call, Choices, Buffers, size}
-use Rattle.paper.specs.Panel.Takes.{isPerm, isCmr, growsBy, labelsBy, moves, drawsBonds, takesGreys, takesGreyLabels}
+use Rattle.paper.specs.Panel.Takes.{isPerm, isCmr, oneCluster, growsBy, labelsBy, moves, drawsBonds, takesGreys, takesGreyLabels}
 use Rattle.paper.specs.Site.Acting.{acts}
 use Rattle.paper.specs.Site.Bonds.{holds, holdsGrey}
-use Rattle.paper.specs.Component.Labels.{Labels}
+use Rattle.paper.specs.Component.Labels.{Joined, Labels}
 use Rattle.paper.specs.Component.Members.{Members}
 use Rattle.paper.specs.Component.Sizes.{labelOf}
 use Rattle.paper.specs.Move.Moving.{reached, Moves}
 use Rattle.paper.specs.Refusal.Rule.{Kept}
 use Rattle.paper.specs.Refusal.Rules.{Permutes, rules}
 use Rattle.paper.specs.Refusal.Kept.{Valid, valid-of}
-use Rattle.paper.specs.Answer.Move.{SeenAll, SeenOne, Seen, memberBonds, Turns, Answers}
+use Rattle.paper.specs.Answer.Move.{SeenAll, SeenOne, Seen, memberBonds, SeedHeld, Turns, Answers}
 use Rattle.paper.specs.Answer.Same.{SameCall, SameTaken, SameLent, written, left}
 use Rattle.laws.specs.Forms.{by-form, not-grows, grows-one, grows-moves}
-use Rattle.laws.specs.Unique.{HoldAlike, label-lt, numbered-ext, members-ext, counts-ext, sizes-ext}
+use Rattle.laws.specs.Unique.{HoldAlike, label-lt, joined-ext, numbered-ext, members-ext, counts-ext, sizes-ext}
 use Rattle.laws.specs.Determined.{buffers-equal}
 use Rattle.laws.specs.Matched.{matched-kept, matched-broken}
 use Rattle.laws.specs.Untaken.{over, is-over, onto, acts-same, holds-same, grey-same, final-same, pattern-same}
 use Rattle.laws.specs.UntakenRules.{seed-acts, some-there, rules-same}
-use Rattle.laws.specs.Entries.{permOf, form-moves, perms-of, perms-grown}
+use Rattle.laws.specs.Entries.{permOf, reached-moves, perms-of, perms-grown}
 
 cmr-draws : (m : Mode) → isCmr m ≡ true → drawsBonds m ≡ true
 cmr-draws Houd e = never e
@@ -47,6 +47,27 @@ module _ {c a : Call} {p o : Choices} (same : SameTaken c p a o) {b d : Buffers}
     -- the same bonds hold
     blue : HoldAlike (graph c) (holds c (b .spins)) (holds (over c a) (b .spins))
     blue i e hi he = sym (holds-same (same .call) (b .spins) (v .sound .ranged .cmr-two) i e)
+
+    -- the same seed, and so the same component is held
+    held-there : oneCluster (c .form) ≡ true → SeedHeld c (b .spins) → SeedHeld (over c a) (b .spins)
+    held-there t h = record {
+      site = h .site;
+      below = h .below;
+      pin = h .pin;
+      joined =
+          subst (λ (s : ℕ). Joined (graph c) (holds (over c a) (b .spins)) s (h .site)) (sym (same .call .seed t))
+          (joined-ext (graph c) (holds c (b .spins)) (holds (over c a) (b .spins)) blue (h .joined));
+    }
+
+    held-back : oneCluster (c .form) ≡ true → SeedHeld (over c a) (b .spins) → SeedHeld c (b .spins)
+    held-back t h = record {
+      site = h .site;
+      below = h .below;
+      pin = h .pin;
+      joined =
+          joined-ext (graph c) (holds (over c a) (b .spins)) (holds c (b .spins)) (λ i e hi he. sym (blue i e hi he))
+          (subst (λ (s : ℕ). Joined (graph c) (holds (over c a) (b .spins)) s (h .site)) (same .call .seed t) (h .joined));
+    }
 
     grey : isCmr (c .mode) ≡ true → HoldAlike (graph c) (holdsGrey c (b .spins)) (holdsGrey (over c a) (b .spins))
     grey q i e hi he = sym (grey-same (same .call) (b .spins) (v .sound .ranged .cmr-two) (cmr-draws (c .mode) q) q i e)
@@ -113,9 +134,8 @@ module _ {c a : Call} {p o : Choices} (same : SameTaken c p a o) {b d : Buffers}
         → Permutes (size c) (permOf c p (labelOf l i))
 
     perms-at : {found : ℕ} → Labels (graph c) (holds c (b .spins)) (b′ .labels) found → PermsAt (b′ .labels)
-    unfolding reached
     perms-at w i hi e q =
-        perms-of v (rw (form-moves (c .form) c (b′ .labels) i (and-right (acts c (b .spins) i) _ e), q)) (labelOf (b′ .labels) i)
+        perms-of v (rw (reached-moves c (b .spins) (b′ .labels) i e, q)) (labelOf (b′ .labels) i)
         (label-lt (graph c) (holds c (b .spins)) (b′ .labels) w i hi)
 
     moves-there :
@@ -164,9 +184,18 @@ module _ {c a : Call} {p o : Choices} (same : SameTaken c p a o) {b d : Buffers}
     still = w .still;
     seen = seen-there (valid-of c p b (w .valid)) b′ (w .seen);
   }
+  there Held b′ w = let v = valid-of c p b (w .valid) in record {
+    valid = kept-there (w .valid);
+    some = some-there same (b .spins) (w .some);
+    one = w .one;
+    held = held-there v b′ (w .one) (w .held);
+    still = w .still;
+    seen = seen-there v b′ (w .seen);
+  }
   there Moved b′ w = let v = valid-of c p b (w .valid) in record {
     valid = kept-there (w .valid);
     some = some-there same (b .spins) (w .some);
+    free = λ t h. w .free t (held-back v b′ t h);
     moved = λ t. moved-there v b′ t (w .seen .all t .labels .labels) (w .moved t);
     turned = λ t. turned-there v b′ t (w .turned t);
     seen = seen-there v b′ (w .seen);
@@ -198,6 +227,7 @@ module _ {c a : Call} (h : SameCall c a) where
       bwd = sym (h .panel .bwd);
       couplings = λ t. sym (h .panel .couplings (draws-back t));
     };
+    pins = sym (h .pins);
     members = sym (h .members);
     systems = λ k l. sym (h .systems k (rw (h .members) at l));
     temperature = λ t. sym (h .temperature (draws-back t));
@@ -250,6 +280,7 @@ written-itself c b b′ w = go (by-form (c .form))
 left-itself : (c : Call) (p : Choices) (b : Buffers) (r : Answer) (b′ : Buffers) → Answers c p b r b′ → left c r b b′ ≡ b′
 left-itself c p b (Refused r) b′ w = sym (w .kept)
 left-itself c p b Idle b′ w = written-itself c b b′ (w .seen)
+left-itself c p b Held b′ w = written-itself c b b′ (w .seen)
 left-itself c p b Moved b′ w = written-itself c b b′ (w .seen)
 
 alike : {c a : Call} {p o : Choices} → SameTaken c p a o → (b : Buffers) (r : Answer) (b′ : Buffers) → Answers c p b r b′ → Answers a o b r b′

@@ -114,6 +114,7 @@ module _ {c a : Call} {p o : Choices} (same : SameTaken c p a o) where
             spins = h .spins;
             fwd = h .fwd;
             bwd = h .bwd;
+            pins = h .pins;
             couplings = couplings .0 (h .couplings);
             cuts = cuts .0 (h .cuts);
             choices = choices .0 (h .choices);
@@ -130,6 +131,7 @@ module _ {c a : Call} {p o : Choices} (same : SameTaken c p a o) where
             spins = h .spins;
             fwd = h .fwd;
             bwd = h .bwd;
+            pins = h .pins;
             couplings = couplings .1 (h .couplings);
             cuts = cuts .1 (h .cuts);
             choices = choices .1 (h .choices);
@@ -149,4 +151,4 @@ module _ {c a : Call} {p o : Choices} (same : SameTaken c p a o) where
         let couplings = taken-same (takesCuts c) SmallCouplings (same .call .panel .couplings) in
         let warm = taken-same (takesCuts c) Warm (same .call .temperature) in
         let choices = choice-rules-same (b .spins) in
-        (refl, itself, (refl, exact-same, (refl, itself, (refl, itself, (refl, grouped-same, (refl, couplings, (refl, warm, choices)))))))
+        (refl, itself, (refl, exact-same, (refl, itself, (refl, itself, (refl, itself, (refl, grouped-same, (refl, couplings, (refl, warm, choices))))))))

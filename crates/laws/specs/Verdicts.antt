@@ -15,7 +15,7 @@ use Rattle.paper.specs.Panel.Takes.{isCmr, oneCluster, growsBy, labelsBy, draws
 use Rattle.paper.specs.Panel.Takes.{takesFlips, takesPerms, takesGreys, takesReference, takesSeed}
 use Rattle.paper.specs.Site.Acting.{acts, SomeActs}
 use Rattle.paper.specs.Refusal.Rule.{Kept, Broken}
-use Rattle.paper.specs.Refusal.Rules.{Sizes, Ranged, Fits, lengthsOf, AllSystems, Spins, Back, Inverse, Distinct, Grouped, SmallCouplings, Warm, isCut}
+use Rattle.paper.specs.Refusal.Rules.{Sizes, Ranged, Fits, lengthsOf, AllSystems, Spins, Back, Inverse, Pins, Distinct, Grouped, SmallCouplings, Warm, isCut}
 use Rattle.paper.specs.Refusal.Rules.{Cuts, Permutes, NotIdentity, permRow, Chosen, Seeded, choiceRules, rules}
 use Rattle.paper.specs.Refusal.Verdict.{Verdict}
 use Rattle.paper.specs.Answer.Meter.{meterRules}
@@ -39,10 +39,11 @@ ranged n d s mode m =
 abbrev pub fits : (mode : Mode) (form : Form) (n d s m : ℕ) (l : Lengths) → Decided (Fits mode form n d s m l)
 fits mode form n d s m l =
     iff
-    (λ (a, (b, (c, (e, (f, (g, (i, (j, (k, (o, (p, (q, (t, u))))))))))))). record {
+    (λ (a, (b, (c, (x, (e, (f, (g, (i, (j, (k, (o, (p, (q, (t, u)))))))))))))). record {
       spins = a;
       fwd = b;
       bwd = c;
+      pins = x;
       couplings = e;
       cuts = f;
       choices = g;
@@ -62,8 +63,11 @@ fits mode form n d s m l =
         (
           r .bwd,
           (
-            r .couplings,
-            (r .cuts, (r .choices, (r .greys, (r .labels, (r .grey-labels, (r .counts, (r .sizes, (r .members, (r .found, r .grey-found))))))))),
+            r .pins,
+            (
+              r .couplings,
+              (r .cuts, (r .choices, (r .greys, (r .labels, (r .grey-labels, (r .counts, (r .sizes, (r .members, (r .found, r .grey-found))))))))),
+            ),
           ),
         ),
       ),
@@ -71,6 +75,7 @@ fits mode form n d s m l =
     (both (eq (l .spins) (s * n))
     (both (eq (l .fwd) (n * d))
     (both (eq (l .bwd) (n * d))
+    (both (eq (l .pins) n)
     (both (when (drawsBonds mode) (eq (l .couplings) (n * d)))
     (both (when (drawsBonds mode) (eq (l .cuts) (n * d)))
     (both (when (choicesBy mode form) (eq (l .choices) (choiceBytes mode form n m)))
@@ -81,7 +86,7 @@ fits mode form n d s m l =
     (both (when (labelsBy form) (eq (l .sizes) 4))
     (both (when (growsBy form) (eq (l .members) n))
     (both (when (labelsBy form) (eq (l .found) 1))
-    (when (greyLabelsBy mode form) (eq (l .«grey_found») 1)))))))))))))))
+    (when (greyLabelsBy mode form) (eq (l .«grey_found») 1))))))))))))))))
 
 -- ---- 3 to 7
 abbrev pub spins : (n s : ℕ) (xs : List ℤ) → Decided (Spins n (AllSystems s) xs)
@@ -98,6 +103,9 @@ goesBack n d a b =
 abbrev pub inverse : (n d : ℕ) (fwd bwd : List ℕ) → Decided (Inverse n d fwd bwd)
 inverse n d fwd bwd =
     iff (λ (t, h). record { there = t; here = h }) (λ r. (r .there, r .here)) (both (goesBack n d fwd bwd) (goesBack n d bwd fwd))
+
+abbrev pub pins : (ps : List ℕ) → Decided (Pins ps)
+pins ps = all (length ps) (λ i. le (getD ps i 0) 1)
 
 abbrev pub distinct : (m : ℕ) (f : ℕ → ℕ) → Decided (Distinct m f)
 distinct m f =
@@ -166,10 +174,13 @@ decided c p b = (
       (
         inverse (c .lattice .n) (c .lattice .d) (c .lattice .fwd) (c .lattice .bwd),
         (
-          grouped (c .lattice .s) (c .group),
+          pins (c .pins),
           (
-            when (takesCuts c) (smallCouplings (c .lattice .couplings)),
-            (when (takesCuts c) (warm (c .temperature)), choices c p (b .spins)),
+            grouped (c .lattice .s) (c .group),
+            (
+              when (takesCuts c) (smallCouplings (c .lattice .couplings)),
+              (when (takesCuts c) (warm (c .temperature)), choices c p (b .spins)),
+            ),
           ),
         ),
       ),

@@ -1,7 +1,8 @@
 -- From an accepted call to what the steps ask, and from what they leave to the call's answer.
 use Prim.Native.Nat.{ℕ, _*_, _≤_}
 use mathlib.Core.Path.{_≡_, refl, sym, _∙_}
-use mathlib.Core.Bool.{Bool, true, false, not}
+use mathlib.Core.Logic.{_↔_}
+use mathlib.Core.Bool.{Bool, true, false, not, cond}
 use mathlib.Core.List.{List, []}
 use native.Mathlib.Omega.{arith}
 use native.Mathlib.Nat.{mul-le-mul}
@@ -14,18 +15,22 @@ use Rattle.lemmas.specs.Bools.{never, and-left, and-right}
 use Rattle.paper.specs.declared.Task.{Task}
 use Rattle.paper.specs.declared.Mode.{Mode}
 use Rattle.paper.specs.declared.Mode.the-variants.{Houd, Pair, Perm, Gperm, Jorg, Cmr}
-use Rattle.paper.specs.declared.Answer.the-variants.{Idle, Moved}
-use Rattle.paper.specs.Panel.Input.{Call, Choices, Buffers, size, graph}
+use Rattle.paper.specs.declared.Answer.{Answer}
+use Rattle.paper.specs.declared.Answer.the-variants.{Idle, Held, Moved}
+use Rattle.paper.specs.Panel.Input.{Call, Choices, Buffers, pinned, size, graph}
 use Rattle.paper.specs.Panel.Made.{callOf, buffersOf}
-use Rattle.paper.specs.Panel.Takes.{isCmr, isPerm, labelsBy, moves, permsBy, greysBy, entries}
+use Rattle.paper.specs.Panel.Takes.{isCmr, isPerm, oneCluster, labelsBy, moves, permsBy, greysBy, entries}
 use Rattle.paper.specs.Site.Acting.{acts, SomeActs}
 use Rattle.paper.specs.Site.Bonds.{holds}
-use Rattle.paper.specs.Move.Moving.{Moves}
+use Rattle.paper.specs.Component.Sizes.{labelOf}
+use Rattle.paper.specs.Move.Moving.{hasOne, Moves}
 use Rattle.paper.specs.Refusal.Kept.{Valid, valid-kept}
-use Rattle.paper.specs.Answer.Move.{Answers}
+use Rattle.paper.specs.Answer.Move.{SeedHeld, Seen, Answers}
 use Rattle.laws.specs.Forms.{forms-apart}
 use Rattle.laws.specs.Choices.{flips-taken, perms-taken, flips-bytes, perms-bytes}
 use Rattle.laws.specs.Unique.{label-lt}
+use Rattle.laws.specs.Holding.{held-labels}
+use Rattle.columns.specs.Rows.{Written}
 use Rattle.column_rules.specs.Sight.{none-acts}
 use Rattle.moves.specs.Tested.{TestedFor, ready}
 use Rattle.moves.specs.Moved.{Rows}
@@ -50,6 +55,7 @@ valid-with {c} f v others = let s = v .sound in let e = s .exact in record {
       spins = e .spins;
       fwd = e .fwd;
       bwd = e .bwd;
+      pins = e .pins;
       couplings = e .couplings;
       cuts = e .cuts;
       choices = e .choices;
@@ -64,6 +70,7 @@ valid-with {c} f v others = let s = v .sound in let e = s .exact in record {
     };
     spins = s .spins;
     inverse = s .inverse;
+    pins = s .pins;
     grouped = s .grouped;
     couplings = s .couplings;
     warm = s .warm;
@@ -86,11 +93,11 @@ abbrev pub area : ℕ → ℕ → List ℕ
 area m k = take k (replicate m 0)
 
 module _
-    (t : Task) (fwd bwd : List ℕ) (couplings : List ℤ) (cuts : List Float) (p : Choices) (b : Buffers)
-    (f : labelsBy (t .form) ≡ true) (v : Valid (callOf t fwd bwd couplings cuts) p b)
+    (t : Task) (fwd bwd pins : List ℕ) (couplings : List ℤ) (cuts : List Float) (p : Choices) (b : Buffers)
+    (f : labelsBy (t .form) ≡ true) (v : Valid (callOf t fwd bwd pins couplings cuts) p b)
   where
     abbrev c : Call
-    c = callOf t fwd bwd couplings cuts
+    c = callOf t fwd bwd pins couplings cuts
 
     tested : TestedFor c (b .spins)
     tested = ready c p b (v .sound)
@@ -142,7 +149,7 @@ module _
       -- ---- choose and write
       pub choose-asks :
           moves (t .form) ≡ true
-          → ChooseAsks t fwd (p .choices) (p .greys) flags grey l tally (area 4096 (t .n)) cols (b .greyLabels) (b .greyFound)
+          → ChooseAsks t fwd pins (p .choices) (p .greys) flags grey l tally (area 4096 (t .n)) cols (b .greyLabels) (b .greyFound)
       choose-asks moving = record {
         choosable = record {
           few = omega (arith, long, n-high);
@@ -150,7 +157,6 @@ module _
           labels-long = d .labelled .labels .long ∙ sym long;
           reached-long = length-take-le (t .n) _ n-high ∙ sym long;
           below = λ i h. rw long (label-lt (graph c) (holds c (b .spins)) l (d .labelled .labels) i (rw long at h));
-          tallied = d .tallied;
           seeded = λ e. rw long (v .fit .seeded .below e);
           reference = λ e. rw long (v .fit .chosen .reference e);
           moving = moving;
@@ -164,7 +170,9 @@ module _
               places-of _ (size c) (p .choices) (omega (arith, tested .size-low)) (rows-long e) (v .fit .chosen .perms q);
           narrow = λ i h. columns-narrow (d .columns) i (rw long at h);
         };
+        tallied = d .tallied;
         cols-long = long;
+        pins-long = v .sound .exact .pins;
         greyable = λ e. record {
           d-high = tested .d-high;
           fwd-long = tested .fwd-long;
@@ -189,8 +197,8 @@ module _
           greying e = rw (moving, e) refl
 
       module _
-          {new greyLabels greyFound : List ℕ}
-          (w : ChooseLeaves t fwd (p .choices) (p .greys) flags grey l cols (b .greyLabels) (b .greyFound) new greyLabels greyFound)
+          {new greyLabels greyFound : List ℕ} {held : Bool}
+          (w : ChooseLeaves t fwd pins (p .choices) (p .greys) flags grey l cols (b .greyLabels) (b .greyFound) new greyLabels greyFound held)
         where
           pub new-long : length new ≡ t .n
           new-long = w .columns .long ∙ long
@@ -205,12 +213,13 @@ module _
           }
 
           -- ---- the answers
-          moved-by : {ys : List ℤ} → moves (t .form) ≡ true → WriteLeaves t new (b .spins) ys → Moves c p (b .spins) l greyLabels ys
+          moved-by :
+              {ys : List ℤ} → moves (t .form) ≡ true → Written (t .n) (t .group .len) (t .group) new (b .spins) ys → Moves c p (b .spins) l greyLabels ys
           moved-by {ys} moving o = record {
             long = o .long;
             group =
                 spins-back c p (b .spins) l greyLabels tested (v .fit .chosen .reference) (λ _. rows) new ys
-                (final-columns t fwd bwd couplings cuts p (b .spins) l greyLabels tested (v .fit .chosen .reference) (λ _. rows) moving (d .acting)
+                (final-columns t fwd bwd pins couplings cuts p (b .spins) l greyLabels tested (v .fit .chosen .reference) (λ _. rows) moving (d .acting)
                 (d .columns) (w .columns))
                 (o .group);
             others = o .others;
@@ -219,29 +228,51 @@ module _
               rows : Rows c p l
               rows = rows-of c p (b .spins) l moving (d .labelled .labels) (v .fit .chosen .perms)
 
-          pub moved-answers :
-              {ys : List ℤ} → not r ≡ false → moves (t .form) ≡ true → WriteLeaves t new (b .spins) ys
-              → Answers c p b Moved (buffersOf ys l greyLabels counts sizes (b .members) found greyFound)
-          moved-answers e moving o = record {
-            valid = valid-kept c p b v;
-            some = passed r e (d .some);
-            moved = λ _. moved-by moving o;
-            turned = forms-apart (t .form) f;
-            seen = record {
-              all = λ _. record {
-                labels = d .labelled;
-                grey-labels = λ q.
-                    let cmr = and-right (moves (t .form)) (isCmr (t .mode)) q in
-                    grey-labels c (b .spins) grey greyLabels (d .grey-held cmr moving) (w .grey-labels cmr);
-                grey-kept = λ q. w .grey-kept (rw moving at q);
-                grey-found-kept = λ q. w .grey-found-kept (rw moving at q);
-                counts = d .counted;
-                sizes = d .largest;
-                members-kept = refl;
-              };
-              one = forms-apart (t .form) f;
+          seen-moving : {ys : List ℤ} → moves (t .form) ≡ true → Seen c b (buffersOf ys l greyLabels counts sizes (b .members) found greyFound)
+          seen-moving moving = record {
+            all = λ _. record {
+              labels = d .labelled;
+              grey-labels = λ q.
+                  let cmr = and-right (moves (t .form)) (isCmr (t .mode)) q in
+                  grey-labels c (b .spins) grey greyLabels (d .grey-held cmr moving) (w .grey-labels cmr);
+              grey-kept = λ q. w .grey-kept (rw moving at q);
+              grey-found-kept = λ q. w .grey-found-kept (rw moving at q);
+              counts = d .counted;
+              sizes = d .largest;
+              members-kept = refl;
             };
+            one = forms-apart (t .form) f;
           }
+
+          -- whether the seed's component is held, by its label and by the bonds
+          seed-held : oneCluster (t .form) ≡ true → (hasOne (pinned c) l (labelOf l (t .seed)) ≡ true) ↔ SeedHeld c (b .spins)
+          seed-held q = held-labels c (b .spins) (v .fit .seeded .below q) l (d .labelled .labels)
+
+          pub done-answers :
+              {a : Answer} {ys : List ℤ} → not r ≡ false → moves (t .form) ≡ true → WriteLeaves t held new (b .spins) a ys
+              → Answers c p b a (buffersOf ys l greyLabels counts sizes (b .members) found greyFound)
+          done-answers {a} {ys} e moving o = rw (o .answer) (go held refl)
+            where
+              go : (h : Bool) → held ≡ h → Answers c p b (cond h Held Moved) (buffersOf ys l greyLabels counts sizes (b .members) found greyFound)
+              go true h =
+                  let q = sym (w .held) ∙ h in
+                  let one = and-left (oneCluster (t .form)) _ q in
+                  record {
+                    valid = valid-kept c p b v;
+                    some = passed r e (d .some);
+                    one = one;
+                    held = seed-held one .0 (and-right (oneCluster (t .form)) _ q);
+                    still = o .kept h;
+                    seen = seen-moving moving;
+                  }
+              go false h = record {
+                valid = valid-kept c p b v;
+                some = passed r e (d .some);
+                free = λ one s. never (sym h ∙ (w .held ∙ rw (one, seed-held one .1 s) refl));
+                moved = λ _. moved-by moving (o .written h);
+                turned = forms-apart (t .form) f;
+                seen = seen-moving moving;
+              }
 
       pub observe-answers :
           not r ≡ false → moves (t .form) ≡ false
@@ -249,6 +280,7 @@ module _
       observe-answers e resting = record {
         valid = valid-kept c p b v;
         some = passed r e (d .some);
+        free = λ q. never (rw (no-move (t .form) resting) at q);
         moved = λ _. observed c p (b .spins) l (b .greyLabels) (no-move (t .form) resting);
         turned = forms-apart (t .form) f;
         seen = record {

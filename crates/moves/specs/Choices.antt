@@ -1,7 +1,7 @@
 -- What accepted choices tell the choosing functions.
 use Prim.Native.Nat.{ℕ, _+_, _*_, _/_, _%_, _^_, _<_}
 use mathlib.Core.Path.{_≡_, refl, ap}
-use mathlib.Core.Bool.{Bool, true, _&&_}
+use mathlib.Core.Bool.{Bool, true, not, _&&_}
 use mathlib.Core.List.{List}
 use native.Mathlib.Nat.{div-add-mod', mod-lt, div-lt-iff-lt-mul}
 use lib.ListN.{length, getD}
@@ -13,7 +13,7 @@ use Rattle.paper.specs.Site.Bonds.{holds}
 use Rattle.paper.specs.Component.Labels.{Labels}
 use Rattle.paper.specs.Component.Sizes.{labelOf}
 use Rattle.paper.specs.Component.Marks.{Flags}
-use Rattle.paper.specs.Move.Moving.{reached, reachedBy}
+use Rattle.paper.specs.Move.Moving.{reached, reachedBy, held}
 use Rattle.paper.specs.Refusal.Rules.{Permutes}
 use Rattle.laws.specs.Unique.{label-lt}
 use Rattle.laws.specs.Entries.{entry-lt}
@@ -41,10 +41,10 @@ rows-of c p xs l m h each e i hi =
 -- the sites that the choosing functions reach are the call's
 pub reached-is :
     (c : Call) (xs : List ℤ) (l flags : List ℕ) → Flags (c .lattice .n) (acts c xs) flags
-    → (i : ℕ) → i < c .lattice .n → reachedAt (c .form) (c .mode) (c .seed) flags l i ≡ reached c xs l i
+    → (i : ℕ) → i < c .lattice .n → reachedAt (c .form) (c .mode) (c .seed) (c .pins) flags l i ≡ reached c xs l i
 unfolding reached
 reached-is c xs l flags h i hi =
-    ap (λ (t : Bool). t && reachedBy (c .form) (c .mode) (c .seed) l i) (flag-at (c .lattice .n) (acts c xs) flags h i hi)
+    ap (λ (t : Bool). t && (reachedBy (c .form) (c .mode) (c .seed) l i && not (held c l i))) (flag-at (c .lattice .n) (acts c xs) flags h i hi)
 
 pub columns-narrow : {n m : ℕ} {f : ℕ → Pattern} {cols : List ℕ} → Columns n m f cols → (i : ℕ) → i < n → getD cols i 0 < 2 ^ m
 columns-narrow {n} {m} {f} {cols} h i l = rw (h .at i l) (column-lt m (f i))

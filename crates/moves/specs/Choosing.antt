@@ -1,26 +1,30 @@
 -- The new columns that the choosing functions leave are those of the components' choices.
 use Prim.Native.Nat.{ℕ, _^_, _<_}
-use mathlib.Core.Path.{_≡_, refl, _∙_, ap, subst}
+use mathlib.Core.Path.{_≡_, refl, sym, _∙_, ap, subst}
 use mathlib.Core.Bool.{Bool, true, false, cond, _&&_}
 use mathlib.Core.List.{List}
+use native.Mathlib.Omega.{arith}
+use borrow.Author.Tests.{ne-eqb}
+use lib.Dec.{eqb}
 use lib.ListN.{length, getD}
+use Rattle.paper.specs.declared.Form.{Form}
 use Rattle.paper.specs.declared.Task.{Task}
-use Rattle.paper.specs.Panel.Takes.{isPerm, isCmr}
-use Rattle.paper.specs.Component.Sizes.{labelOf}
+use Rattle.paper.specs.Panel.Takes.{isPerm, isCmr, oneCluster}
+use Rattle.paper.specs.Component.Sizes.{labelOf, sizeOf}
 use Rattle.paper.specs.Component.Marks.{Flags}
-use Rattle.paper.specs.Move.Moving.{flipBy, greyAt}
+use Rattle.paper.specs.Move.Moving.{flipBy, greyAt, hasOne}
 use Rattle.columns.specs.Column.{shown, columnOf, flipped}
 use Rattle.columns.specs.Gauge.{gaugeOf}
 use Rattle.column_rules.specs.Tables.{Table}
-use Rattle.choose.specs.Chosen.{Becomes, reachedAt, flippedAt, permutedAt, greyed, greyedAt}
+use Rattle.choose.specs.Chosen.{Becomes, isOne, has-itself, Holdable, heldBack, Freed, freed, reachedAt, flippedAt, permutedAt, greyed, greyedAt}
 use Rattle.column_rules.specs.Sight.{flag-at}
 use Rattle.column_rules.specs.Acted.{choiceColumn, flip-choice, perm-choice, cmr-narrow}
-use Rattle.moves.specs.Steps.{chosenAt, finalAt}
+use Rattle.moves.specs.Steps.{SeedAsks, ChooseAsks, chosenAt, finalAt}
 
 -- ---- `choose_columns`
 module _
-    (t : Task) (n : ℕ) (acts labels choices reached cols : List ℕ)
-    (marks : Flags n (reachedAt (t .form) (t .mode) (t .seed) acts labels) reached)
+    (t : Task) (n : ℕ) (pins acts labels choices reached cols : List ℕ)
+    (marks : Flags n (reachedAt (t .form) (t .mode) (t .seed) pins acts labels) reached)
   where
     abbrev m : ℕ
     m = t .group .len
@@ -31,10 +35,10 @@ module _
     pub by-flips :
         (table : List ℕ) → isPerm (t .mode) ≡ false → Table m (λ x. columnOf m (flipped (t .mode) m (shown x))) table
         → (i : ℕ) → i < n → getD cols i 0 < 2 ^ m
-        → flippedAt (t .form) reached labels choices table cols i ≡ chosenAt t acts labels choices cols i
+        → flippedAt (t .form) reached labels choices table cols i ≡ chosenAt t pins acts labels choices cols i
     by-flips table e h i l narrow =
-        rw (flag-at n (reachedAt (t .form) (t .mode) (t .seed) acts labels) reached marks i l, h .at (getD cols i 0) narrow)
-        (go (reachedAt (t .form) (t .mode) (t .seed) acts labels i) (flipBy (t .form) choices (labelOf labels i)) refl)
+        rw (flag-at n (reachedAt (t .form) (t .mode) (t .seed) pins acts labels) reached marks i l, h .at (getD cols i 0) narrow)
+        (go (reachedAt (t .form) (t .mode) (t .seed) pins acts labels i) (flipBy (t .form) choices (labelOf labels i)) refl)
       where
         go :
             (b f : Bool) → f ≡ flipBy (t .form) choices (labelOf labels i)
@@ -45,16 +49,16 @@ module _
 
     pub by-perms :
         (x : ℕ) → x ≡ g → isPerm (t .mode) ≡ true → (i : ℕ) → i < n
-        → permutedAt (t .form) m x reached labels choices cols i ≡ chosenAt t acts labels choices cols i
+        → permutedAt (t .form) m x reached labels choices cols i ≡ chosenAt t pins acts labels choices cols i
     by-perms x q e i l =
-        rw (flag-at n (reachedAt (t .form) (t .mode) (t .seed) acts labels) reached marks i l, q)
-        (ap (λ (y : ℕ). cond (reachedAt (t .form) (t .mode) (t .seed) acts labels i) y (getD cols i 0))
+        rw (flag-at n (reachedAt (t .form) (t .mode) (t .seed) pins acts labels) reached marks i l, q)
+        (ap (λ (y : ℕ). cond (reachedAt (t .form) (t .mode) (t .seed) pins acts labels i) y (getD cols i 0))
         (perm-choice (t .mode) (t .form) m g choices (labelOf labels i) (getD cols i 0) e))
 
 -- ---- with the grey half
-module _ (t : Task) (acts labels choices : List ℕ) {cols mid : List ℕ} (b : Becomes (chosenAt t acts labels choices cols) cols mid) where
+module _ (t : Task) (pins acts labels choices : List ℕ) {cols mid : List ℕ} (b : Becomes (chosenAt t pins acts labels choices cols) cols mid) where
   pub mid-two : isCmr (t .mode) ≡ true → t .group .len ≡ 2 → (i : ℕ) → i < length cols → getD cols i 0 < 2 ^ t .group .len → getD mid i 0 < 4
-  mid-two e two i l h = subst (λ (z : ℕ). getD mid i 0 < 2 ^ z) two (rw (b .at i l) (go (reachedAt (t .form) (t .mode) (t .seed) acts labels i)))
+  mid-two e two i l h = subst (λ (z : ℕ). getD mid i 0 < 2 ^ z) two (rw (b .at i l) (go (reachedAt (t .form) (t .mode) (t .seed) pins acts labels i)))
     where
       go :
           (r : Bool)
@@ -66,18 +70,69 @@ module _ (t : Task) (acts labels choices : List ℕ) {cols mid : List ℕ} (b : 
       go false = h
 
   pub plain-final :
-      (greyLabels greys : List ℕ) → isCmr (t .mode) ≡ false → Becomes (finalAt t acts labels greyLabels choices greys cols) cols mid
+      (greyLabels greys : List ℕ) → isCmr (t .mode) ≡ false → Becomes (finalAt t pins acts labels greyLabels choices greys cols) cols mid
   plain-final greyLabels greys e = record { long = b .long; at = λ i l. rw e (b .at i l) }
 
   pub grey-final :
       (greyLabels greys : List ℕ) {reached new : List ℕ} → isCmr (t .mode) ≡ true
-      → Flags (length cols) (reachedAt (t .form) (t .mode) (t .seed) acts greyLabels) reached
+      → Flags (length cols) (reachedAt (t .form) (t .mode) (t .seed) pins acts greyLabels) reached
       → Becomes (greyedAt (t .form) reached greyLabels greys mid) mid new
-      → Becomes (finalAt t acts labels greyLabels choices greys cols) cols new
+      → Becomes (finalAt t pins acts labels greyLabels choices greys cols) cols new
   grey-final greyLabels greys {reached} {new} e marks w = record { long = w .long ∙ b .long; at = at }
     where
-      at : (i : ℕ) → i < length cols → getD new i 0 ≡ finalAt t acts labels greyLabels choices greys cols i
+      at : (i : ℕ) → i < length cols → getD new i 0 ≡ finalAt t pins acts labels greyLabels choices greys cols i
       at i l =
           w .at i (rw (b .long) l)
           ∙ (ap (λ (r : Bool). cond r (greyed (greyAt (t .form) greys (labelOf greyLabels i)) (getD mid i 0)) (getD mid i 0)) (flag-at _ _ reached marks i l)
           ∙ rw (e, b .at i l) refl)
+
+-- ---- whether the seed's component is held: by its size, which is then 0
+none-left : (held : Bool) (size : ℕ) → 0 < size → eqb (cond held 0 size) 0 ≡ held
+none-left true size h = refl
+none-left false size h = ne-eqb size 0 (λ q. omega arith)
+
+held-by-size :
+    (form : Form) (seed : ℕ) {pins labels tally : List ℕ} → Freed pins labels tally → (oneCluster form ≡ true → SeedAsks seed labels tally)
+    → (oneCluster form && eqb (getD tally (labelOf labels seed) 0) 0) ≡ (oneCluster form && hasOne (isOne pins) labels (labelOf labels seed))
+held-by-size form seed {pins} {labels} {tally} f asks = go (oneCluster form) refl
+  where
+    go :
+        (one : Bool) → oneCluster form ≡ one
+        → (one && eqb (getD tally (labelOf labels seed) 0) 0) ≡ (one && hasOne (isOne pins) labels (labelOf labels seed))
+    go true q =
+        let a = asks q in
+        rw (f .each (labelOf labels seed) (omega (arith, a .below, f .long)))
+        (none-left (hasOne (isOne pins) labels (labelOf labels seed)) (sizeOf labels (labelOf labels seed)) (has-itself labels seed (a .site)))
+    go false q = refl
+
+-- ---- the first `hold_back` of `choose_task`: what it asks, and what the sizes that it leaves tell
+module _
+    {t : Task} {fwd pins choices greys flags grey labels tally reached cols greyLabels greyFound : List ℕ}
+    (p : ChooseAsks t fwd pins choices greys flags grey labels tally reached cols greyLabels greyFound)
+  where
+    pub holdable : Holdable pins labels tally
+    holdable = record {
+      labelled = p .choosable .labels-long ∙ same;
+      tallied = p .tallied .long ∙ (p .choosable .labels-long ∙ same);
+      below = λ i h. subst (λ (z : ℕ). getD labels i 0 < z) same (p .choosable .below i (subst (λ (z : ℕ). i < z) (sym same) h));
+    }
+      where
+        same : length cols ≡ length pins
+        same = p .cols-long ∙ sym (p .pins-long)
+
+    module _ {new : List ℕ} (b : Becomes (heldBack pins labels tally) tally new) where
+      pub free-sizes : Freed pins labels new
+      free-sizes = freed {pins = pins} (p .tallied) b
+
+      pub seed-asks : oneCluster (t .form) ≡ true → SeedAsks (t .seed) labels new
+      seed-asks e =
+          let h = p .choosable .seeded e in
+          record {
+            site = omega (arith, h, p .choosable .labels-long);
+            below = omega (arith, p .choosable .below (t .seed) h, p .choosable .labels-long, p .tallied .long, b .long);
+          }
+
+      pub held-told :
+          (oneCluster (t .form) && eqb (getD new (labelOf labels (t .seed)) 0) 0)
+          ≡ (oneCluster (t .form) && hasOne (isOne pins) labels (labelOf labels (t .seed)))
+      held-told = held-by-size (t .form) (t .seed) free-sizes seed-asks

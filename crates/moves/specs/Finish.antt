@@ -1,12 +1,12 @@
 -- What the steps of a task come to: the patterns that the paper's move leaves.
 use Prim.Native.Nat.{ℕ, _<_}
 use mathlib.Core.Path.{_≡_, refl, sym, _∙_, ap}
-use mathlib.Core.Bool.{Bool, true, false, cond, _&&_}
+use mathlib.Core.Bool.{Bool, true, false, not, cond, _&&_}
 use mathlib.Core.List.{List}
 use lib.ListN.{getD}
 use lib.IntN.{ℤ, negℤ}
 use lib.Ieee.{Float}
-use Rattle.lemmas.specs.Bools.{never}
+use Rattle.lemmas.specs.Bools.{never, and-no}
 use Rattle.paper.specs.declared.Task.{Task}
 use Rattle.paper.specs.declared.Form.{Form}
 use Rattle.paper.specs.declared.Form.the-variants.{Sw, Wolff, Observe, Grow}
@@ -16,7 +16,7 @@ use Rattle.paper.specs.Panel.Takes.{isGperm, isCmr, moves, takesGreys}
 use Rattle.paper.specs.Site.Acting.{acts}
 use Rattle.paper.specs.Component.Sizes.{labelOf}
 use Rattle.paper.specs.Component.Marks.{Flags}
-use Rattle.paper.specs.Move.Moving.{flipSome, greyBit, greyAt, reached, reachedBy, after, final, Moves}
+use Rattle.paper.specs.Move.Moving.{flipSome, greyBit, greyAt, reached, reachedBy, held, after, final, Moves}
 use Rattle.paper.specs.Refusal.Rules.{Spin}
 use Rattle.laws.specs.Patterns.{flip-spin}
 use Rattle.columns.specs.Column.{shown, columnOf, shown-column, column-ext, Columns}
@@ -30,12 +30,9 @@ use Rattle.moves.specs.Steps.{chosenAt, finalAt}
 use Rattle.moves.specs.Choices.{reached-is}
 
 -- ---- to observe moves nothing
-unreached : (f : Form) (c : Call) (xs : List ℤ) (l : List ℕ) (i : ℕ) → f ≡ Observe → (acts c xs i && reachedBy f (c .mode) (c .seed) l i) ≡ false
-unreached f c xs l i e = rw e (and-false (acts c xs i))
-  where
-    and-false : (t : Bool) → (t && false) ≡ false
-    and-false true = refl
-    and-false false = refl
+unreached : (f : Form) (c : Call) (xs : List ℤ) (l : List ℕ) (i : ℕ) → f ≡ Observe
+    → (acts c xs i && (reachedBy f (c .mode) (c .seed) l i && not (held c l i))) ≡ false
+unreached f c xs l i e = rw e (and-no (acts c xs i))
 
 pub no-move : (f : Form) → moves f ≡ false → f ≡ Observe
 no-move Sw e = never (sym e)
@@ -94,14 +91,14 @@ module _
     spins-back cols ys h w i k hi hk = w i k hi hk ∙ columns-shown h i k hi hk (final-spin i k hi hk)
 
 module _
-    (t : Task) (fwd bwd : List ℕ) (couplings : List ℤ) (cuts : List Float) (p : Choices) (xs : List ℤ) (l g : List ℕ)
-    (r : TestedFor (callOf t fwd bwd couplings cuts) xs) (reference : isGperm (t .mode) ≡ true → t .reference < t .n)
-    (rows : moves (t .form) ≡ true → Rows (callOf t fwd bwd couplings cuts) p l) {flags cols : List ℕ} (moving : moves (t .form) ≡ true)
-    (acting : Flags (t .n) (acts (callOf t fwd bwd couplings cuts) xs) flags)
-    (columns : Columns (t .n) (t .group .len) (pattern (callOf t fwd bwd couplings cuts) xs) cols)
+    (t : Task) (fwd bwd pins : List ℕ) (couplings : List ℤ) (cuts : List Float) (p : Choices) (xs : List ℤ) (l g : List ℕ)
+    (r : TestedFor (callOf t fwd bwd pins couplings cuts) xs) (reference : isGperm (t .mode) ≡ true → t .reference < t .n)
+    (rows : moves (t .form) ≡ true → Rows (callOf t fwd bwd pins couplings cuts) p l) {flags cols : List ℕ} (moving : moves (t .form) ≡ true)
+    (acting : Flags (t .n) (acts (callOf t fwd bwd pins couplings cuts) xs) flags)
+    (columns : Columns (t .n) (t .group .len) (pattern (callOf t fwd bwd pins couplings cuts) xs) cols)
   where
     abbrev c : Call
-    c = callOf t fwd bwd couplings cuts
+    c = callOf t fwd bwd pins couplings cuts
 
     abbrev m : ℕ
     m = t .group .len
@@ -113,7 +110,7 @@ module _
     y = gaugeOf (t .mode) m (getD cols (t .reference) 0)
 
     abbrev chosen : ℕ → ℕ
-    chosen i = chosenAt t flags l (p .choices) cols i
+    chosen i = chosenAt t pins flags l (p .choices) cols i
 
     chosen-at : (i : ℕ) → i < t .n → chosen i ≡ columnOf m (after c p xs l i)
     chosen-at i hi =
@@ -126,7 +123,7 @@ module _
     abbrev greyNumber : ℕ → ℕ
     greyNumber i = greyAt (t .form) (p .greys) (labelOf g i)
 
-    final-at : (i : ℕ) → i < t .n → finalAt t flags l g (p .choices) (p .greys) cols i ≡ columnOf m (final c p xs l g i)
+    final-at : (i : ℕ) → i < t .n → finalAt t pins flags l g (p .choices) (p .greys) cols i ≡ columnOf m (final c p xs l g i)
     unfolding final
     final-at i hi =
         ap
@@ -146,5 +143,5 @@ module _
 
     pub final-columns :
         {new : List ℕ}
-        → Becomes (finalAt t flags l g (p .choices) (p .greys) cols) cols new → Columns (t .n) m (final c p xs l g) new
+        → Becomes (finalAt t pins flags l g (p .choices) (p .greys) cols) cols new → Columns (t .n) m (final c p xs l g) new
     final-columns b = record { long = b .long ∙ columns .long; at = λ i hi. b .at i (rw (columns .long) hi) ∙ final-at i hi }

@@ -176,12 +176,12 @@ stored-number {t} {holding} {l} {k} found one w = record {
 -- ---- label: from what its parts leave to what it leaves
 module _
     {t : Task} {fwd : List ℕ} {couplings : List ℤ} {cuts : List Float} {xs : List ℤ} {cols flags holding grey tally labels counts sizes : List ℕ} {r : Bool}
-    {k : ℕ} (bwd found : List ℕ) (h : HoldLeaves t fwd couplings cuts flags cols holding grey) (tested : Tested (t .mode) (t .n) (t .d) fwd (t .group) xs)
+    {k : ℕ} (bwd pins found : List ℕ) (h : HoldLeaves t fwd couplings cuts flags cols holding grey) (tested : Tested (t .mode) (t .n) (t .d) fwd (t .group) xs)
     (s : Sights (t .mode) (t .n) (t .group) (t .reference) xs cols flags r)
     (l : Labelled (t .n) (t .d) fwd holding labels tally k) (o : Reported (isOne flags) labels counts sizes) (one : length found ≡ 1)
   where
     abbrev c : Call
-    c = callOf t fwd bwd couplings cuts
+    c = callOf t fwd bwd pins couplings cuts
 
     acting : Flags (t .n) (acts c xs) flags
     acting = acts-flags c xs flags (s .flagged)

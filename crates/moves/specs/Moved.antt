@@ -4,14 +4,12 @@ use mathlib.Core.Path.{_≡_, refl}
 use mathlib.Core.Bool.{Bool, true, false, cond}
 use mathlib.Core.List.{List}
 use lib.IntN.{ℤ}
-use Rattle.lemmas.specs.Bools.{and-right}
 use Rattle.paper.specs.Panel.Input.{Call, Choices, Pattern, pattern, size}
 use Rattle.paper.specs.Panel.Takes.{isPerm, isGperm, moves}
-use Rattle.paper.specs.Site.Acting.{acts}
 use Rattle.paper.specs.Component.Sizes.{labelOf}
 use Rattle.paper.specs.Move.Moving.{permAt, actBy, reached, after}
 use Rattle.paper.specs.Refusal.Rules.{Spin, Permutes}
-use Rattle.laws.specs.Entries.{form-moves}
+use Rattle.laws.specs.Entries.{reached-moves}
 use Rattle.columns.specs.Column.{columnOf}
 use Rattle.columns.specs.Gauge.{gaugeOf}
 use Rattle.column_rules.specs.Acted.{choiceColumn, acted, acted-spin}
@@ -35,8 +33,7 @@ module _
     rows-at :
         (i : ℕ) → i < c .lattice .n → reached c xs l i ≡ true → isPerm (c .mode) ≡ true
         → Permutes (size c) (permAt (c .form) (size c) (p .choices) (labelOf l i))
-    unfolding reached
-    rows-at i h e q = rows (form-moves (c .form) c l i (and-right (acts c xs i) _ e)) q i h
+    rows-at i h e q = rows (reached-moves c xs l i e) q i h
 
     -- the site's new column, where it is reached and where not
     pub chosen-column :

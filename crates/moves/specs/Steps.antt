@@ -10,6 +10,8 @@ use Rattle.lemmas.specs.Tells.{Tells}
 use Rattle.paper.specs.declared.Task.{Task}
 use Rattle.paper.specs.declared.Mode.{Mode}
 use Rattle.paper.specs.declared.Sampler.{Sampler}
+use Rattle.paper.specs.declared.Answer.{Answer}
+use Rattle.paper.specs.declared.Answer.the-variants.{Held, Moved}
 use Rattle.paper.specs.Panel.Input.{Call, pattern, member, graph, size}
 use Rattle.paper.specs.Panel.Takes.{isPerm, isGperm, isCmr, isDrawn, oneCluster, moves, entries, flipsBy}
 use Rattle.paper.specs.Site.Acting.{acts, SomeActs}
@@ -17,7 +19,7 @@ use Rattle.paper.specs.Site.Bonds.{samplerOf, holds, holdsGrey}
 use Rattle.paper.specs.Component.Labels.{Numbered}
 use Rattle.paper.specs.Component.Sizes.{labelOf, Sized, Counted, Largest}
 use Rattle.paper.specs.Component.Marks.{Flags, Marks, marked}
-use Rattle.paper.specs.Move.Moving.{greyAt}
+use Rattle.paper.specs.Move.Moving.{greyAt, hasOne}
 use Rattle.paper.specs.Refusal.Rules.{Distinct}
 use Rattle.columns.specs.Column.{Inside, Columns}
 use Rattle.columns.specs.Rows.{Written}
@@ -25,7 +27,7 @@ use Rattle.columns.specs.Gauge.{gaugeOf}
 use Rattle.bonds.specs.Table as table
 use Rattle.bonds.specs.Table.{Coupled, ActiveIn, bothActing, jorgAt, blueAt}
 use Rattle.label.specs.Contract.{graphOf}
-use Rattle.choose.specs.Chosen.{Becomes, reachedAt, greyed}
+use Rattle.choose.specs.Chosen.{Becomes, isOne, Freed, reachedAt, greyed}
 use Rattle.column_rules.specs.Acted.{choiceColumn}
 use Rattle.moves.specs.Tested.{Tested}
 
@@ -83,13 +85,12 @@ pub record LabelLeaves (c : Call) (xs : List ℤ) (cols flags grey tally labels 
   pub largest : Largest (acts c xs) labels sizes
 
 -- ---- choose: the new columns. Of the labels it needs a key for each site, below n, and how many sites have it
-pub record Choosable (t : Task) (flags labels tally choices reached cols : List ℕ) : Type 0 where
+pub record Choosable (t : Task) (flags labels choices reached cols : List ℕ) : Type 0 where
   pub few : length cols ≤ 4096
   pub flags-long : length flags ≡ length cols
   pub labels-long : length labels ≡ length cols
   pub reached-long : length reached ≡ length cols
   pub below : (i : ℕ) → i < length cols → getD labels i 0 < length cols
-  pub tallied : Sized labels tally
   pub seeded : oneCluster (t .form) ≡ true → t .seed < length cols
   pub reference : isGperm (t .mode) ≡ true → t .reference < length cols
   pub moving : moves (t .form) ≡ true
@@ -112,28 +113,47 @@ pub record Greyable (t : Task) (fwd greys grey greyLabels greyFound : List ℕ) 
   pub found-long : length greyFound ≡ 1
   pub two : t .group .len ≡ 2
 
-pub record ChooseAsks (t : Task) (fwd choices greys flags grey labels tally reached cols greyLabels greyFound : List ℕ) : Type 0 where
-  pub choosable : Choosable t flags labels tally choices reached cols
+-- with sizes from which the held components were taken
+pub record ColumnsAsks (t : Task) (flags labels tally choices reached cols : List ℕ) : Type 0 where
+  pub choosable : Choosable t flags labels choices reached cols
+  pub pins : List ℕ
+  pub tallied : Freed pins labels tally
+
+-- the seed has a label, and that a size
+pub record SeedAsks (seed : ℕ) (labels tally : List ℕ) : Type 0 where
+  pub site : seed < length labels
+  pub below : getD labels seed 0 < length tally
+
+pub record ChooseAsks (t : Task) (fwd pins choices greys flags grey labels tally reached cols greyLabels greyFound : List ℕ) : Type 0 where
+  pub choosable : Choosable t flags labels choices reached cols
+  pub tallied : Sized labels tally
   pub cols-long : length cols ≡ t .n
+  pub pins-long : length pins ≡ t .n
   pub greyable : isCmr (t .mode) ≡ true → Greyable t fwd greys grey greyLabels greyFound
 
 -- the new column of the site i from the choice of its component
-abbrev pub chosenAt : Task → List ℕ → List ℕ → List ℕ → List ℕ → ℕ → ℕ
-chosenAt t flags labels choices cols i =
-    cond (reachedAt (t .form) (t .mode) (t .seed) flags labels i)
+abbrev pub chosenAt : Task → List ℕ → List ℕ → List ℕ → List ℕ → List ℕ → ℕ → ℕ
+chosenAt t pins flags labels choices cols i =
+    cond (reachedAt (t .form) (t .mode) (t .seed) pins flags labels i)
     (choiceColumn (t .mode) (t .form) (t .group .len) (gaugeOf (t .mode) (t .group .len) (getD cols (t .reference) 0)) choices (labelOf labels i)
     (getD cols i 0))
     (getD cols i 0)
 
--- and in CMR then from the grey number of its grey component
-abbrev pub finalAt : Task → List ℕ → List ℕ → List ℕ → List ℕ → List ℕ → List ℕ → ℕ → ℕ
-finalAt t flags labels greyLabels choices greys cols i =
-    cond (isCmr (t .mode) && reachedAt (t .form) (t .mode) (t .seed) flags greyLabels i)
-    (greyed (greyAt (t .form) greys (labelOf greyLabels i)) (chosenAt t flags labels choices cols i))
-    (chosenAt t flags labels choices cols i)
+-- for the pins by which the components were taken from the sizes
+abbrev pub ColumnsLeave : Task → List ℕ → List ℕ → List ℕ → List ℕ → List ℕ → List ℕ → Type 0
+ColumnsLeave t flags labels tally choices cols new = (pins : List ℕ) → Freed pins labels tally → Becomes (chosenAt t pins flags labels choices cols) cols new
 
-pub record ChooseLeaves (t : Task) (fwd choices greys flags grey labels cols lent lentFound new greyLabels greyFound : List ℕ) : Type 0 where
-  pub columns : Becomes (finalAt t flags labels greyLabels choices greys cols) cols new
+-- and in CMR then from the grey number of its grey component
+abbrev pub finalAt : Task → List ℕ → List ℕ → List ℕ → List ℕ → List ℕ → List ℕ → List ℕ → ℕ → ℕ
+finalAt t pins flags labels greyLabels choices greys cols i =
+    cond (isCmr (t .mode) && reachedAt (t .form) (t .mode) (t .seed) pins flags greyLabels i)
+    (greyed (greyAt (t .form) greys (labelOf greyLabels i)) (chosenAt t pins flags labels choices cols i))
+    (chosenAt t pins flags labels choices cols i)
+
+-- r tells whether the one component that the form moves is held
+pub record ChooseLeaves (t : Task) (fwd pins choices greys flags grey labels cols lent lentFound new greyLabels greyFound : List ℕ) (r : Bool) : Type 0 where
+  pub columns : Becomes (finalAt t pins flags labels greyLabels choices greys cols) cols new
+  pub held : r ≡ (oneCluster (t .form) && hasOne (isOne pins) labels (labelOf labels (t .seed)))
   pub grey-labels : isCmr (t .mode) ≡ true → Numbered (graphOf (t .n) (t .d) fwd) (marked (t .d) grey) greyLabels greyFound
   pub grey-kept : isCmr (t .mode) ≡ false → greyLabels ≡ lent
   pub grey-found-kept : isCmr (t .mode) ≡ false → greyFound ≡ lentFound
@@ -146,6 +166,8 @@ pub record WriteAsks (t : Task) (xs : List ℤ) (cols : List ℕ) : Type 0 where
   pub distinct : Distinct (t .group .len) (member (t .group))
   pub cols-long : length cols ≡ t .n
 
--- the group's rows are those that the columns show, and the others' are as they were
-abbrev pub WriteLeaves : Task → List ℕ → List ℤ → List ℤ → Type 0
-WriteLeaves t cols xs ys = Written (t .n) (t .group .len) (t .group) cols xs ys
+-- the group's rows are those that the columns show, and the others' are as they were; where the seed's component is held, all are
+pub record WriteLeaves (t : Task) (held : Bool) (cols : List ℕ) (xs : List ℤ) (r : Answer) (ys : List ℤ) : Type 0 where
+  pub answer : r ≡ cond held Held Moved
+  pub written : held ≡ false → Written (t .n) (t .group .len) (t .group) cols xs ys
+  pub kept : held ≡ true → ys ≡ xs

@@ -1,20 +1,27 @@
 // The work of one task, once its input is tested: label, choose, write.
+use lemmas::wide;
 use paper::Answer;
+use paper::Form;
 use paper::Sampler;
 use paper::Task;
 ghost use Prim.Native.Nat.{ℕ};
+ghost use mathlib.Core.Path.{_≡_};
+ghost use mathlib.Core.Bool.{true, _&&_};
 ghost use mathlib.Core.List.{List};
+ghost use lib.Dec.{eqb};
+ghost use lib.ListN.{getD};
+ghost use Rattle.paper.specs.Panel.Takes.{oneCluster};
 ghost use Rattle.paper.specs.Panel.Made.{callOf, choicesOf, buffersOf};
 ghost use Rattle.paper.specs.Answer.Move.{Answers};
-ghost use Rattle.choose.specs.Chosen.{Becomes};
 ghost use Rattle.moves.specs.Answered.{RunAsks};
 ghost use Rattle.moves.specs.Steps.{
   HoldAsks,
   HoldLeaves,
   LabelAsks,
   LabelLeaves,
-  Choosable,
-  chosenAt,
+  ColumnsAsks,
+  ColumnsLeave,
+  SeedAsks,
   ChooseAsks,
   ChooseLeaves,
   WriteAsks,
@@ -85,8 +92,8 @@ fn label_task(
 ) -> bool
     requires { ⌜ LabelAsks t (now fwd) (now couplings) (now cuts) (now spins)
         (now cols) (now acts) (now holds) (now grey) (now tally) (now labels) (now counts) (now sizes) (now found) ⌝ }
-    ensures { λ r. ⌜ ((bwd : List ℕ) → LabelLeaves
-        (callOf t (now (fwd .entry)) bwd (now (couplings .entry)) (now (cuts .entry))) (now (spins .entry))
+    ensures { λ r. ⌜ ((bwd pins : List ℕ) → LabelLeaves
+        (callOf t (now (fwd .entry)) bwd pins (now (couplings .entry)) (now (cuts .entry))) (now (spins .entry))
         (now (cols .exit)) (now (acts .exit)) (now (grey .exit)) (now (tally .exit)) (now (labels .exit)) (now (counts .exit)) (now (sizes .exit))
         (now (found .exit)) r) ⌝ }
 {
@@ -101,7 +108,7 @@ fn label_task(
     some
 }
 
-// Writes each site's new column from the choices of its component. In CMR these are the blue flips.
+// Writes each site's new column from the choices of its component, unless the tally says that it is held. In CMR these are the blue flips.
 fn choose_columns(
     t: Task,
     acts: &[u8],
@@ -111,10 +118,9 @@ fn choose_columns(
     reached: &mut [u8],
     cols: &mut [u8],
 )
-    requires { ⌜ Choosable t (now acts) (now labels) (now tally) (now choices) (now reached) (now cols) ⌝ }
-    ensures { λ _. ⌜ Becomes
-        (chosenAt t (now (acts .entry)) (now (labels .entry)) (now (choices .entry)) (now (cols .entry)))
-        (now (cols .entry)) (now (cols .exit)) ⌝ }
+    requires { ⌜ ColumnsAsks t (now acts) (now labels) (now tally) (now choices) (now reached) (now cols) ⌝ }
+    ensures { λ _. ⌜ ColumnsLeave t (now (acts .entry)) (now (labels .entry)) (now (tally .entry)) (now (choices .entry)) (now (cols .entry))
+        (now (cols .exit)) ⌝ }
 {
     let mode = t.mode;
     let form = t.form;
@@ -135,11 +141,23 @@ fn choose_columns(
     }
 }
 
+// Is the one component that the form would move held?
+fn seed_held(form: Form, seed: usize, labels: &[u32], tally: &[u32]) -> bool
+    requires { ⌜ (oneCluster form ≡ true → SeedAsks seed (now labels) (now tally)) ⌝ }
+    ensures { λ r. ⌜ r ≡ (oneCluster form && eqb (getD (now (tally .entry)) (getD (now (labels .entry)) seed 0) 0) 0) ⌝ }
+{
+    if form.one_cluster() {
+        return tally[wide(labels[seed])] == 0;
+    }
+    false
+}
+
 // The new column of every site; in CMR the blue flips, then grey labels, how many grey components there are, and what the grey numbers lent for them do.
-// No row is written.
+// A component with a pinned site is held, and keeps its columns. No row is written. True where the form moves one component and that is held.
 fn choose_task(
     t: Task,
     fwd: &[u32],
+    pins: &[u8],
     choices: &[u8],
     greys: &[u8],
     acts: &[u8],
@@ -150,39 +168,49 @@ fn choose_task(
     cols: &mut [u8],
     grey_labels: &mut [u32],
     grey_found: &mut [u32],
-)
-    requires { ⌜ ChooseAsks t (now fwd) (now choices) (now greys) (now acts) (now grey) (now labels) (now tally) (now reached) (now cols)
+) -> bool
+    requires { ⌜ ChooseAsks t (now fwd) (now pins) (now choices) (now greys) (now acts) (now grey) (now labels) (now tally) (now reached) (now cols)
         (now «grey_labels») (now «grey_found») ⌝ }
-    ensures { λ _. ⌜ ChooseLeaves t (now (fwd .entry)) (now (choices .entry)) (now (greys .entry))
+    ensures { λ r. ⌜ ChooseLeaves t (now (fwd .entry)) (now (pins .entry)) (now (choices .entry)) (now (greys .entry))
         (now (acts .entry)) (now (grey .entry)) (now (labels .entry)) (now (cols .entry)) (now («grey_labels» .entry)) (now («grey_found» .entry))
-        (now (cols .exit)) (now («grey_labels» .exit)) (now («grey_found» .exit)) ⌝ }
+        (now (cols .exit)) (now («grey_labels» .exit)) (now («grey_found» .exit)) r ⌝ }
 {
     let mode = t.mode;
     let form = t.form;
+    choose::hold_back(pins, labels, tally);
+    let held = seed_held(form, t.seed, labels, tally);
     choose_columns(t, acts, labels, tally, choices, reached, cols);
     if mode.is_cmr() {
         grey_found[0] = label::label(t.n, t.d, fwd, grey, grey_labels, tally);
+        choose::hold_back(pins, grey_labels, tally);
         choose::reach(mode, form, t.seed, acts, grey_labels, tally, reached);
         choose::grey_columns(form, reached, grey_labels, greys, cols);
     }
+    held
 }
 
-// The rows of the group from its columns.
-fn write_task(t: Task, spins: &mut [i8], cols: &[u8])
+// The rows of the group from its columns, unless the one component that the form would move is held: then all stay, in CMR those of grey sites too.
+fn write_task(t: Task, held: bool, spins: &mut [i8], cols: &[u8]) -> Answer
     requires { ⌜ WriteAsks t (now spins) (now cols) ⌝ }
-    ensures { λ _. ⌜ WriteLeaves t (now (cols .entry)) (now (spins .entry)) (now (spins .exit)) ⌝ }
+    ensures { λ r. ⌜ WriteLeaves t held (now (cols .entry)) (now (spins .entry)) r (now (spins .exit)) ⌝ }
 {
+    if held {
+        return Answer::Held;
+    }
     let group = t.group;
     columns::write_rows(spins, t.n, group, cols);
+    Answer::Moved
 }
 
-// One task of a form that labels, whose input is tested: labels, how many components there are, counts, sizes and spins as the paper has them. It is lent no
-// members, and keeps any. The work arrays are this call's own.
+// One task of a form that labels, whose input is tested: labels, how many components there are, counts, sizes and spins as the paper has them. Components
+// with a pinned site stay; held is the answer where that is the one that the form would move. It is lent no members, and keeps any. The work arrays are this
+// call's own.
 pub fn run_task(
     t: Task,
     spins: &mut [i8],
     fwd: &[u32],
     bwd: &[u32],
+    pins: &[u8],
     couplings: &[i32],
     cuts: &[f32],
     choices: &[u8],
@@ -195,11 +223,11 @@ pub fn run_task(
     grey_found: &mut [u32],
 ) -> Answer
     requires { ⌜ RunAsks
-        (callOf t (now fwd) (now bwd) (now couplings) (now cuts))
+        (callOf t (now fwd) (now bwd) (now pins) (now couplings) (now cuts))
         (choicesOf (now choices) (now greys))
         (now spins) (now labels) (now «grey_labels») (now counts) (now sizes) (now found) (now «grey_found») ⌝ }
     ensures { λ r. ⌜ ((members : List ℕ) → Answers
-        (callOf t (now (fwd .entry)) (now (bwd .entry)) (now (couplings .entry)) (now (cuts .entry)))
+        (callOf t (now (fwd .entry)) (now (bwd .entry)) (now (pins .entry)) (now (couplings .entry)) (now (cuts .entry)))
         (choicesOf (now (choices .entry)) (now (greys .entry)))
         (buffersOf (now (spins .entry)) (now (labels .entry)) (now («grey_labels» .entry)) (now (counts .entry)) (now (sizes .entry)) members
         (now (found .entry)) (now («grey_found» .entry)))
@@ -241,9 +269,10 @@ pub fn run_task(
     let form = t.form;
     if form.moves() {
         let mut reached = [0u8; 4096];
-        choose_task(
+        let held = choose_task(
             t,
             fwd,
+            pins,
             choices,
             greys,
             acts,
@@ -255,8 +284,7 @@ pub fn run_task(
             grey_labels,
             grey_found,
         );
-        write_task(t, spins, cols);
-        return Answer::Moved;
+        return write_task(t, held, spins, cols);
     }
     Answer::Moved
 }

@@ -241,6 +241,7 @@ pub struct Lengths {
     pub spins: usize,
     pub fwd: usize,
     pub bwd: usize,
+    pub pins: usize,
     pub couplings: usize,
     pub cuts: usize,
     pub choices: usize,
@@ -257,6 +258,7 @@ pub struct Lengths {
 pub enum Answer {
     Refused(u8),
     Idle,
+    Held,
     Moved,
 }
 
@@ -285,10 +287,10 @@ impl Sampler {
     }
 }
 
-// A sweep's answer: a refusal, or how many unmasked tasks were idle and how many were not.
+// A sweep's answer: a refusal, or how many unmasked tasks were idle, how many moved and how many were held.
 pub enum SweepAnswer {
     Fault(u8),
-    Swept(u32, u32),
+    Swept(u32, u32, u32),
 }
 
 // The meter's answer: a refusal, or the energy of one system.

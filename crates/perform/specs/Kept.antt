@@ -5,12 +5,12 @@ use mathlib.Core.Bool.{true}
 use mathlib.Core.List.{List}
 use lib.IntN.{ℤ}
 use Rattle.paper.specs.declared.Answer.{Answer}
-use Rattle.paper.specs.declared.Answer.the-variants.{Refused, Idle, Moved}
+use Rattle.paper.specs.declared.Answer.the-variants.{Refused, Idle, Held, Moved}
 use Rattle.paper.specs.Panel.Input.{Call, Choices, Buffers, patternOf, size, system}
 use Rattle.paper.specs.Refusal.Rule.{broken-not-kept}
 use Rattle.paper.specs.Refusal.Rules.{rules}
 use Rattle.paper.specs.Refusal.Kept.{Valid, valid-kept}
-use Rattle.paper.specs.Answer.Move.{Answers, Accepted, Accepted.idle, Accepted.moved}
+use Rattle.paper.specs.Answer.Move.{Answers, Accepted, Accepted.idle, Accepted.held, Accepted.moved}
 use Rattle.paper.specs.Answer.Totals.{TotalsReady}
 use Rattle.laws.specs.Sanity.{others-kept}
 use Rattle.columns.specs.Column.{Columns, Inside}
@@ -24,6 +24,7 @@ module _ (c : Call) (p : Choices) (b : Buffers) (v : Valid c p b) where
   accepted : (a : Answer) (b′ : Buffers) → Answers c p b a b′ → Accepted a
   accepted (Refused r) b′ w = absurd (broken-not-kept (rules c p b) r (w .why) (valid-kept c p b v))
   accepted Idle b′ w = idle
+  accepted Held b′ w = held
   accepted Moved b′ w = moved
 
   -- the group's columns before the task and after it

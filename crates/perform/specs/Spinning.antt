@@ -8,7 +8,7 @@ use lib.ListN.{length}
 use lib.IntN.{ℤ}
 use Rattle.lemmas.specs.Places.{Placed, place}
 use Rattle.paper.specs.declared.Answer.{Answer}
-use Rattle.paper.specs.declared.Answer.the-variants.{Refused, Idle, Moved}
+use Rattle.paper.specs.declared.Answer.the-variants.{Refused, Idle, Held, Moved}
 use Rattle.paper.specs.Panel.Input.{graph, Call, Choices, Buffers, spin, size, system}
 use Rattle.paper.specs.Panel.Takes.{growsBy, labelsBy, moves}
 use Rattle.paper.specs.Site.Bonds.{holds}
@@ -16,7 +16,7 @@ use Rattle.paper.specs.Component.Sizes.{labelOf}
 use Rattle.paper.specs.Move.Moving.{Moves}
 use Rattle.paper.specs.Refusal.Rules.{Spin, AllSystems, Spins}
 use Rattle.paper.specs.Refusal.Kept.{Valid, valid-of}
-use Rattle.paper.specs.Answer.Move.{Answers, Goes, Accepted, Accepted.idle, Accepted.moved}
+use Rattle.paper.specs.Answer.Move.{Answers, Goes, Accepted, Accepted.idle, Accepted.held, Accepted.moved}
 use Rattle.laws.specs.Unique.{label-lt}
 use Rattle.laws.specs.Entries.{perms-of, perms-grown}
 use Rattle.laws.specs.Forms.{by-form}
@@ -58,9 +58,11 @@ gone-spins c p b b′ w = go (by-form (c .form))
 pub spins-after :
     (c : Call) (p : Choices) (b b′ : Buffers) (a : Answer) → Accepted a → Answers c p b a b′ → Spins (c .lattice .n) (AllSystems (c .lattice .s)) (b′ .spins)
 spins-after c p b b′ Idle idle w = rw (w .still) (w .valid .1 .1 .0)
+spins-after c p b b′ Held held w = rw (w .still) (w .valid .1 .1 .0)
 spins-after c p b b′ Moved moved w = gone-spins c p b b′ w
 
 pub length-after : (c : Call) (p : Choices) (b b′ : Buffers) (a : Answer) → Answers c p b a b′ → length (b′ .spins) ≡ length (b .spins)
 length-after c p b b′ (Refused r) w = ap (λ (z : Buffers). length (z .spins)) (w .kept)
 length-after c p b b′ Idle w = ap length (w .still)
+length-after c p b b′ Held w = ap length (w .still)
 length-after c p b b′ Moved w = some-moves c p b b′ w .moved .long

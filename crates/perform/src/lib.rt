@@ -21,6 +21,7 @@ fn run_kept(
     totals: &mut [i64],
     fwd: &[u32],
     bwd: &[u32],
+    pins: &[u8],
     couplings: &[i32],
     cuts: &[f32],
     choices: &[u8],
@@ -33,12 +34,12 @@ fn run_kept(
     grey_found: &mut [u32],
 ) -> Answer
     requires { ⌜ RunAsks
-        (callOf t (now fwd) (now bwd) (now couplings) (now cuts))
+        (callOf t (now fwd) (now bwd) (now pins) (now couplings) (now cuts))
         (choicesOf (now choices) (now greys))
         (now spins) (now labels) (now «grey_labels») (now counts) (now sizes) (now found) (now «grey_found») ⌝ }
     requires { ⌜ TotalsReady true (latticeOf (t .n) (t .d) (t .s) (now fwd) (now bwd) (now couplings)) (t .group) (now totals) ⌝ }
     ensures { λ r. ⌜ ((members : List ℕ) → Answers
-        (callOf t (now (fwd .entry)) (now (bwd .entry)) (now (couplings .entry)) (now (cuts .entry)))
+        (callOf t (now (fwd .entry)) (now (bwd .entry)) (now (pins .entry)) (now (couplings .entry)) (now (cuts .entry)))
         (choicesOf (now (choices .entry)) (now (greys .entry)))
         (buffersOf (now (spins .entry)) (now (labels .entry)) (now («grey_labels» .entry)) (now (counts .entry)) (now (sizes .entry)) members
         (now (found .entry)) (now («grey_found» .entry)))
@@ -59,6 +60,7 @@ fn run_kept(
         spins,
         fwd,
         bwd,
+        pins,
         couplings,
         cuts,
         choices,
@@ -84,6 +86,7 @@ pub fn run_form(
     totals: &mut [i64],
     fwd: &[u32],
     bwd: &[u32],
+    pins: &[u8],
     couplings: &[i32],
     cuts: &[f32],
     choices: &[u8],
@@ -97,14 +100,14 @@ pub fn run_form(
     grey_found: &mut [u32],
 ) -> Answer
     requires { ⌜ Valid
-        (callOf t (now fwd) (now bwd) (now couplings) (now cuts))
+        (callOf t (now fwd) (now bwd) (now pins) (now couplings) (now cuts))
         (choicesOf (now choices) (now greys))
         (buffersOf (now spins) (now labels) (now «grey_labels») (now counts) (now sizes) (now members)
         (now found) (now «grey_found»)) ⌝ }
     requires { ⌜ TotalsReady
         (keepsBy (t .keeps) (t .form)) (latticeOf (t .n) (t .d) (t .s) (now fwd) (now bwd) (now couplings)) (t .group) (now totals) ⌝ }
     ensures { λ r. ⌜ Answers
-        (callOf t (now (fwd .entry)) (now (bwd .entry)) (now (couplings .entry)) (now (cuts .entry)))
+        (callOf t (now (fwd .entry)) (now (bwd .entry)) (now (pins .entry)) (now (couplings .entry)) (now (cuts .entry)))
         (choicesOf (now (choices .entry)) (now (greys .entry)))
         (buffersOf (now (spins .entry)) (now (labels .entry)) (now («grey_labels» .entry)) (now (counts .entry)) (now (sizes .entry))
         (now (members .entry)) (now (found .entry)) (now («grey_found» .entry)))
@@ -124,6 +127,7 @@ pub fn run_form(
             totals,
             fwd,
             bwd,
+            pins,
             couplings,
             cuts,
             choices,
@@ -139,6 +143,7 @@ pub fn run_form(
             totals,
             fwd,
             bwd,
+            pins,
             couplings,
             cuts,
             choices,
@@ -156,6 +161,7 @@ pub fn run_form(
         spins,
         fwd,
         bwd,
+        pins,
         couplings,
         cuts,
         choices,

@@ -17,3 +17,4 @@ pub record Held (z : Sizes) : Type 0 where
   pub sizes : z .sizes ≤ 16
   pub found : z .found ≤ 4
   pub grey-found : z .«grey_found» ≤ 4
+  pub pins : z .pins ≤ 8

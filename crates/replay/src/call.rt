@@ -24,7 +24,8 @@ use paper::Plan;
 use paper::SweepAnswer;
 use paper::Task;
 
-// How many tasks were idle and how many were not; a refusal is neither, and no case of the list has 255 of both.
+// How many tasks were idle and how many moved; a refusal is neither, and no case of the list has 255 of both. A held task is neither too, and would
+// differ: the list has none.
 struct Outcomes {
     idle: u32,
     moved: u32,
@@ -37,6 +38,7 @@ fn of_step(a: Answer) -> Outcomes {
             moved: 255,
         },
         Answer::Idle => Outcomes { idle: 1, moved: 0 },
+        Answer::Held => Outcomes { idle: 0, moved: 0 },
         Answer::Moved => Outcomes { idle: 0, moved: 1 },
     }
 }
@@ -47,7 +49,7 @@ fn of_sweep(a: SweepAnswer) -> Outcomes {
             idle: 255,
             moved: 255,
         },
-        SweepAnswer::Swept(idle, moved) => Outcomes { idle, moved },
+        SweepAnswer::Swept(idle, moved, _) => Outcomes { idle, moved },
     }
 }
 
@@ -163,6 +165,7 @@ pub(crate) fn step(
     spins: &mut [i8],
     fwd: &[u32],
     bwd: &[u32],
+    pins: &[u8],
     couplings: &[i32],
 ) -> Seen {
     let z = sizes_of(h);
@@ -199,6 +202,7 @@ pub(crate) fn step(
         &mut totals[..0],
         fwd,
         bwd,
+        pins,
         couplings,
         cuts,
         part(list, c, z.choices),
@@ -236,6 +240,7 @@ fn update(
     spins: &mut [i8],
     fwd: &[u32],
     bwd: &[u32],
+    pins: &[u8],
     couplings: &[i32],
     order: &[u32],
     temperatures: &[f32],
@@ -271,6 +276,7 @@ fn update(
         &mut totals[..0],
         fwd,
         bwd,
+        pins,
         couplings,
         order,
         part(list, masks, z.times),
@@ -313,6 +319,7 @@ pub(crate) fn sweep_tasks(
     spins: &mut [i8],
     fwd: &[u32],
     bwd: &[u32],
+    pins: &[u8],
     couplings: &[i32],
 ) -> Seen {
     let z = sizes_of(h);
@@ -344,6 +351,7 @@ pub(crate) fn sweep_tasks(
         spins,
         fwd,
         bwd,
+        pins,
         couplings,
         order,
         temperatures,

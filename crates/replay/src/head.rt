@@ -117,6 +117,7 @@ pub(crate) struct Sizes {
     pub(crate) sizes: usize,
     pub(crate) found: usize,
     pub(crate) grey_found: usize,
+    pub(crate) pins: usize,
 }
 
 pub(crate) fn sizes_of(h: Head) -> Sizes
@@ -150,5 +151,6 @@ pub(crate) fn sizes_of(h: Head) -> Sizes
         sizes: 4 * tasks,
         found: tasks,
         grey_found: only(mode.takes_greys(form), tasks),
+        pins: room(h.n, 1, 8),
     }
 }

@@ -5,6 +5,7 @@ use mathlib.Core.List.{List, [], _∷_}
 use lib.IntN.{ℤ, pos}
 use lib.Ieee.{Float, mul, div, lt, le, ofInt, round}
 use Rattle.lemmas.specs.Counts.{countWhere}
+use Rattle.lemmas.specs.Cells.{table}
 use Rattle.lemmas.specs.Bools.{never, every}
 use Rattle.paper.specs.declared.Mode.the-variants.{Cmr}
 use Rattle.paper.specs.declared.Form.{Form}
@@ -14,18 +15,19 @@ use Rattle.paper.specs.Panel.Input.{Lattice, Call, Choices, Buffers}
 use Rattle.paper.specs.Site.Acting.{acts}
 use Rattle.paper.specs.Site.Bonds.{whole, holds, holdsGrey}
 use Rattle.paper.specs.Component.Sizes.{sizeOf, isFirst}
-use Rattle.paper.specs.Move.Moving.{reached, final}
+use Rattle.paper.specs.Move.Moving.{hasOne, reached, final}
 use Rattle.paper.specs.Answer.Move.{Answers}
 use Rattle.paper.specs.Rows.Cases.{+, -, decimal, line, first}
 use Rattle.laws.specs.Decided.{any}
 use Rattle.laws.specs.ByAnswer.{goes-by}
 
 -- a call on a lattice of two systems, with cuts for its bonds
-abbrev cmr : Form → Lattice → Float → List Float → Call
-cmr form lattice temperature cuts = record {
+abbrev pub pinning : List ℕ → Form → Lattice → Float → List Float → Call
+pinning pins form lattice temperature cuts = record {
   mode = Cmr;
   form = form;
   lattice = lattice;
+  pins = pins;
   group = first 2;
   temperature = temperature;
   cuts = cuts;
@@ -33,11 +35,14 @@ cmr form lattice temperature cuts = record {
   seed = 0;
 }
 
-abbrev choosing : List ℕ → List ℕ → Choices
+abbrev cmr : Form → Lattice → Float → List Float → Call
+cmr form lattice = pinning (table (lattice .n) (λ k. 0)) form lattice
+
+abbrev pub choosing : List ℕ → List ℕ → Choices
 choosing flips greys = record { choices = flips; greys = greys }
 
 -- the outputs hold anything before the move
-abbrev buffers : List ℤ → List ℕ → List ℕ → List ℕ → List ℕ → ℕ → ℕ → Buffers
+abbrev pub buffers : List ℤ → List ℕ → List ℕ → List ℕ → List ℕ → ℕ → ℕ → Buffers
 buffers spins labels greyLabels counts sizes found greyFound = record {
   spins = spins;
   labels = labels;
@@ -74,7 +79,7 @@ mixedAfter =
     buffers (+ ∷ + ∷ - ∷ - ∷ - ∷ - ∷ - ∷ - ∷ []) (0 ∷ 0 ∷ 1 ∷ 1 ∷ []) (0 ∷ 0 ∷ 0 ∷ 0 ∷ []) (0 ∷ 0 ∷ 2 ∷ 0 ∷ 0 ∷ []) (2 ∷ 2 ∷ 0 ∷ 0 ∷ []) 2 1
 
 pub both-flips : Answers mixed mixedChoices mixedBefore Moved mixedAfter
-unfolding every any holds holdsGrey acts sizeOf isFirst countWhere reached final mul div lt le ofInt
+unfolding every any holds holdsGrey acts sizeOf isFirst countWhere hasOne reached final table mul div lt le ofInt
 both-flips = goes-by mixed mixedChoices mixedBefore mixedAfter (0 ∷ 0 ∷ 0 ∷ 2 ∷ []) (0 ∷ 0 ∷ 1 ∷ 2 ∷ []) refl (λ e. never (sym e)) refl
 
 -- ---- bonds judged on the spins before the blue flip: on the flipped spins the grey components would be one
@@ -86,13 +91,13 @@ rejudgedAfter = buffers (+ ∷ + ∷ - ∷ - ∷ - ∷ - ∷ []) (0 ∷ 0 ∷ 1 
 
 pub judged-before-sw :
     Answers (rejudged Sw) (choosing (1 ∷ 0 ∷ 0 ∷ []) (1 ∷ 0 ∷ 0 ∷ [])) (before3 (+ ∷ + ∷ - ∷ + ∷ + ∷ - ∷ [])) Moved rejudgedAfter
-unfolding every any holds holdsGrey acts sizeOf isFirst countWhere reached final mul div lt le ofInt round
+unfolding every any holds holdsGrey acts sizeOf isFirst countWhere hasOne reached final table mul div lt le ofInt round
 judged-before-sw =
     goes-by (rejudged Sw) (choosing (1 ∷ 0 ∷ 0 ∷ []) (1 ∷ 0 ∷ 0 ∷ [])) (before3 (+ ∷ + ∷ - ∷ + ∷ + ∷ - ∷ [])) rejudgedAfter
     (0 ∷ 0 ∷ 0 ∷ []) (0 ∷ 0 ∷ 0 ∷ []) refl (λ e. never (sym e)) refl
 
 pub judged-before-wolff : Answers (rejudged Wolff) (choosing [] (1 ∷ [])) (before3 (+ ∷ + ∷ - ∷ + ∷ + ∷ - ∷ [])) Moved rejudgedAfter
-unfolding every any holds holdsGrey acts sizeOf isFirst countWhere reached final mul div lt le ofInt round
+unfolding every any holds holdsGrey acts sizeOf isFirst countWhere hasOne reached final table mul div lt le ofInt round
 judged-before-wolff =
     goes-by (rejudged Wolff) (choosing [] (1 ∷ [])) (before3 (+ ∷ + ∷ - ∷ + ∷ + ∷ - ∷ [])) rejudgedAfter
     (0 ∷ 0 ∷ 0 ∷ []) (0 ∷ 0 ∷ 0 ∷ []) refl (λ e. never (sym e)) refl
@@ -105,14 +110,14 @@ abbrev single : List ℤ → Buffers
 single spins = buffers spins (0 ∷ []) (0 ∷ []) (0 ∷ 1 ∷ []) (1 ∷ 0 ∷ 0 ∷ 0 ∷ []) 1 1
 
 pub flipped-twice : Answers (alone Wolff) (choosing [] (3 ∷ [])) (single (+ ∷ + ∷ [])) Moved (single (+ ∷ + ∷ []))
-unfolding every any holds holdsGrey acts sizeOf isFirst countWhere reached final mul div lt le ofInt
+unfolding every any holds holdsGrey acts sizeOf isFirst countWhere hasOne reached final table mul div lt le ofInt
 flipped-twice = goes-by (alone Wolff) (choosing [] (3 ∷ [])) (single (+ ∷ + ∷ [])) (single (+ ∷ + ∷ [])) (0 ∷ []) (0 ∷ []) refl (λ e. never (sym e)) refl
 
 pub second-alone : Answers (alone Wolff) (choosing [] (1 ∷ [])) (single (+ ∷ + ∷ [])) Moved (single (+ ∷ - ∷ []))
-unfolding every any holds holdsGrey acts sizeOf isFirst countWhere reached final mul div lt le ofInt
+unfolding every any holds holdsGrey acts sizeOf isFirst countWhere hasOne reached final table mul div lt le ofInt
 second-alone = goes-by (alone Wolff) (choosing [] (1 ∷ [])) (single (+ ∷ + ∷ [])) (single (+ ∷ - ∷ [])) (0 ∷ []) (0 ∷ []) refl (λ e. never (sym e)) refl
 
 pub sw-leaves-single : Answers (alone Sw) (choosing (1 ∷ []) (1 ∷ [])) (single (+ ∷ + ∷ [])) Moved (single (+ ∷ + ∷ []))
-unfolding every any holds holdsGrey acts sizeOf isFirst countWhere reached final mul div lt le ofInt
+unfolding every any holds holdsGrey acts sizeOf isFirst countWhere hasOne reached final table mul div lt le ofInt
 sw-leaves-single =
     goes-by (alone Sw) (choosing (1 ∷ []) (1 ∷ [])) (single (+ ∷ + ∷ [])) (single (+ ∷ + ∷ [])) (0 ∷ []) (0 ∷ []) refl (λ e. never (sym e)) refl

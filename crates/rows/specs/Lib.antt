@@ -4,6 +4,7 @@ pub mod Worked
 pub mod FrameCase
 pub mod Proved
 pub mod Cmr
+pub mod Pins
 pub mod Refused
 pub mod Slips
 pub mod SweepRefused

@@ -22,8 +22,8 @@ use Rattle.laws.specs.Verdicts.{refusalOf, accepted-by, refused-by, meter-verdi
 -- a CMR Wolff move of two sites, which takes an input for each test. Where `ok j` is false it has the fault j: three systems (1), a short buffer of
 -- counts (2), a spin 0 (3), two sites with one forward neighbour (4), a system twice (5), a coupling of 1,000,001 (6), the temperature 0 (7), a
 -- cut that is no number (8), the grey number 0 (9), the seed 2 (10)
-abbrev call : (ℕ → Bool) → Call
-call ok = record {
+abbrev pinning : List ℕ → (ℕ → Bool) → Call
+pinning pins ok = record {
   mode = Cmr;
   form = Wolff;
   lattice = record {
@@ -34,12 +34,16 @@ call ok = record {
     bwd = 1 ∷ 0 ∷ [];
     couplings = cond (ok 6) (pos 3 ∷ pos 1000000 ∷ []) (pos 3 ∷ pos 1000001 ∷ []);
   };
+  pins = pins;
   group = record { len = cond (ok 1) 2 3; systems = 0 ∷ cond (ok 5) 1 0 ∷ 9 ∷ 9 ∷ 9 ∷ 9 ∷ 9 ∷ 9 ∷ [] };
   temperature = cond (ok 7) (whole 1) (whole 0);
   cuts = cond (ok 8) (whole 0 ∷ whole 7 ∷ []) (whole 0 ∷ nan ∷ []);
   reference = 9;
   seed = cond (ok 10) 1 2;
 }
+
+abbrev call : (ℕ → Bool) → Call
+call = pinning (0 ∷ 1 ∷ [])
 
 abbrev choices : (ℕ → Bool) → Choices
 choices ok = record { choices = []; greys = cond (ok 9) (3 ∷ []) (0 ∷ []) }
@@ -85,12 +89,34 @@ in-order k h =
     refused-by (call (onwards k)) (choices (onwards k)) (buffers (onwards k)) k
     (all 10 (λ k. eq (refusalOf (call (onwards k)) (choices (onwards k)) (buffers (onwards k))) (suc k)) .holds refl k h)
 
+-- ---- pins: one for each site is asked under 2, and that each is 0 or 1 under 4, after the spins and before the group
+abbrev Faulty : List ℕ → (ℕ → Bool) → ℕ → Type 0
+Faulty pins ok k = Broken (rules (pinning pins ok) (choices ok) (buffers ok)) k
+
+pub record Pins : Type 0 where
+  pub byte : Faulty (0 ∷ 2 ∷ []) (λ j. true) 4
+  pub short : Faulty (2 ∷ []) (λ j. true) 2
+  pub long : Faulty (0 ∷ 0 ∷ 0 ∷ []) (λ j. true) 2
+  pub before-group : Faulty (2 ∷ 0 ∷ []) (onwards 4) 4
+  pub after-spins : Faulty (2 ∷ 0 ∷ []) (onwards 2) 3
+
+pub pins : Pins
+unfolding every any acts div le ofInt
+pins = record {
+  byte = refused-by (pinning (0 ∷ 2 ∷ []) (λ j. true)) (choices (λ j. true)) (buffers (λ j. true)) 3 refl;
+  short = refused-by (pinning (2 ∷ []) (λ j. true)) (choices (λ j. true)) (buffers (λ j. true)) 1 refl;
+  long = refused-by (pinning (0 ∷ 0 ∷ 0 ∷ []) (λ j. true)) (choices (λ j. true)) (buffers (λ j. true)) 1 refl;
+  before-group = refused-by (pinning (2 ∷ 0 ∷ []) (onwards 4)) (choices (onwards 4)) (buffers (onwards 4)) 3 refl;
+  after-spins = refused-by (pinning (2 ∷ 0 ∷ []) (onwards 2)) (choices (onwards 2)) (buffers (onwards 2)) 2 refl;
+}
+
 -- ---- seeds, in perm Wolff with the permutation p on two sites with two bonds between them
 abbrev seeding : ℕ → Call
 seeding seed = record {
   mode = Perm;
   form = Wolff;
   lattice = line 2 2 (1 ∷ 0 ∷ []) (1 ∷ 0 ∷ []) [];
+  pins = 0 ∷ 0 ∷ [];
   group = first 2;
   temperature = nan;
   cuts = [];

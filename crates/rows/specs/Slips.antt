@@ -6,6 +6,7 @@ use lib.IntN.{ℤ, pos}
 use lib.Ieee.{mul, div, lt, le, ofInt, round}
 use Rattle.lemmas.specs.Sums.{sum}
 use Rattle.lemmas.specs.Counts.{countWhere}
+use Rattle.lemmas.specs.Cells.{table}
 use Rattle.lemmas.specs.Bools.{every}
 use Rattle.paper.specs.declared.Mode.the-variants.{Pair, Perm, Gperm, Jorg}
 use Rattle.paper.specs.declared.Form.{Form}
@@ -15,7 +16,7 @@ use Rattle.paper.specs.Panel.Input.{Lattice, Call, Choices, Buffers}
 use Rattle.paper.specs.Site.Acting.{differs, pairDiffers, acts}
 use Rattle.paper.specs.Site.Bonds.{whole, holds}
 use Rattle.paper.specs.Component.Sizes.{sizeOf, isFirst}
-use Rattle.paper.specs.Move.Moving.{other, reached, final}
+use Rattle.paper.specs.Move.Moving.{other, hasOne, reached, final}
 use Rattle.paper.specs.Answer.Move.{Answers}
 use Rattle.paper.specs.Rows.Cases.{+, -, decimal, line, plain, first, buffers}
 use Rattle.laws.specs.Decided.{any}
@@ -41,7 +42,7 @@ before2 spins = buffers spins (9 ∷ 9 ∷ []) (9 ∷ 9 ∷ 9 ∷ []) (9 ∷ 9 �
 pub patch-whole :
     Answers (plain Perm Sw ring (first 2)) (permuting (1 ∷ 0 ∷ 1 ∷ 0 ∷ 1 ∷ 0 ∷ [])) (before3 (+ ∷ + ∷ + ∷ - ∷ + ∷ - ∷ [])) Moved
     (buffers (- ∷ + ∷ - ∷ + ∷ + ∷ + ∷ []) (0 ∷ 1 ∷ 0 ∷ []) (0 ∷ 0 ∷ 1 ∷ 0 ∷ []) (2 ∷ 0 ∷ 0 ∷ 0 ∷ []) 2)
-unfolding every any holds acts differs sizeOf isFirst countWhere reached final
+unfolding every any holds acts differs sizeOf isFirst countWhere hasOne reached final table
 patch-whole =
     goes-by (plain Perm Sw ring (first 2)) (permuting (1 ∷ 0 ∷ 1 ∷ 0 ∷ 1 ∷ 0 ∷ [])) (before3 (+ ∷ + ∷ + ∷ - ∷ + ∷ - ∷ []))
     (buffers (- ∷ + ∷ - ∷ + ∷ + ∷ + ∷ []) (0 ∷ 1 ∷ 0 ∷ []) (0 ∷ 0 ∷ 1 ∷ 0 ∷ []) (2 ∷ 0 ∷ 0 ∷ 0 ∷ []) 2)
@@ -51,7 +52,7 @@ patch-whole =
 pub choice-at-label :
     Answers (plain Perm Sw ring (first 2)) (permuting (0 ∷ 1 ∷ 1 ∷ 0 ∷ 0 ∷ 1 ∷ [])) (before3 (+ ∷ + ∷ + ∷ + ∷ - ∷ - ∷ [])) Moved
     (buffers (+ ∷ - ∷ - ∷ + ∷ + ∷ + ∷ []) (0 ∷ 1 ∷ 1 ∷ []) (0 ∷ 0 ∷ 1 ∷ 0 ∷ []) (2 ∷ 0 ∷ 0 ∷ 0 ∷ []) 2)
-unfolding every any holds acts differs sizeOf isFirst countWhere reached final
+unfolding every any holds acts differs sizeOf isFirst countWhere hasOne reached final table
 choice-at-label =
     goes-by (plain Perm Sw ring (first 2)) (permuting (0 ∷ 1 ∷ 1 ∷ 0 ∷ 0 ∷ 1 ∷ [])) (before3 (+ ∷ + ∷ + ∷ + ∷ - ∷ - ∷ []))
     (buffers (+ ∷ - ∷ - ∷ + ∷ + ∷ + ∷ []) (0 ∷ 1 ∷ 1 ∷ []) (0 ∷ 0 ∷ 1 ∷ 0 ∷ []) (2 ∷ 0 ∷ 0 ∷ 0 ∷ []) 2)
@@ -61,7 +62,7 @@ choice-at-label =
 pub rest-numbered :
     Answers (plain Perm Sw ring (first 2)) (permuting (1 ∷ 0 ∷ 0 ∷ 1 ∷ 0 ∷ 1 ∷ [])) (before3 (+ ∷ + ∷ + ∷ - ∷ - ∷ + ∷ [])) Moved
     (buffers (- ∷ - ∷ + ∷ + ∷ + ∷ + ∷ []) (0 ∷ 0 ∷ 1 ∷ []) (0 ∷ 0 ∷ 1 ∷ 0 ∷ []) (2 ∷ 0 ∷ 0 ∷ 0 ∷ []) 2)
-unfolding every any holds acts differs sizeOf isFirst countWhere reached final
+unfolding every any holds acts differs sizeOf isFirst countWhere hasOne reached final table
 rest-numbered =
     goes-by (plain Perm Sw ring (first 2)) (permuting (1 ∷ 0 ∷ 0 ∷ 1 ∷ 0 ∷ 1 ∷ [])) (before3 (+ ∷ + ∷ + ∷ - ∷ - ∷ + ∷ []))
     (buffers (- ∷ - ∷ + ∷ + ∷ + ∷ + ∷ []) (0 ∷ 0 ∷ 1 ∷ []) (0 ∷ 0 ∷ 1 ∷ 0 ∷ []) (2 ∷ 0 ∷ 0 ∷ 0 ∷ []) 2)
@@ -75,7 +76,7 @@ abbrev pairAndOneAfter : Buffers
 pairAndOneAfter = buffers (+ ∷ + ∷ - ∷ - ∷ - ∷ + ∷ []) (0 ∷ 0 ∷ 1 ∷ []) (0 ∷ 1 ∷ 1 ∷ 0 ∷ []) (2 ∷ 1 ∷ 0 ∷ 0 ∷ []) 2
 
 pub choice-at-number : Answers pairAndOne (permuting (0 ∷ 1 ∷ 1 ∷ 0 ∷ 0 ∷ 1 ∷ [])) (before3 (+ ∷ + ∷ + ∷ - ∷ - ∷ - ∷ [])) Moved pairAndOneAfter
-unfolding every any holds acts differs sizeOf isFirst countWhere reached final
+unfolding every any holds acts differs sizeOf isFirst countWhere hasOne reached final table
 choice-at-number =
     goes-by pairAndOne (permuting (0 ∷ 1 ∷ 1 ∷ 0 ∷ 0 ∷ 1 ∷ [])) (before3 (+ ∷ + ∷ + ∷ - ∷ - ∷ - ∷ [])) pairAndOneAfter
     (0 ∷ 0 ∷ 0 ∷ []) [] refl (λ _. (refl, refl)) refl
@@ -88,7 +89,7 @@ abbrev apartAfter : Buffers
 apartAfter = buffers (- ∷ + ∷ + ∷ - ∷ []) (0 ∷ 1 ∷ []) (0 ∷ 2 ∷ 0 ∷ []) (1 ∷ 1 ∷ 0 ∷ 0 ∷ []) 2
 
 pub each-its-own : Answers apart (permuting (1 ∷ 0 ∷ 0 ∷ 1 ∷ [])) (before2 (+ ∷ + ∷ - ∷ - ∷ [])) Moved apartAfter
-unfolding every any holds acts differs sizeOf isFirst countWhere reached final
+unfolding every any holds acts differs sizeOf isFirst countWhere hasOne reached final table
 each-its-own = goes-by apart (permuting (1 ∷ 0 ∷ 0 ∷ 1 ∷ [])) (before2 (+ ∷ + ∷ - ∷ - ∷ [])) apartAfter [] [] refl (λ _. (refl, refl)) refl
 
 -- gperm by the reference site 0, (+,-) there: site 1 acts, and gets the products' exchange, not the spins'
@@ -99,7 +100,7 @@ abbrev gaugedAfter : Buffers
 gaugedAfter = buffers (+ ∷ - ∷ - ∷ - ∷ []) (0 ∷ 1 ∷ []) (0 ∷ 1 ∷ 0 ∷ []) (1 ∷ 0 ∷ 0 ∷ 0 ∷ []) 2
 
 pub gauge-kept : Answers gaugedBy0 (permuting (1 ∷ 0 ∷ 1 ∷ 0 ∷ [])) (before2 (+ ∷ + ∷ - ∷ + ∷ [])) Moved gaugedAfter
-unfolding every any holds acts differs sizeOf isFirst countWhere reached final
+unfolding every any holds acts differs sizeOf isFirst countWhere hasOne reached final table
 gauge-kept = goes-by gaugedBy0 (permuting (1 ∷ 0 ∷ 1 ∷ 0 ∷ [])) (before2 (+ ∷ + ∷ - ∷ + ∷ [])) gaugedAfter [] [] refl (λ _. (refl, refl)) refl
 
 -- one site joined to itself is single: pair moves it in the Wolff form, and not in SW, where the answer is "moved" all the same
@@ -113,11 +114,11 @@ abbrev flipping : List ℕ → Choices
 flipping flips = record { choices = flips; greys = [] }
 
 pub wolff-single : Answers (single Wolff) (flipping []) (single1 (+ ∷ - ∷ [])) Moved (single1 (- ∷ + ∷ []))
-unfolding every any holds acts pairDiffers sizeOf isFirst countWhere other reached final
+unfolding every any holds acts pairDiffers sizeOf isFirst countWhere other hasOne reached final table
 wolff-single = goes-by (single Wolff) (flipping []) (single1 (+ ∷ - ∷ [])) (single1 (- ∷ + ∷ [])) [] [] refl (λ _. (refl, refl)) refl
 
 pub sw-single : Answers (single Sw) (flipping (1 ∷ [])) (single1 (+ ∷ - ∷ [])) Moved (single1 (+ ∷ - ∷ []))
-unfolding every any holds acts pairDiffers sizeOf isFirst countWhere other reached final
+unfolding every any holds acts pairDiffers sizeOf isFirst countWhere other hasOne reached final table
 sw-single = goes-by (single Sw) (flipping (1 ∷ [])) (single1 (+ ∷ - ∷ [])) (single1 (+ ∷ - ∷ [])) [] [] refl (λ _. (refl, refl)) refl
 
 -- no site acts: idle, and the outputs are written. The one component has its number, and none is counted
@@ -125,7 +126,7 @@ abbrev idle1 : Buffers
 idle1 = buffers (+ ∷ + ∷ []) (0 ∷ []) (0 ∷ 0 ∷ []) (0 ∷ 0 ∷ 0 ∷ 0 ∷ []) 1
 
 pub idle-written : Answers (single Wolff) (flipping []) (buffers (+ ∷ + ∷ []) (9 ∷ []) (9 ∷ 9 ∷ []) (9 ∷ 9 ∷ 9 ∷ 9 ∷ []) 9) Idle idle1
-unfolding every any holds acts pairDiffers sizeOf isFirst countWhere other reached final
+unfolding every any holds acts pairDiffers sizeOf isFirst countWhere other hasOne reached final table
 idle-written =
     rests-by (single Wolff) (flipping []) (buffers (+ ∷ + ∷ []) (9 ∷ []) (9 ∷ 9 ∷ []) (9 ∷ 9 ∷ 9 ∷ 9 ∷ []) 9) idle1
     [] [] refl (λ _. (refl, refl)) refl refl
@@ -136,6 +137,7 @@ doubled = record {
   mode = Jorg;
   form = Sw;
   lattice = twins (pos 1 ∷ pos 1 ∷ []);
+  pins = 0 ∷ 0 ∷ [];
   group = first 2;
   temperature = whole 2;
   cuts = whole 100 ∷ decimal 5 1 ∷ [];
@@ -147,6 +149,6 @@ abbrev doubledAfter : Buffers
 doubledAfter = buffers (- ∷ - ∷ + ∷ + ∷ []) (0 ∷ 0 ∷ []) (0 ∷ 0 ∷ 1 ∷ []) (2 ∷ 0 ∷ 0 ∷ 0 ∷ []) 1
 
 pub either-bond : Answers doubled (flipping (1 ∷ 0 ∷ [])) (before2 (+ ∷ + ∷ - ∷ - ∷ [])) Moved doubledAfter
-unfolding every any holds acts sum pairDiffers sizeOf isFirst countWhere other reached final mul div lt le ofInt round
+unfolding every any holds acts sum pairDiffers sizeOf isFirst countWhere other hasOne reached final table mul div lt le ofInt round
 either-bond =
     goes-by doubled (flipping (1 ∷ 0 ∷ [])) (before2 (+ ∷ + ∷ - ∷ - ∷ [])) doubledAfter (0 ∷ 0 ∷ []) [] refl (λ _. (refl, refl)) refl

@@ -19,11 +19,12 @@ use Rattle.laws.specs.Decided.{any}
 use Rattle.laws.specs.SweepVerdicts.{sweep-accepted-by, sweep-refused-by}
 
 -- Jörg, Wolff: two temperatures of two replicas, so two tasks, on one site joined to itself
-abbrev sweep : List ℕ → List Float → List Float → List ℕ → Sweep
-sweep masks temperatures cuts seeds = record {
+abbrev pinning : List ℕ → List ℕ → List Float → List Float → List ℕ → Sweep
+pinning pins masks temperatures cuts seeds = record {
   mode = Jorg;
   form = Wolff;
   lattice = line 1 4 (0 ∷ []) (0 ∷ []) (pos 1 ∷ []);
+  pins = pins;
   t = 2;
   r = 2;
   members = 2;
@@ -36,6 +37,9 @@ sweep masks temperatures cuts seeds = record {
   choices = [];
   greys = [];
 }
+
+abbrev sweep : List ℕ → List Float → List Float → List ℕ → Sweep
+sweep = pinning (0 ∷ [])
 
 abbrev lent : Buffers
 lent = record {
@@ -62,6 +66,9 @@ pub record SweepRefusals : Type 0 where
   pub masked-free : Kept (sweepRules (sweep (1 ∷ 0 ∷ []) warm (nan ∷ whole 0 ∷ []) (9 ∷ 0 ∷ [])) lent)
   pub masked-warm : Broken (sweepRules (sweep (1 ∷ 0 ∷ []) (nan ∷ whole 1 ∷ []) (nan ∷ whole 0 ∷ []) (9 ∷ 0 ∷ [])) lent) 7
   pub unmasked : Broken (sweepRules (sweep (0 ∷ 1 ∷ []) warm (nan ∷ whole 0 ∷ []) (9 ∷ 0 ∷ [])) lent) 8
+  -- a pin byte goes before the temperatures, and is tested where every task is masked
+  pub pin-first : Broken (sweepRules (pinning (2 ∷ []) (1 ∷ 1 ∷ []) (nan ∷ whole 1 ∷ []) (whole 0 ∷ whole 0 ∷ []) (0 ∷ 0 ∷ [])) lent) 4
+  pub pins-long : Broken (sweepRules (pinning (2 ∷ 0 ∷ []) (0 ∷ 0 ∷ []) warm (whole 0 ∷ whole 0 ∷ []) (0 ∷ 0 ∷ [])) lent) 2
 
 pub sweep-refusals : SweepRefusals
 unfolding table every any acts pairDiffers div le ofInt
@@ -72,4 +79,6 @@ sweep-refusals = record {
   masked-free = sweep-accepted-by (sweep (1 ∷ 0 ∷ []) warm (nan ∷ whole 0 ∷ []) (9 ∷ 0 ∷ [])) lent refl;
   masked-warm = sweep-refused-by (sweep (1 ∷ 0 ∷ []) (nan ∷ whole 1 ∷ []) (nan ∷ whole 0 ∷ []) (9 ∷ 0 ∷ [])) lent 6 refl;
   unmasked = sweep-refused-by (sweep (0 ∷ 1 ∷ []) warm (nan ∷ whole 0 ∷ []) (9 ∷ 0 ∷ [])) lent 7 refl;
+  pin-first = sweep-refused-by (pinning (2 ∷ []) (1 ∷ 1 ∷ []) (nan ∷ whole 1 ∷ []) (whole 0 ∷ whole 0 ∷ []) (0 ∷ 0 ∷ [])) lent 3 refl;
+  pins-long = sweep-refused-by (pinning (2 ∷ 0 ∷ []) (0 ∷ 0 ∷ []) warm (whole 0 ∷ whole 0 ∷ []) (0 ∷ 0 ∷ [])) lent 1 refl;
 }

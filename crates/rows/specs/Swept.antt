@@ -16,6 +16,7 @@ use Rattle.lemmas.specs.Cells.{table, only-column}
 use Rattle.lemmas.specs.Bools.{never, every}
 use Rattle.paper.specs.declared.Mode.the-variants.{Perm}
 use Rattle.paper.specs.declared.Form.the-variants.{Sw}
+use Rattle.paper.specs.declared.Answer.{Answer}
 use Rattle.paper.specs.declared.Answer.the-variants.{Idle, Moved}
 use Rattle.paper.specs.declared.SweepAnswer.{SweepAnswer}
 use Rattle.paper.specs.declared.SweepAnswer.the-variants.{Swept}
@@ -23,7 +24,7 @@ use Rattle.paper.specs.Panel.Input.{Buffers, spin, pattern, system}
 use Rattle.paper.specs.Site.Acting.{differs, acts}
 use Rattle.paper.specs.Site.Bonds.{holds}
 use Rattle.paper.specs.Component.Sizes.{sizeOf, isFirst}
-use Rattle.paper.specs.Move.Moving.{reached, final}
+use Rattle.paper.specs.Move.Moving.{hasOne, reached, final}
 use Rattle.paper.specs.Answer.Task.{Sweep, masked, taskCall, taskChoices, areas}
 use Rattle.paper.specs.Answer.Sweep.{Done, Unmoved, SweepAnswers}
 use Rattle.paper.specs.Answer.Same.{SameSwept}
@@ -40,6 +41,7 @@ sweep = record {
   mode = Perm;
   form = Sw;
   lattice = line 1 8 (0 ∷ []) (0 ∷ []) [];
+  pins = 0 ∷ [];
   t = 4;
   r = 2;
   members = 2;
@@ -92,34 +94,35 @@ lent k = areas sweep before (before .spins) k
 abbrev left : List ℤ → ℕ → Buffers
 left ys k = areas sweep after ys k
 
-task0 : Done sweep before after 0
-unfolding table every any holds acts differs sizeOf isFirst countWhere reached final
+task0 : Done sweep before after 0 Idle
+unfolding table every any holds acts differs sizeOf isFirst countWhere hasOne reached final
 task0 = record {
-  answer = Idle;
   spins = before .spins;
   answers = rests-by (taskCall sweep 0) (taskChoices sweep 0) (lent 0) (left (before .spins) 0) [] [] refl (λ _. (refl, refl)) refl refl;
   rows = λ i x hi hx. rowsOf 0 (before .spins) .holds refl i hi x hx;
 }
 
-task1 : Done sweep before after 1
-unfolding table every any holds acts differs sizeOf isFirst countWhere reached final
+task1 : Done sweep before after 1 Moved
+unfolding table every any holds acts differs sizeOf isFirst countWhere hasOne reached final
 task1 = record {
-  answer = Moved;
   spins = after .spins;
   answers = goes-by (taskCall sweep 1) (taskChoices sweep 1) (lent 1) (left (after .spins) 1) [] [] refl (λ _. (refl, refl)) refl;
   rows = λ i x hi hx. refl;
 }
 
-task2 : Done sweep before after 2
-unfolding table every any holds acts differs sizeOf isFirst countWhere reached final
+task2 : Done sweep before after 2 Moved
+unfolding table every any holds acts differs sizeOf isFirst countWhere hasOne reached final
 task2 = record {
-  answer = Moved;
   spins = before .spins;
   answers = goes-by (taskCall sweep 2) (taskChoices sweep 2) (lent 2) (left (before .spins) 2) [] [] refl (λ _. (refl, refl)) refl;
   rows = λ i x hi hx. rowsOf 2 (before .spins) .holds refl i hi x hx;
 }
 
-each : (k : ℕ) → k < 4 → masked sweep k ≡ false → Done sweep before after k
+abbrev answered : ℕ → Answer
+answered zero = Idle
+answered (suc k) = Moved
+
+each : (k : ℕ) → k < 4 → masked sweep k ≡ false → Done sweep before after k (answered k)
 each zero h e = task0
 each (suc zero) h e = task1
 each (suc (suc zero)) h e = task2
@@ -162,11 +165,12 @@ others i t hi out = rw (only-column t i hi) (go (decLt t 8))
         far : 8 ≤ t
         far = omega arith
 
--- one task was idle and two were not; the masked task is in neither count
-pub swept : SweepAnswers sweep before (Swept 1 2) after
+-- one task was idle, two moved and none was held; the masked task is in no count
+pub swept : SweepAnswers sweep before (Swept 1 2 0) after
 unfolding table every any acts differs countWhere
 swept = record {
   valid = sweep-accepted-by sweep before refl;
+  answered = answered;
   counts = refl;
   lengths = record { spins = refl; labels = refl; counts = refl; sizes = refl; grey-labels = refl; members = refl; found = refl; grey-found = refl };
   each = each;
@@ -183,8 +187,8 @@ swept = record {
   };
 }
 
-pub swept-only : (a : SweepAnswer) (z : Buffers) → SweepAnswers sweep before a z → SameSweep (Swept 1 2) after a z
-swept-only a z h = sweep-determined sweep before after z (Swept 1 2) a swept h
+pub swept-only : (a : SweepAnswer) (z : Buffers) → SweepAnswers sweep before a z → SameSweep (Swept 1 2 0) after a z
+swept-only a z h = sweep-determined sweep before after z (Swept 1 2 0) a swept h
 
 -- other choices of the masked task, and other inputs that perm does not take: the same answer
 abbrev apart : Sweep
@@ -192,6 +196,7 @@ apart = record {
   mode = Perm;
   form = Sw;
   lattice = line 1 8 (0 ∷ []) (0 ∷ []) (pos 7 ∷ []);
+  pins = 0 ∷ [];
   t = 4;
   r = 2;
   members = 2;
@@ -217,6 +222,7 @@ apart-same = record {
   mode = refl;
   form = refl;
   panel = record { n = refl; d = refl; s = refl; fwd = refl; bwd = refl; couplings = λ t. never t };
+  pins = refl;
   t = refl;
   r = refl;
   members = refl;
@@ -233,6 +239,7 @@ apart-same = record {
       mode = refl;
       form = refl;
       panel = record { n = refl; d = refl; s = refl; fwd = refl; bwd = refl; couplings = λ t. never t };
+      pins = refl;
       members = refl;
       systems = λ x l. refl;
       temperature = λ t. never t;
@@ -244,5 +251,5 @@ apart-same = record {
   };
 }
 
-pub swept-apart : SweepAnswers apart before (Swept 1 2) after
-swept-apart = sweep-untaken apart-same before (Swept 1 2) after .0 swept
+pub swept-apart : SweepAnswers apart before (Swept 1 2 0) after
+swept-apart = sweep-untaken apart-same before (Swept 1 2 0) after .0 swept

@@ -8,6 +8,7 @@ use lib.ListN.{getD}
 use lib.IntN.{ℤ, pos, negsuc, natAbs, _+ℤ_, negℤ}
 use Rattle.lemmas.specs.Sums.{sum}
 use Rattle.lemmas.specs.Counts.{countWhere}
+use Rattle.lemmas.specs.Cells.{table}
 use Rattle.lemmas.specs.Bools.{every, never}
 use Rattle.lemmas.specs.Ints.{same-is}
 use Rattle.paper.specs.declared.Mode.the-variants.{Pair}
@@ -18,7 +19,7 @@ use Rattle.paper.specs.Site.Acting.{pairDiffers, acts}
 use Rattle.paper.specs.Site.Bonds.{holds}
 use Rattle.paper.specs.Site.Energy.{energy}
 use Rattle.paper.specs.Component.Sizes.{sizeOf, isFirst}
-use Rattle.paper.specs.Move.Moving.{other, reached, final}
+use Rattle.paper.specs.Move.Moving.{other, hasOne, reached, final}
 use Rattle.paper.specs.Refusal.Kept.{valid-of}
 use Rattle.paper.specs.Answer.Move.{Answers}
 use Rattle.paper.specs.Answer.Totals.{total, Brought, TotalsAsked, asked-kept, KeepAnswers, Current}
@@ -56,7 +57,7 @@ pub record TotalsCase : Type 0 where
   pub after : Current (two .lattice) (exchanged .spins) metered → ⊥
 
 answer : Answers two noChoices unlike Moved exchanged
-unfolding every any holds acts pairDiffers sizeOf isFirst countWhere other reached final
+unfolding every any holds acts pairDiffers sizeOf isFirst countWhere other hasOne reached final table
 answer = goes-by two noChoices unlike exchanged [] [] refl (λ _. (refl, refl)) refl
 
 -- what holds at 0 and at 1

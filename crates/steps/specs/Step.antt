@@ -7,7 +7,7 @@ use native.Mathlib.Omega.{arith}
 use lib.ListN.{length}
 use lib.IntN.{ℤ, natAbs}
 use Rattle.paper.specs.declared.Answer.{Answer}
-use Rattle.paper.specs.declared.Answer.the-variants.{Refused, Idle, Moved}
+use Rattle.paper.specs.declared.Answer.the-variants.{Refused, Idle, Held, Moved}
 use Rattle.paper.specs.declared.Lengths.{Lengths}
 use Rattle.paper.specs.declared.Task.{Task}
 use Rattle.paper.specs.Panel.Input.{Call, Choices, Buffers, member}
@@ -32,7 +32,7 @@ pub record Measured (spins : List ℤ) (fwd bwd : List ℕ) (couplings : List �
 
 -- every test of the call c of the task t, of buffers that have the lengths l: 1 to 7, 8 to 10, 14
 abbrev pub soundRules : Task → Call → List ℤ → List ℤ → Lengths → List Rule
-soundRules t c xs ts l = panelRules t xs ts (c .lattice .fwd) (c .lattice .bwd) (c .lattice .couplings) l
+soundRules t c xs ts l = panelRules t xs ts (c .lattice .fwd) (c .lattice .bwd) (c .pins) (c .lattice .couplings) l
 
 abbrev pub totalRules : Task → List ℤ → List Rule
 totalRules t ts = rule 14 (When (keepsBy (t .keeps) (t .form)) (SmallTotals ts)) ∷ []
@@ -60,7 +60,7 @@ module _ (t : Task) (c : Call) (p : Choices) (xs ts : List ℤ) (l : Lengths) wh
       let ranged = k .0 in
       let fits = k .1 .0 in
       let spins = k .1 .1 .1 .0 in
-      let grouped = k .1 .1 .1 .1 .1 .0 in
+      let grouped = k .1 .1 .1 .1 .1 .1 .0 in
       let long : length xs ≡ t .s * t .n = sym (m .spins-is) ∙ fits .spins in
       record {
         n-low = ranged .lattice .n-low;
@@ -100,6 +100,7 @@ module _ (keeping : Bool) (c : Call) (p : Choices) (b : Buffers) (ts : List ℤ)
   accepted-by (Refused r) b′ ts′ k f u =
       absurd (broken-not-kept (rules c p b) _ (f .why) (valid-kept c p b (kept-valid keeping c p b ts k)))
   accepted-by Idle b′ ts′ k f u = record { valid = k; answers = f; totals = u }
+  accepted-by Held b′ ts′ k f u = record { valid = k; answers = f; totals = u }
   accepted-by Moved b′ ts′ k f u = record { valid = k; answers = f; totals = u }
 
 pub empty : (xs : List ℕ) → length xs ≡ 0 → xs ≡ []

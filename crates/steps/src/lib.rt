@@ -45,6 +45,7 @@ fn test_call(
     totals: &[i64],
     fwd: &[u32],
     bwd: &[u32],
+    pins: &[u8],
     couplings: &[i32],
     cuts: &[f32],
     choices: &[u8],
@@ -54,12 +55,12 @@ fn test_call(
     requires { ⌜ Measured (now spins) (now fwd) (now bwd) (now couplings) (now choices) (now greys) l ⌝ }
     ensures { λ r. ⌜ Verdict
         (callRules t
-        (callOf t (now (fwd .entry)) (now (bwd .entry)) (now (couplings .entry)) (now (cuts .entry)))
+        (callOf t (now (fwd .entry)) (now (bwd .entry)) (now (pins .entry)) (now (couplings .entry)) (now (cuts .entry)))
         (choicesOf (now (choices .entry)) (now (greys .entry)))
         (now (spins .entry)) (now (totals .entry)) l)
         r ⌝ }
 {
-    let panel = tests::panel::test_panel(t, spins, totals, fwd, bwd, couplings, l);
+    let panel = tests::panel::test_panel(t, spins, totals, fwd, bwd, pins, couplings, l);
     if panel != 0 {
         return panel;
     }
@@ -83,6 +84,7 @@ pub fn overlap_step(
     totals: &mut [i64],
     fwd: &[u32],
     bwd: &[u32],
+    pins: &[u8],
     couplings: &[i32],
     cuts: &[f32],
     choices: &[u8],
@@ -97,7 +99,7 @@ pub fn overlap_step(
 ) -> Answer
     ensures { λ r. ⌜ KeepAnswers
         (keepsBy (t .keeps) (t .form))
-        (callOf t (now (fwd .entry)) (now (bwd .entry)) (now (couplings .entry)) (now (cuts .entry)))
+        (callOf t (now (fwd .entry)) (now (bwd .entry)) (now (pins .entry)) (now (couplings .entry)) (now (cuts .entry)))
         (choicesOf (now (choices .entry)) (now (greys .entry)))
         (buffersOf (now (spins .entry)) (now (labels .entry)) (now («grey_labels» .entry)) (now (counts .entry)) (now (sizes .entry))
         (now (members .entry)) (now (found .entry)) (now («grey_found» .entry)))
@@ -111,6 +113,7 @@ pub fn overlap_step(
         spins: spins.len(),
         fwd: fwd.len(),
         bwd: bwd.len(),
+        pins: pins.len(),
         couplings: couplings.len(),
         cuts: cuts.len(),
         choices: choices.len(),
@@ -129,6 +132,7 @@ pub fn overlap_step(
         totals,
         fwd,
         bwd,
+        pins,
         couplings,
         cuts,
         choices,
@@ -144,6 +148,7 @@ pub fn overlap_step(
         totals,
         fwd,
         bwd,
+        pins,
         couplings,
         cuts,
         choices,
@@ -168,6 +173,7 @@ pub fn houdayer_step(
     spins: &mut [i8],
     fwd: &[u32],
     bwd: &[u32],
+    pins: &[u8],
     group: Group,
     reference: usize,
     seed: usize,
@@ -179,7 +185,8 @@ pub fn houdayer_step(
     found: &mut [u32],
 ) -> Answer
     ensures { λ r. ⌜ Answers
-        (callOf (taskOf (modeOf rule) form Nothing n d s group (whole 1) reference seed) (now (fwd .entry)) (now (bwd .entry)) [] [])
+        (callOf (taskOf (modeOf rule) form Nothing n d s group (whole 1) reference seed) (now (fwd .entry)) (now (bwd .entry)) (now (pins .entry))
+        [] [])
         (choicesOf (now (choices .entry)) [])
         (buffersOf (now (spins .entry)) (now (labels .entry)) [] (now (counts .entry)) (now (sizes .entry)) (now (members .entry))
         (now (found .entry)) [])
@@ -211,6 +218,7 @@ pub fn houdayer_step(
         &mut totals[..0],
         fwd,
         bwd,
+        pins,
         &couplings[..0],
         &cuts[..0],
         choices,
@@ -234,6 +242,7 @@ pub fn jorg_step(
     spins: &mut [i8],
     fwd: &[u32],
     bwd: &[u32],
+    pins: &[u8],
     couplings: &[i32],
     group: Group,
     temperature: f32,
@@ -247,7 +256,8 @@ pub fn jorg_step(
     found: &mut [u32],
 ) -> Answer
     ensures { λ r. ⌜ Answers
-        (callOf (taskOf Jorg form Nothing n d s group temperature 0 seed) (now (fwd .entry)) (now (bwd .entry)) (now (couplings .entry)) (now (cuts .entry)))
+        (callOf (taskOf Jorg form Nothing n d s group temperature 0 seed) (now (fwd .entry)) (now (bwd .entry)) (now (pins .entry))
+        (now (couplings .entry)) (now (cuts .entry)))
         (choicesOf (now (choices .entry)) [])
         (buffersOf (now (spins .entry)) (now (labels .entry)) [] (now (counts .entry)) (now (sizes .entry)) (now (members .entry))
         (now (found .entry)) [])
@@ -276,6 +286,7 @@ pub fn jorg_step(
         &mut totals[..0],
         fwd,
         bwd,
+        pins,
         couplings,
         cuts,
         choices,
@@ -299,6 +310,7 @@ pub fn cmr_step(
     spins: &mut [i8],
     fwd: &[u32],
     bwd: &[u32],
+    pins: &[u8],
     couplings: &[i32],
     group: Group,
     temperature: f32,
@@ -315,7 +327,8 @@ pub fn cmr_step(
     grey_found: &mut [u32],
 ) -> Answer
     ensures { λ r. ⌜ Answers
-        (callOf (taskOf Cmr form Nothing n d s group temperature 0 seed) (now (fwd .entry)) (now (bwd .entry)) (now (couplings .entry)) (now (cuts .entry)))
+        (callOf (taskOf Cmr form Nothing n d s group temperature 0 seed) (now (fwd .entry)) (now (bwd .entry)) (now (pins .entry))
+        (now (couplings .entry)) (now (cuts .entry)))
         (choicesOf (now (choices .entry)) (now (greys .entry)))
         (buffersOf (now (spins .entry)) (now (labels .entry)) (now («grey_labels» .entry)) (now (counts .entry)) (now (sizes .entry))
         (now (members .entry)) (now (found .entry)) (now («grey_found» .entry)))
@@ -342,6 +355,7 @@ pub fn cmr_step(
         &mut totals[..0],
         fwd,
         bwd,
+        pins,
         couplings,
         cuts,
         choices,

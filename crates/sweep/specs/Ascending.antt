@@ -2,61 +2,56 @@
 use Prim.Native.Nat.{ℕ, _+_, _<_, _≤_}
 use mathlib.Core.Path.{_≡_, refl, sym, _∙_, ap}
 use mathlib.Core.Logic.{_⊎_, inl, inr, _≢_}
-use mathlib.Core.Bool.{Bool, true, false, not, _&&_}
+use mathlib.Core.Bool.{Bool, true, false}
 use mathlib.Core.List.{List, [], _∷_}
 use native.Mathlib.Omega.{arith}
-use native.Mathlib.Numerals.{add-one}
 use native.Mathlib.Decide.{ℕ-discrete}
 use lib.IntN.{ℤ}
 use Rattle.lemmas.specs.Counts.{bit, countWhere}
 use Rattle.paper.specs.declared.Answer.{Answer}
-use Rattle.paper.specs.declared.Answer.the-variants.{Refused, Idle, Moved}
+use Rattle.paper.specs.declared.Answer.the-variants.{Refused, Idle, Held, Moved}
 use Rattle.paper.specs.Panel.Input.{Call, Choices, Buffers, pattern, spin, system}
 use Rattle.paper.specs.Refusal.Rule.{Kept}
 use Rattle.paper.specs.Refusal.Rules.{AllSystems, Spins, rules}
 use Rattle.paper.specs.Refusal.Kept.{Valid, valid-of, valid-kept}
-use Rattle.paper.specs.Answer.Move.{Answers, Accepted, Accepted.idle, Accepted.moved}
-use Rattle.paper.specs.Answer.Task.{Sweep, tasks, masked, taskCall, taskChoices, areas, idleTask}
+use Rattle.paper.specs.Answer.Move.{Answers, Accepted, Accepted.idle, Accepted.held, Accepted.moved}
+use Rattle.paper.specs.Answer.Task.{Sweep, tasks, masked, taskCall, taskChoices, areas, isIdle, isMoved, isHeld}
 use Rattle.paper.specs.Answer.Sweep.{common, sweepRules, Done, SameLengths, Unwritten, Sweeps}
-use Rattle.laws.specs.Determined.{determined, must-accept}
+use Rattle.laws.specs.Determined.{must-accept}
 use Rattle.laws.specs.Sanity.{others-kept}
 use Rattle.laws.specs.Local.{Agree}
-use Rattle.laws.specs.AnswersLocal.{Rows, withSpins, valid-there, local}
+use Rattle.laws.specs.AnswersLocal.{withSpins, valid-there}
 use Rattle.laws.specs.SweepTasks.{task-valid}
 use Rattle.laws.specs.SweepAscending.{tasks-apart, done}
-use Rattle.laws.specs.SweepCounts.{SaysIdle, counted-as}
+use Rattle.laws.specs.SweepCounts.{countTo, andThen, then-here, then-before, then-counts, skipped-counts}
 use Rattle.perform.specs.Spinning.{spins-after}
 
--- ---- the two counts of the first K tasks
-abbrev pub isIdle : Sweep → List ℤ → ℕ → Bool
-isIdle w xs k = not (masked w k) && idleTask w xs k
-
-abbrev pub isMoved : Sweep → List ℤ → ℕ → Bool
-isMoved w xs k = not (masked w k) && not (idleTask w xs k)
-
--- what one answer adds to them
-abbrev pub idleBy : Answer → ℕ
-idleBy (Refused r) = 0
-idleBy Idle = 1
-idleBy Moved = 0
-
+-- what one answer adds to the tasks that moved; `isIdle` and `isHeld` tell it of the others
 abbrev pub movedBy : Answer → ℕ
 movedBy (Refused r) = 0
 movedBy Idle = 0
+movedBy Held = 0
 movedBy Moved = 1
+
+moved-by : {a : Answer} → Accepted a → movedBy a ≡ bit (isMoved a)
+moved-by idle = refl
+moved-by held = refl
+moved-by moved = refl
 
 -- the system t is in the group of no unmasked task below K
 abbrev pub UnmovedTo : Sweep → ℕ → ℕ → Type 0
 UnmovedTo w K t = (k x : ℕ) → k < K → masked w k ≡ false → x < w .members → t ≢ system (taskCall w k) x
 
 -- b before the sweep, b′ when the first K tasks have run
-pub record Ran (w : Sweep) (b : Buffers) (K idle moved : ℕ) (b′ : Buffers) : Type 0 where
+pub record Ran (w : Sweep) (b : Buffers) (K idle moved held : ℕ) (b′ : Buffers) : Type 0 where
   pub reached : K ≤ tasks w
-  pub idles : idle ≡ countWhere (isIdle w (b .spins)) K
-  pub moveds : moved ≡ countWhere (isMoved w (b .spins)) K
+  pub answered : ℕ → Answer
+  pub idles : idle ≡ countTo isIdle w answered K
+  pub moveds : moved ≡ countTo isMoved w answered K
+  pub helds : held ≡ countTo isHeld w answered K
   pub lengths : SameLengths b b′
   pub spins : Spins (w .lattice .n) (AllSystems (w .lattice .s)) (b′ .spins)
-  pub each : (k : ℕ) → k < K → masked w k ≡ false → Done w b b′ k
+  pub each : (k : ℕ) → k < K → masked w k ≡ false → Done w b b′ k (answered k)
   pub still : (k : ℕ) → k < tasks w → (masked w k ≡ true) ⊎ (K ≤ k) → areas w b′ (b .spins) k ≡ areas w b (b .spins) k
   pub others : (i t : ℕ) → i < w .lattice .n → UnmovedTo w K t → spin (w .lattice .n) (b′ .spins) t i ≡ spin (w .lattice .n) (b .spins) t i
   pub kept : Unwritten (common w) b b′
@@ -122,21 +117,20 @@ count-start : (f : ℕ → Bool) → 0 ≡ countWhere f 0
 unfolding countWhere
 count-start f = refl
 
-count-more : (f : ℕ → Bool) (K m n : ℕ) → m ≡ countWhere f K → n ≡ m + bit (f K) → n ≡ countWhere f (K + 1)
-unfolding countWhere
-count-more f K m n e q = rw add-one (rw e at q)
-
 accept : (c : Call) (p : Choices) (b b′ : Buffers) (a : Answer) → Kept (rules c p b) → Answers c p b a b′ → Accepted a
 accept c p b b′ (Refused r) v q = absurd (must-accept c p b b′ r q v)
 accept c p b b′ Idle v q = idle
+accept c p b b′ Held v q = held
 accept c p b b′ Moved v q = moved
 
 module _ (w : Sweep) (b : Buffers) (v : Kept (sweepRules w b)) where
-  pub ran-none : Ran w b 0 0 0 b
+  pub ran-none : Ran w b 0 0 0 0 b
   ran-none = record {
     reached = omega arith;
+    answered = λ _. Idle;
     idles = count-start _;
     moveds = count-start _;
+    helds = count-start _;
     lengths = same-lengths b;
     spins = v .1 .1 .0;
     each = λ k l e. absurd (omega arith);
@@ -145,10 +139,11 @@ module _ (w : Sweep) (b : Buffers) (v : Kept (sweepRules w b)) where
     kept = unwritten-none (common w) b;
   }
 
-  pub ran-all : (ni nm : ℕ) (b′ : Buffers) → Ran w b (tasks w) ni nm b′ → Sweeps w b ni nm b′
-  ran-all ni nm b′ h = record {
+  pub ran-all : (ni nm nh : ℕ) (b′ : Buffers) → Ran w b (tasks w) ni nm nh b′ → Sweeps w b ni nm nh b′
+  ran-all ni nm nh b′ h = record {
     valid = v;
-    counts = λ i. h .idles i ∷ h .moveds i ∷ [];
+    answered = h .answered;
+    counts = λ i. h .idles i ∷ h .moveds i ∷ h .helds i ∷ [];
     lengths = h .lengths;
     each = h .each;
     skipped = λ k l e. h .still k l (inl e);
@@ -156,17 +151,19 @@ module _ (w : Sweep) (b : Buffers) (v : Kept (sweepRules w b)) where
     kept = h .kept;
   }
 
-  module _ (K ni nm : ℕ) (b′ : Buffers) (below : K < tasks w) (h : Ran w b K ni nm b′) where
+  module _ (K ni nm nh : ℕ) (b′ : Buffers) (below : K < tasks w) (h : Ran w b K ni nm nh b′) where
     -- masked or still to come, also before this task
     weaker : (k : ℕ) → (masked w k ≡ true) ⊎ (K + 1 ≤ k) → (masked w k ≡ true) ⊎ (K ≤ k)
     weaker k (inl q) = inl q
     weaker k (inr q) = inr (omega arith)
 
-    pub ran-masked : masked w K ≡ true → Ran w b (K + 1) ni nm b′
+    pub ran-masked : masked w K ≡ true → Ran w b (K + 1) ni nm nh b′
     ran-masked e = record {
       reached = omega arith;
-      idles = count-more (isIdle w (b .spins)) K ni ni (h .idles) (rw e (omega arith));
-      moveds = count-more (isMoved w (b .spins)) K nm nm (h .moveds) (rw e (omega arith));
+      answered = h .answered;
+      idles = h .idles ∙ sym (skipped-counts isIdle w (h .answered) K e);
+      moveds = h .moveds ∙ sym (skipped-counts isMoved w (h .answered) K e);
+      helds = h .helds ∙ sym (skipped-counts isHeld w (h .answered) K e);
       lengths = h .lengths;
       spins = h .spins;
       each = λ k l q. before k l q (ℕ-discrete k K);
@@ -175,7 +172,7 @@ module _ (w : Sweep) (b : Buffers) (v : Kept (sweepRules w b)) where
       kept = h .kept;
     }
       where
-        before : (k : ℕ) → k < K + 1 → masked w k ≡ false → Dec (k ≡ K) → Done w b b′ k
+        before : (k : ℕ) → k < K + 1 → masked w k ≡ false → Dec (k ≡ K) → Done w b b′ k (h .answered k)
         before k l q (yes r) = absurd (let z : _≡_ {A = ℕ} 0 1 = cc (q, e, r) in omega arith)
         before k l q (no r) = h .each k (omega arith) q
 
@@ -206,16 +203,15 @@ module _ (w : Sweep) (b : Buffers) (v : Kept (sweepRules w b)) where
           → spin (w .lattice .n) (b″ .spins) t i ≡ spin (w .lattice .n) (b′ .spins) t i
       out = others-kept (taskCall w K) (taskChoices w K) (areas w b′ (b′ .spins) K) (areas w b″ (b″ .spins) K) a (s .answers)
 
-      done-now : Done w b b″ K
+      done-now : Done w b b″ K a
       done-now =
           done w b b″ K a (b′ .spins) (b″ .spins) (v .1 .1 .0) (sym (h .lengths .spins)) (s .lengths .spins)
           (λ i hi x hx. sym (own-rows i hi x hx)) accepted (rw own-areas at (s .answers)) (λ i x hi hx. refl)
 
-      done-before : (k : ℕ) → k < K → masked w k ≡ false → Done w b b″ k
+      done-before : (k : ℕ) → k < K → masked w k ≡ false → Done w b b″ k (h .answered k)
       done-before k l q =
           let d = h .each k l q in
           record {
-            answer = d .answer;
             spins = d .spins;
             answers = rw (respun w b′ b″ (b′ .spins) (d .spins) k (s .apart k (λ z. omega (arith, z)))) (d .answers);
             rows =
@@ -224,43 +220,17 @@ module _ (w : Sweep) (b : Buffers) (v : Kept (sweepRules w b)) where
                 ∙ d .rows i x hi hx;
           }
 
-      -- alone on the spins before the sweep it would answer the same
-      same-answer : done-now .answer ≡ a
-      same-answer =
-          determined (taskCall w K) (taskChoices w K) (areas w b (b′ .spins) K) (areas w b″ (b″ .spins) K) (areas w b″ (b″ .spins) K) (d .answer) a
-          (local (taskCall w K) (taskChoices w K) (areas w b (b .spins) K) (areas w b″ (d .spins) K) (b′ .spins) (h .lengths .spins) (h .spins) own-rows
-          (d .answer) acc (d .answers) (b″ .spins) there)
-          (rw own-areas at (s .answers))
-          .answer
-        where
-          d : Done w b b″ K
-          d = done-now
+      -- the counts go on by the task's answer
+      more : (kind : Answer → Bool) (m : ℕ) → m ≡ countTo kind w (h .answered) K → m + bit (kind a) ≡ countTo kind w (andThen (h .answered) K a) (K + 1)
+      more kind m q = ap (λ (z : ℕ). z + bit (kind a)) q ∙ sym (then-counts (h .answered) K a kind w e)
 
-          acc : Accepted (d .answer)
-          acc = accept (taskCall w K) (taskChoices w K) (areas w b (b .spins) K) (areas w b″ (d .spins) K) (d .answer) (task-valid w b v K below e)
-              (d .answers)
-
-          there : Rows (taskCall w K) (b′ .spins) (d .spins) (b″ .spins)
-          there = record { long = s .lengths .spins; group = λ i hi x hx. d .rows i x hi hx; others = out }
-
-      counted : SaysIdle a (idleTask w (b .spins) K)
-      counted = rw same-answer at (counted-as w b b″ v K below e done-now)
-
-      idle-more : (a : Answer) → SaysIdle a (idleTask w (b .spins) K) → ni + idleBy a ≡ ni + bit (isIdle w (b .spins) K)
-      idle-more (Refused r) q = absurd q
-      idle-more Idle q = rw (e, q) refl
-      idle-more Moved q = rw (e, q) refl
-
-      moved-more : (a : Answer) → SaysIdle a (idleTask w (b .spins) K) → nm + movedBy a ≡ nm + bit (isMoved w (b .spins) K)
-      moved-more (Refused r) q = absurd q
-      moved-more Idle q = rw (e, q) refl
-      moved-more Moved q = rw (e, q) refl
-
-      pub ran-more : Ran w b (K + 1) (ni + idleBy a) (nm + movedBy a) b″
+      pub ran-more : Ran w b (K + 1) (ni + bit (isIdle a)) (nm + movedBy a) (nh + bit (isHeld a)) b″
       ran-more = record {
         reached = omega arith;
-        idles = count-more (isIdle w (b .spins)) K ni (ni + idleBy a) (h .idles) (idle-more a counted);
-        moveds = count-more (isMoved w (b .spins)) K nm (nm + movedBy a) (h .moveds) (moved-more a counted);
+        answered = andThen (h .answered) K a;
+        idles = more isIdle ni (h .idles);
+        moveds = ap (λ (z : ℕ). nm + z) (moved-by accepted) ∙ more isMoved nm (h .moveds);
+        helds = more isHeld nh (h .helds);
         lengths = then-lengths (h .lengths) (s .lengths);
         spins = spins-after (taskCall w K) (taskChoices w K) (areas w b′ (b′ .spins) K) (areas w b″ (b″ .spins) K) a accepted (s .answers);
         each = λ k l q. at k l q (ℕ-discrete k K);
@@ -269,9 +239,9 @@ module _ (w : Sweep) (b : Buffers) (v : Kept (sweepRules w b)) where
         kept = then-unwritten (h .kept) (s .kept);
       }
         where
-          at : (k : ℕ) → k < K + 1 → masked w k ≡ false → Dec (k ≡ K) → Done w b b″ k
-          at k l q (yes r) = rw r done-now
-          at k l q (no r) = done-before k (omega arith) q
+          at : (k : ℕ) → k < K + 1 → masked w k ≡ false → Dec (k ≡ K) → Done w b b″ k (andThen (h .answered) K a k)
+          at k l q (yes r) = rw r (rw (then-here (h .answered) K a) done-now)
+          at k l q (no r) = rw (then-before (h .answered) K a k r) (done-before k (omega arith) q)
 
           ahead : (k : ℕ) → (masked w k ≡ true) ⊎ (K + 1 ≤ k) → k ≢ K
           ahead k (inl q) r = let z : _≡_ {A = ℕ} 0 1 = cc (q, e, r) in omega arith

@@ -10,7 +10,7 @@ use lib.Ieee.{Float}
 use Rattle.paper.specs.declared.Keeps.{Keeps}
 use Rattle.paper.specs.declared.Task.{Task}
 use Rattle.paper.specs.declared.Answer.{Answer}
-use Rattle.paper.specs.declared.Answer.the-variants.{Refused, Idle, Moved}
+use Rattle.paper.specs.declared.Answer.the-variants.{Refused, Idle, Held, Moved}
 use Rattle.paper.specs.Panel.Input.{Lattice, Call, Choices, Buffers}
 use Rattle.paper.specs.Panel.Takes.{keepsBy, growsBy, labelsBy, takesGreyLabels, entries, choiceBytes}
 use Rattle.paper.specs.Refusal.Kept.{Valid}
@@ -36,7 +36,7 @@ pub record Parts (keeps : Keeps) (w : Sweep) (k : ℕ) (t : Task) (cs : List Flo
 
 module _ {keeps : Keeps} {w : Sweep} {k : ℕ} {t : Task} {cs : List Float} {ps gs : List ℕ} (e : Parts keeps w k t cs ps gs) where
   abbrev callWith : Call
-  callWith = callOf t (w .lattice .fwd) (w .lattice .bwd) (w .lattice .couplings) cs
+  callWith = callOf t (w .lattice .fwd) (w .lattice .bwd) (w .pins) (w .lattice .couplings) cs
 
   pub valid-parts : {x : Buffers} → Valid (taskCall w k) (taskChoices w k) x → Valid callWith (choicesOf ps gs) x
   valid-parts v = rw (e .task, e .cuts, e .choices, e .greys) v
@@ -80,6 +80,7 @@ seen-unwritten c b b′ s = record {
 unwritten : (c : Call) (p : Choices) (b b′ : Buffers) (a : Answer) → Answers c p b a b′ → Unwritten c b b′
 unwritten c p b b′ (Refused r) w = subst (Unwritten c b) (sym (w .kept)) (unwritten-none c b)
 unwritten c p b b′ Idle w = seen-unwritten c b b′ (w .seen)
+unwritten c p b b′ Held w = seen-unwritten c b b′ (w .seen)
 unwritten c p b b′ Moved w = seen-unwritten c b b′ (w .seen)
 
 -- ---- the task's areas, lent and put back

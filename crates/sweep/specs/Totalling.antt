@@ -63,13 +63,13 @@ energy-same g xs ys t inverse same =
     (sum-ext (g .n) _ _ (λ i hi. sum-ext (g .d) _ _ (λ e he. cc (same i hi, same (aheadOf g i e) (inverse .there i e hi he .inside)))))
 
 -- b and ts before the sweep, b′ and us when the first K tasks have run
-pub record RanKeeping (keeping : Bool) (w : Sweep) (b : Buffers) (ts : List ℤ) (K idle moved : ℕ) (b′ : Buffers) (us : List ℤ) : Type 0 where
-  pub ran : Ran w b K idle moved b′
+pub record RanKeeping (keeping : Bool) (w : Sweep) (b : Buffers) (ts : List ℤ) (K idle moved held : ℕ) (b′ : Buffers) (us : List ℤ) : Type 0 where
+  pub ran : Ran w b K idle moved held b′
   pub totals : TotalsAfter keeping (w .lattice) (b .spins) ts (b′ .spins) us
 
 module _
     (keeping : Bool) (w : Sweep) (b : Buffers) (ts : List ℤ) (v : Kept (sweepRules w b)) (a : TotalsAsked keeping (w .lattice) ts)
-    (K ni nm : ℕ) (b′ : Buffers) (us : List ℤ) (below : K < tasks w) (h : RanKeeping keeping w b ts K ni nm b′ us)
+    (K ni nm nh : ℕ) (b′ : Buffers) (us : List ℤ) (below : K < tasks w) (h : RanKeeping keeping w b ts K ni nm nh b′ us)
   where
     own-system : (x : ℕ) → x < w .members → system (taskCall w K) x < w .lattice .s
     own-system x l = rw (system-is w b v K below x l) (sweep-valid-of w b v .order .within _ (entry-lt w b v K below x l))
@@ -79,7 +79,7 @@ module _
         → energy (w .lattice) (b′ .spins) (system (taskCall w K) x) ≡ energy (w .lattice) (b .spins) (system (taskCall w K) x)
     own-energy x l =
         energy-same (w .lattice) (b .spins) (b′ .spins) (system (taskCall w K) x) (sweep-valid-of w b v .inverse)
-        (λ i hi. own-rows w b v K ni nm b′ below (h .ran) i hi x l)
+        (λ i hi. own-rows w b v K ni nm nh b′ below (h .ran) i hi x l)
 
     -- a task that has not run meets its totals as they were before the sweep, also where others have grown past what a sweep accepts
     own-total : keeping ≡ true → (x : ℕ) → x < w .members → total us (system (taskCall w K) x) ≡ total ts (system (taskCall w K) x)

@@ -28,23 +28,24 @@ module _ (keeping : Bool) (w : Sweep) (b : Buffers) (ts : List ℤ) where
   pub swept-kept : Kept (sweptRules keeping w b ts) → Kept (sweepRules w b)
   swept-kept k =
       let q = k .1 .1 .1 in
-      let h = q .1 .1 .1 .1 in
-      (k .0, (k .1 .0, (q .0, (q .1 .0, (q .1 .1 .0, (q .1 .1 .1 .0, (h .1 .0, (h .1 .1 .0, kept-left (taskRules w b (tasks w)) _ (h .1 .1 .1)))))))))
+      let h = q .1 .1 .1 .1 .1 in
+      let rest = kept-left (taskRules w b (tasks w)) _ (h .1 .1 .1) in
+      (k .0, (k .1 .0, (q .0, (q .1 .0, (q .1 .1 .0, (q .1 .1 .1 .0, (q .1 .1 .1 .1 .0, (h .1 .0, (h .1 .1 .0, rest)))))))))
 
   pub swept-asked : Kept (sweptRules keeping w b ts) → TotalsAsked keeping (w .lattice) ts
   swept-asked k =
-      let h = k .1 .1 .1 .1 .1 .1 .1 in
+      let h = k .1 .1 .1 .1 .1 .1 .1 .1 in
       record { lengths = k .1 .1 .0; couplings = h .0; small = kept-last (taskRules w b (tasks w)) _ (h .1 .1 .1) .0 }
 
   pub asked-swept : Kept (sweepRules w b) → TotalsAsked keeping (w .lattice) ts → Kept (sweptRules keeping w b ts)
   asked-swept v a =
       let q = v .1 .1 in
-      let h = q .1 .1 .1 .1 in
+      let h = q .1 .1 .1 .1 .1 in
       let rest = kept-both (taskRules w b (tasks w)) (totalsAsk keeping (w .lattice) ts .last) (h .1 .1) (a .small, tt) in
-      (v .0, (v .1 .0, (a .lengths, (q .0, (q .1 .0, (q .1 .1 .0, (q .1 .1 .1 .0, (a .couplings, (h .0, (h .1 .0, rest))))))))))
+      (v .0, (v .1 .0, (a .lengths, (q .0, (q .1 .0, (q .1 .1 .0, (q .1 .1 .1 .0, (q .1 .1 .1 .1 .0, (a .couplings, (h .0, (h .1 .0, rest)))))))))))
 
   pub swept-answers :
       Kept (sweptRules keeping w b ts) → (a : SweepAnswer) (b′ : Buffers) (us : List ℤ) → SweepAnswers w b a b′
       → TotalsAfter keeping (w .lattice) (b .spins) ts (b′ .spins) us → SweepKeepAnswers keeping w b ts a b′ us
   swept-answers k (Fault r) b′ us f t = absurd (broken-not-kept (sweepRules w b) _ (f .why) (swept-kept k))
-  swept-answers k (Swept idle moved) b′ us f t = record { valid = k; answers = f; totals = t }
+  swept-answers k (Swept idle moved held) b′ us f t = record { valid = k; answers = f; totals = t }

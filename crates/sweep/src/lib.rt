@@ -16,6 +16,7 @@ pub fn overlap_update(
     totals: &mut [i64],
     fwd: &[u32],
     bwd: &[u32],
+    pins: &[u8],
     couplings: &[i32],
     order: &[u32],
     masks: &[u8],
@@ -34,7 +35,7 @@ pub fn overlap_update(
     grey_found: &mut [u32],
 ) -> SweepAnswer
     ensures { λ r. ⌜ SweepKeepAnswers (keepsBy (plan .keeps) (plan .form))
-        (sweepOf plan (now (fwd .entry)) (now (bwd .entry)) (now (couplings .entry)) (now (order .entry)) (now (masks .entry))
+        (sweepOf plan (now (fwd .entry)) (now (bwd .entry)) (now (pins .entry)) (now (couplings .entry)) (now (order .entry)) (now (masks .entry))
         (now (temperatures .entry)) (now (cuts .entry)) (now (references .entry)) (now (seeds .entry))
         (now (choices .entry)) (now (greys .entry)))
         (buffersOf (now (spins .entry)) (now (labels .entry)) (now («grey_labels» .entry)) (now (counts .entry)) (now (sizes .entry))
@@ -48,6 +49,7 @@ pub fn overlap_update(
         totals,
         fwd,
         bwd,
+        pins,
         couplings,
         order,
         masks,
@@ -74,6 +76,7 @@ pub fn overlap_update(
         totals,
         fwd,
         bwd,
+        pins,
         couplings,
         order,
         masks,

@@ -10,10 +10,11 @@ ghost use Rattle.paper.specs.Panel.Made.{latticeOf, buffersOf};
 ghost use Rattle.paper.specs.Answer.Made.{sweepOf};
 ghost use Rattle.sweep.specs.Turning.{Growable, Added, Turn, Turned};
 
-// How many tasks were idle so far, and how many moved.
+// How many tasks were idle so far, how many moved, and how many were held.
 struct Outcomes {
     idle: u32,
     moved: u32,
+    held: u32,
 }
 
 fn add(outcomes: Outcomes, answer: Answer) -> Outcomes
@@ -25,10 +26,17 @@ fn add(outcomes: Outcomes, answer: Answer) -> Outcomes
         Answer::Idle => Outcomes {
             idle: outcomes.idle + 1,
             moved: outcomes.moved,
+            held: outcomes.held,
+        },
+        Answer::Held => Outcomes {
+            idle: outcomes.idle,
+            moved: outcomes.moved,
+            held: outcomes.held + 1,
         },
         Answer::Moved => Outcomes {
             idle: outcomes.idle,
             moved: outcomes.moved + 1,
+            held: outcomes.held,
         },
     }
 }
@@ -42,6 +50,7 @@ fn step(
     totals: &mut [i64],
     fwd: &[u32],
     bwd: &[u32],
+    pins: &[u8],
     couplings: &[i32],
     order: &[u32],
     masks: &[u8],
@@ -60,12 +69,12 @@ fn step(
     grey_found: &mut [u32],
 ) -> Outcomes
     requires { ⌜ Turn (plan .keeps)
-        (sweepOf plan (now fwd) (now bwd) (now couplings) (now order) (now masks) (now temperatures) (now cuts)
+        (sweepOf plan (now fwd) (now bwd) (now pins) (now couplings) (now order) (now masks) (now temperatures) (now cuts)
         (now references) (now seeds) (now choices) (now greys))
         k outcomes (buffersOf (now spins) (now labels) (now «grey_labels») (now counts) (now sizes) (now members) (now found)
         (now «grey_found»)) (now totals) ⌝ }
     ensures { λ r. ⌜ Turned
-        (sweepOf plan (now (fwd .entry)) (now (bwd .entry)) (now (couplings .entry)) (now (order .entry)) (now (masks .entry))
+        (sweepOf plan (now (fwd .entry)) (now (bwd .entry)) (now (pins .entry)) (now (couplings .entry)) (now (order .entry)) (now (masks .entry))
         (now (temperatures .entry)) (now (cuts .entry)) (now (references .entry)) (now (seeds .entry))
         (now (choices .entry)) (now (greys .entry)))
         k outcomes (buffersOf (now (spins .entry)) (now (labels .entry)) (now («grey_labels» .entry)) (now (counts .entry)) (now (sizes .entry))
@@ -107,6 +116,7 @@ fn step(
         totals,
         fwd,
         bwd,
+        pins,
         couplings,
         tasks::task_cuts(plan, cuts, k),
         tasks::task_choices(plan, choices, k),
@@ -129,6 +139,7 @@ pub fn run_tasks(
     totals: &mut [i64],
     fwd: &[u32],
     bwd: &[u32],
+    pins: &[u8],
     couplings: &[i32],
     order: &[u32],
     masks: &[u8],
@@ -147,13 +158,13 @@ pub fn run_tasks(
     grey_found: &mut [u32],
 ) -> SweepAnswer
     requires { ⌜ Kept (sweepRules
-        (sweepOf plan (now fwd) (now bwd) (now couplings) (now order) (now masks) (now temperatures) (now cuts)
+        (sweepOf plan (now fwd) (now bwd) (now pins) (now couplings) (now order) (now masks) (now temperatures) (now cuts)
         (now references) (now seeds) (now choices) (now greys))
         (buffersOf (now spins) (now labels) (now «grey_labels») (now counts) (now sizes) (now members) (now found) (now «grey_found»))) ⌝ }
     requires { ⌜ TotalsAsked (keepsBy (plan .keeps) (plan .form))
         (latticeOf (plan .n) (plan .d) (plan .s) (now fwd) (now bwd) (now couplings)) (now totals) ⌝ }
     ensures { λ r. ⌜ SweepAnswers
-        (sweepOf plan (now (fwd .entry)) (now (bwd .entry)) (now (couplings .entry)) (now (order .entry)) (now (masks .entry))
+        (sweepOf plan (now (fwd .entry)) (now (bwd .entry)) (now (pins .entry)) (now (couplings .entry)) (now (order .entry)) (now (masks .entry))
         (now (temperatures .entry)) (now (cuts .entry)) (now (references .entry)) (now (seeds .entry))
         (now (choices .entry)) (now (greys .entry)))
         (buffersOf (now (spins .entry)) (now (labels .entry)) (now («grey_labels» .entry)) (now (counts .entry)) (now (sizes .entry))
@@ -165,7 +176,11 @@ pub fn run_tasks(
         (now (spins .entry)) (now (totals .entry)) (now (spins .exit)) (now (totals .exit)) ⌝ }
 {
     let count = tasks::task_count(plan);
-    let mut outcomes = Outcomes { idle: 0, moved: 0 };
+    let mut outcomes = Outcomes {
+        idle: 0,
+        moved: 0,
+        held: 0,
+    };
     let mut k: usize = 0;
     while k < count {
         outcomes = step(
@@ -176,6 +191,7 @@ pub fn run_tasks(
             totals,
             fwd,
             bwd,
+            pins,
             couplings,
             order,
             masks,
@@ -195,5 +211,5 @@ pub fn run_tasks(
         );
         k += 1;
     }
-    SweepAnswer::Swept(outcomes.idle, outcomes.moved)
+    SweepAnswer::Swept(outcomes.idle, outcomes.moved, outcomes.held)
 }

@@ -8,7 +8,7 @@ use lib.Ieee.{Float, nan}
 use Rattle.paper.specs.Panel.Input.{Buffers}
 use Rattle.paper.specs.Panel.Takes.{drawsBonds, keepsBy}
 use Rattle.paper.specs.Refusal.Rule.{Rule, rule}
-use Rattle.paper.specs.Refusal.Rules.{When, AllSystems, Spins, Inverse, Permutes, SmallCouplings, Warm}
+use Rattle.paper.specs.Refusal.Rules.{When, AllSystems, Spins, Inverse, Pins, Permutes, SmallCouplings, Warm}
 use Rattle.paper.specs.Refusal.Verdict.{Verdict, broken-first}
 use Rattle.paper.specs.Answer.Task.{Sweep}
 use Rattle.paper.specs.declared.Plan.{Plan}
@@ -38,10 +38,11 @@ lengthRules q l o =
     ∷ rule 2 (TotalsFit (keepsBy (q .keeps) (q .form)) (q .n) (q .d) (q .s) (l .couplings) (o .totals))
     ∷ []
 
-abbrev pub panelRules : Plan → List ℤ → List ℕ → List ℕ → List ℕ → List Rule
-panelRules q spins fwd bwd order =
+abbrev pub panelRules : Plan → List ℤ → List ℕ → List ℕ → List ℕ → List ℕ → List Rule
+panelRules q spins fwd bwd pins order =
     rule 3 (Spins (q .n) (AllSystems (q .s)) spins)
     ∷ rule 4 (Inverse (q .n) (q .d) fwd bwd)
+    ∷ rule 4 (Pins pins)
     ∷ rule 5 (Permutes (q .s) (λ k. getD order k 0))
     ∷ []
 
@@ -66,6 +67,7 @@ lengthsOf w b = record {
   spins = length (b .spins);
   fwd = length (w .lattice .fwd);
   bwd = length (w .lattice .bwd);
+  pins = length (w .pins);
   couplings = length (w .lattice .couplings);
   cuts = length (w .cuts);
   choices = length (w .choices);

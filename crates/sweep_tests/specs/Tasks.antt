@@ -77,29 +77,29 @@ module _ {q : Plan} {k : ℕ} {spins : List ℤ} {order : List ℕ} {cuts : List
 abbrev pub oneTask : Sweep → List ℤ → ℕ → List Rule
 oneTask w xs k = cond (masked w k) [] (choiceRules (taskCall w k) (taskChoices w k) xs)
 
--- r is the verdict on the task k, whatever the panel's tables and couplings are
+-- r is the verdict on the task k, whatever the panel's tables, pins and couplings are
 pub record TaskTold
     (q : Plan) (k : ℕ) (spins : List ℤ) (order masks : List ℕ) (temperatures cuts : List Float) (references seeds choices greys : List ℕ) (r : ℕ) : Type 0
   where
     pub is :
-        (fwd bwd : List ℕ) (couplings : List ℤ)
-        → Verdict (oneTask (sweepOf q fwd bwd couplings order masks temperatures cuts references seeds choices greys) spins k) r
+        (fwd bwd pins : List ℕ) (couplings : List ℤ)
+        → Verdict (oneTask (sweepOf q fwd bwd pins couplings order masks temperatures cuts references seeds choices greys) spins k) r
 
 -- and on the tasks below K, whatever the outputs hold
 pub record TasksTold
     (q : Plan) (K : ℕ) (spins : List ℤ) (order masks : List ℕ) (temperatures cuts : List Float) (references seeds choices greys : List ℕ) (r : ℕ) : Type 0
   where
     pub is :
-        (fwd bwd : List ℕ) (couplings : List ℤ) (labels greyLabels counts sizes members found greyFound : List ℕ)
+        (fwd bwd pins : List ℕ) (couplings : List ℤ) (labels greyLabels counts sizes members found greyFound : List ℕ)
         → Verdict
-        (taskRules (sweepOf q fwd bwd couplings order masks temperatures cuts references seeds choices greys)
+        (taskRules (sweepOf q fwd bwd pins couplings order masks temperatures cuts references seeds choices greys)
         (buffersOf spins labels greyLabels counts sizes members found greyFound) K)
         r
 
 -- a masked task keeps its rules; an unmasked one has the verdict on its parts
 module _ {q : Plan} {k : ℕ} {spins : List ℤ} {order masks : List ℕ} {ts cuts : List Float} {references seeds choices greys : List ℕ} where
   pub told-masked : maskedAt q masks k ≡ true → TaskTold q k spins order masks ts cuts references seeds choices greys 0
-  told-masked e = record { is = λ fwd bwd js. rw e tt }
+  told-masked e = record { is = λ fwd bwd pins js. rw e tt }
 
   pub told-parts :
       {t : Task} {cs : List Float} {ps gs : List ℕ} {r : ℕ} → maskedAt q masks k ≡ false
@@ -107,7 +107,7 @@ module _ {q : Plan} {k : ℕ} {spins : List ℤ} {order masks : List ℕ} {ts cu
       → ps ≡ part k (choiceBytes (q .mode) (q .form) (q .n) (q .members)) choices → gs ≡ part k (entries (q .form) (q .n)) greys
       → EveryCall t cs (λ c. Verdict (choiceRules c (choicesOf ps gs) spins) r)
       → TaskTold q k spins order masks ts cuts references seeds choices greys r
-  told-parts {t = t} e e₁ e₂ e₃ e₄ h = record { is = λ fwd bwd js. rw e (rw (e₁, e₂, e₃, e₄) at (h (t .d) (t .s) (t .temperature) fwd bwd js)) }
+  told-parts {t = t} e e₁ e₂ e₃ e₄ h = record { is = λ fwd bwd pins js. rw e (rw (e₁, e₂, e₃, e₄) at (h (t .d) (t .s) (t .temperature) fwd bwd pins js)) }
 
 -- ---- one task more
 more-kept : (w : Sweep) (b : Buffers) (K : ℕ) → Kept (taskRules w b K) → Kept (oneTask w (b .spins) K) → Kept (taskRules w b (K + 1))
@@ -123,17 +123,17 @@ more-broken w b K (suc M) r l h f = go (eq-or-lt-of-le (le-of-suc-le-suc l)) (λ
 
 module _ {q : Plan} {spins : List ℤ} {order masks : List ℕ} {ts cuts : List Float} {references seeds choices greys : List ℕ} where
   pub told-none : TasksTold q 0 spins order masks ts cuts references seeds choices greys 0
-  told-none = record { is = λ fwd bwd js labels greyLabels counts sizes members found greyFound. tt }
+  told-none = record { is = λ fwd bwd pins js labels greyLabels counts sizes members found greyFound. tt }
 
   pub told-more :
       {K r : ℕ} → TasksTold q K spins order masks ts cuts references seeds choices greys 0 → r ≡ 0
       → TaskTold q K spins order masks ts cuts references seeds choices greys r
       → TasksTold q (K + 1) spins order masks ts cuts references seeds choices greys 0
   told-more {K} {r} h e t = record {
-    is = λ fwd bwd js labels greyLabels counts sizes members found greyFound.
-        more-kept (sweepOf q fwd bwd js order masks ts cuts references seeds choices greys)
+    is = λ fwd bwd pins js labels greyLabels counts sizes members found greyFound.
+        more-kept (sweepOf q fwd bwd pins js order masks ts cuts references seeds choices greys)
         (buffersOf spins labels greyLabels counts sizes members found greyFound) K
-        (h .is fwd bwd js labels greyLabels counts sizes members found greyFound) (rw e at (t .is fwd bwd js));
+        (h .is fwd bwd pins js labels greyLabels counts sizes members found greyFound) (rw e at (t .is fwd bwd pins js));
   }
 
   pub told-broken :
@@ -142,8 +142,8 @@ module _ {q : Plan} {spins : List ℤ} {order masks : List ℕ} {ts cuts : List 
       → TasksTold q M spins order masks ts cuts references seeds choices greys r
   told-broken {K} {M} {r = zero} l h ne t = absurd (ne refl)
   told-broken {K} {M} {r = suc r} l h ne t = record {
-    is = λ fwd bwd js labels greyLabels counts sizes members found greyFound.
-        more-broken (sweepOf q fwd bwd js order masks ts cuts references seeds choices greys)
+    is = λ fwd bwd pins js labels greyLabels counts sizes members found greyFound.
+        more-broken (sweepOf q fwd bwd pins js order masks ts cuts references seeds choices greys)
         (buffersOf spins labels greyLabels counts sizes members found greyFound) K M (suc r) l
-        (h .is fwd bwd js labels greyLabels counts sizes members found greyFound) (t .is fwd bwd js);
+        (h .is fwd bwd pins js labels greyLabels counts sizes members found greyFound) (t .is fwd bwd pins js);
   }

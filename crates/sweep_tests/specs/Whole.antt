@@ -30,7 +30,7 @@ module _ (keeps : Keeps) (w : Sweep) (b : Buffers) (ts : List ℤ) where
   keeping = keepsBy keeps (w .form)
 
   abbrev pub panelOf : List Rule
-  panelOf = panelRules (planOf keeps w) (b .spins) (w .lattice .fwd) (w .lattice .bwd) (w .order)
+  panelOf = panelRules (planOf keeps w) (b .spins) (w .lattice .fwd) (w .lattice .bwd) (w .pins) (w .order)
 
   abbrev pub heatOf : List Rule
   heatOf = heatRules (planOf keeps w) (w .lattice .couplings) (w .temperatures) (w .masks)
@@ -64,6 +64,7 @@ module _ (keeps : Keeps) (w : Sweep) (b : Buffers) (ts : List ℤ) where
           spins = e .spins;
           fwd = e .fwd;
           bwd = e .bwd;
+          pins = e .pins;
           couplings = e .couplings;
           cuts = e .cuts;
           choices = e .choices;
@@ -88,6 +89,7 @@ module _ (keeps : Keeps) (w : Sweep) (b : Buffers) (ts : List ℤ) where
     spins = a .spins;
     fwd = a .fwd;
     bwd = a .bwd;
+    pins = a .pins;
     order = f .order;
     masks = f .masks;
     couplings = a .couplings;
@@ -142,20 +144,20 @@ pub record Sized
 
 -- r is the verdict on all but 1 and 2, whatever the outputs hold
 pub record ValuesTold
-    (q : Plan) (spins totals : List ℤ) (fwd bwd : List ℕ) (couplings : List ℤ) (order masks : List ℕ) (temperatures cuts : List Float)
+    (q : Plan) (spins totals : List ℤ) (fwd bwd pins : List ℕ) (couplings : List ℤ) (order masks : List ℕ) (temperatures cuts : List Float)
     (references seeds choices greys : List ℕ) (r : ℕ) : Type 0
   where
     pub is :
         (labels greyLabels counts sizes members found greyFound : List ℕ)
         → Verdict
-        (valueRules (q .keeps) (sweepOf q fwd bwd couplings order masks temperatures cuts references seeds choices greys)
+        (valueRules (q .keeps) (sweepOf q fwd bwd pins couplings order masks temperatures cuts references seeds choices greys)
         (buffersOf spins labels greyLabels counts sizes members found greyFound) totals)
         r
 
 module _ {q : Plan} {spins : List ℤ} {fwd bwd order masks : List ℕ} {temperatures cuts : List Float} {choices greys : List ℕ}
     (h : Sized q spins fwd bwd order masks temperatures cuts choices greys) where
-  pub tested-of : Kept (panelRules q spins fwd bwd order) → SweepTested q spins order cuts choices greys
-  tested-of k = record {
+  pub tested-of : (pins : List ℕ) → Kept (panelRules q spins fwd bwd pins order) → SweepTested q spins order cuts choices greys
+  tested-of pins k = record {
     planned = h .planned;
     spins-long = h .panel .spins-long;
     order-long = h .panel .order-long;
@@ -163,7 +165,7 @@ module _ {q : Plan} {spins : List ℤ} {fwd bwd order masks : List ℕ} {tempera
     choices-long = h .choices-long;
     greys-long = h .greys-long;
     spinning = k .0;
-    permuted = k .1 .1 .0;
+    permuted = k .1 .1 .1 .0;
   }
 
 pub sized-of :

@@ -84,15 +84,18 @@ fn test_lengths(plan: Plan, l: Lengths, o: SweepLengths) -> u8
     0
 }
 
-fn test_panel(plan: Plan, spins: &[i8], fwd: &[u32], bwd: &[u32], order: &[u32]) -> u8
+fn test_panel(plan: Plan, spins: &[i8], fwd: &[u32], bwd: &[u32], pins: &[u8], order: &[u32]) -> u8
     requires { ⌜ PanelLong plan (now spins) (now fwd) (now bwd) (now order) ⌝ }
     ensures { λ r. ⌜ Verdict
-        (panelRules plan (now (spins .entry)) (now (fwd .entry)) (now (bwd .entry)) (now (order .entry))) r ⌝ }
+        (panelRules plan (now (spins .entry)) (now (fwd .entry)) (now (bwd .entry)) (now (pins .entry)) (now (order .entry))) r ⌝ }
 {
     if !lattice::spins_ok(spins) {
         return 3;
     }
     if !lattice::tables_ok(plan.n, plan.d, fwd, bwd) {
+        return 4;
+    }
+    if !lattice::bytes_at_most(pins, 1) {
         return 4;
     }
     if lattice::order_ok(plan.s, order) {
@@ -211,6 +214,7 @@ fn test_values(
     totals: &[i64],
     fwd: &[u32],
     bwd: &[u32],
+    pins: &[u8],
     couplings: &[i32],
     order: &[u32],
     masks: &[u8],
@@ -222,11 +226,11 @@ fn test_values(
     greys: &[u8],
 ) -> u8
     requires { ⌜ Sized plan (now spins) (now fwd) (now bwd) (now order) (now masks) (now temperatures) (now cuts) (now choices) (now greys) ⌝ }
-    ensures { λ r. ⌜ ValuesTold plan (now (spins .entry)) (now (totals .entry)) (now (fwd .entry)) (now (bwd .entry)) (now (couplings .entry))
-        (now (order .entry)) (now (masks .entry)) (now (temperatures .entry)) (now (cuts .entry)) (now (references .entry))
+    ensures { λ r. ⌜ ValuesTold plan (now (spins .entry)) (now (totals .entry)) (now (fwd .entry)) (now (bwd .entry)) (now (pins .entry))
+        (now (couplings .entry)) (now (order .entry)) (now (masks .entry)) (now (temperatures .entry)) (now (cuts .entry)) (now (references .entry))
         (now (seeds .entry)) (now (choices .entry)) (now (greys .entry)) r ⌝ }
 {
-    let panel = test_panel(plan, spins, fwd, bwd, order);
+    let panel = test_panel(plan, spins, fwd, bwd, pins, order);
     if panel != 0 {
         return panel;
     }
@@ -265,6 +269,7 @@ pub fn test_sweep(
     totals: &[i64],
     fwd: &[u32],
     bwd: &[u32],
+    pins: &[u8],
     couplings: &[i32],
     order: &[u32],
     masks: &[u8],
@@ -283,7 +288,7 @@ pub fn test_sweep(
     grey_found: &[u32],
 ) -> u8
     ensures { λ r. ⌜ Verdict (sweptRules (keepsBy (plan .keeps) (plan .form))
-        (sweepOf plan (now (fwd .entry)) (now (bwd .entry)) (now (couplings .entry)) (now (order .entry)) (now (masks .entry))
+        (sweepOf plan (now (fwd .entry)) (now (bwd .entry)) (now (pins .entry)) (now (couplings .entry)) (now (order .entry)) (now (masks .entry))
         (now (temperatures .entry)) (now (cuts .entry)) (now (references .entry)) (now (seeds .entry))
         (now (choices .entry)) (now (greys .entry)))
         (buffersOf (now (spins .entry)) (now (labels .entry)) (now («grey_labels» .entry)) (now (counts .entry)) (now (sizes .entry))
@@ -293,6 +298,7 @@ pub fn test_sweep(
         spins: spins.len(),
         fwd: fwd.len(),
         bwd: bwd.len(),
+        pins: pins.len(),
         couplings: couplings.len(),
         cuts: cuts.len(),
         choices: choices.len(),
@@ -323,6 +329,7 @@ pub fn test_sweep(
         totals,
         fwd,
         bwd,
+        pins,
         couplings,
         order,
         masks,

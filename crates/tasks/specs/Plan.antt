@@ -28,7 +28,7 @@ pub record Bounding (len k m start end : ℕ) : Type 0 where
 
 -- where only the order or the masks are looked at
 abbrev pub ordered : Plan → List ℕ → List ℕ → Sweep
-ordered q order masks = sweepOf q [] [] [] order masks [] [] [] [] [] []
+ordered q order masks = sweepOf q [] [] [] [] order masks [] [] [] [] [] []
 
 abbrev pub groupAt : Plan → List ℕ → ℕ → Group
 groupAt q order k = groupOf (ordered q order []) k

@@ -83,7 +83,7 @@ module _ (t : Task) (choices greys : List ℕ) (h : Long t choices greys) where
       → Test i (When (byGreys && oneCluster (t .form)) (1 ≤ getD greys 0 0))
       → Test j (When (isGperm (t .mode)) (t .reference < t .n))
       → EveryCut t (λ c. Tells (((((a && b) && e) && f) && i) && j) (Chosen c (choicesOf choices greys)))
-  chosen-told ta tb te tf ti tj cuts d s temperature fwd bwd couplings =
+  chosen-told ta tb te tf ti tj cuts d s temperature fwd bwd pins couplings =
       same (Chosen _ (choicesOf choices greys))
       (λ w. let v = w .0 .0 .0 in record {
         perms = v .0 .0;

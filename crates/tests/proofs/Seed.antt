@@ -18,16 +18,16 @@ use Rattle.tests.specs.Choices.{EveryCut}
 module _ (t : Task) (xs : List ℤ) where
   -- no seed is taken
   pub unseeded : oneCluster (t .form) ≡ false → EveryCut t (λ c. Seeded c xs)
-  unseeded w cuts d s temperature fwd bwd couplings = record { below = λ e. never (sym w ∙ e); acting = λ e. never (sym w ∙ e) }
+  unseeded w cuts d s temperature fwd bwd pins couplings = record { below = λ e. never (sym w ∙ e); acting = λ e. never (sym w ∙ e) }
 
   -- it is no site
   pub seed-past : oneCluster (t .form) ≡ true → t .n ≤ t .seed → EveryCut t (λ c. Seeded c xs → ⊥)
-  seed-past w l cuts d s temperature fwd bwd couplings h = let b = h .below w in omega arith
+  seed-past w l cuts d s temperature fwd bwd pins couplings h = let b = h .below w in omega arith
 
   -- it acts
   pub seed-acts : t .seed < t .n → actsAt (t .mode) (t .n) (t .group) (t .reference) xs (t .seed) ≡ true → EveryCut t (λ c. Seeded c xs)
   unfolding acts
-  seed-acts l e cuts d s temperature fwd bwd couplings = record { below = λ _. l; acting = λ _ _. e }
+  seed-acts l e cuts d s temperature fwd bwd pins couplings = record { below = λ _. l; acting = λ _ _. e }
 
   -- it does not: then no site may
   pub seed-rests :
@@ -36,5 +36,5 @@ module _ (t : Task) (xs : List ℤ) where
       → Tells r (SomeSite (t .n) (actsAt (t .mode) (t .n) (t .group) (t .reference) xs))
       → EveryCut t (λ c. Tells (not r) (Seeded c xs))
   unfolding acts
-  seed-rests true w l e some cuts d s temperature fwd bwd couplings = λ s. never (sym e ∙ s .acting w (some-acts _ xs some))
-  seed-rests false w l e some cuts d s temperature fwd bwd couplings = record { below = λ _. l; acting = λ _ o. absurd (some (some-site _ xs o)) }
+  seed-rests true w l e some cuts d s temperature fwd bwd pins couplings = λ s. never (sym e ∙ s .acting w (some-acts _ xs some))
+  seed-rests false w l e some cuts d s temperature fwd bwd pins couplings = record { below = λ _. l; acting = λ _ o. absurd (some (some-site _ xs o)) }

@@ -31,7 +31,7 @@ module _ (A B C D : Type 0) (qs : List Rule) (m : ℕ) (back : D → C) where
   reworded (inl w) = inl w
   reworded (inr w) = inr (w .0, second (w .1))
 
-module _ (t : Task) (xs ts : List ℤ) (fwd bwd : List ℕ) (js : List ℤ) (l : Lengths) (h : Measures xs fwd bwd js l) where
+module _ (t : Task) (xs ts : List ℤ) (fwd bwd pins : List ℕ) (js : List ℤ) (l : Lengths) (h : Measures xs fwd bwd js l) where
   abbrev g : Lattice
   g = latticeOf (t .n) (t .d) (t .s) fwd bwd js
 
@@ -44,9 +44,9 @@ module _ (t : Task) (xs ts : List ℤ) (fwd bwd : List ℕ) (js : List ℤ) (l :
   fitting : When keeping (TotalLengths g ts) → TotalsFit keeping (t .n) (t .d) (t .s) (l .couplings) (length ts)
   fitting q = rw (h .couplings-is) (lengths-fit keeping g ts q)
 
-  pub shape-broken : (r : ℕ) → (r ≡ 0 → ⊥) → Verdict (shapeRules t (length ts) l) r → Verdict (panelRules t xs ts fwd bwd js l) r
+  pub shape-broken : (r : ℕ) → (r ≡ 0 → ⊥) → Verdict (shapeRules t (length ts) l) r → Verdict (panelRules t xs ts fwd bwd pins js l) r
   shape-broken zero ne v = absurd (ne refl)
   shape-broken (suc r) ne v =
       reworded (Ranged (t .n) (t .d) (t .s) (t .mode) (t .group .len)) (Fits (t .mode) (t .form) (t .n) (t .d) (t .s) (t .group .len) l)
-      (TotalsFit keeping (t .n) (t .d) (t .s) (l .couplings) (length ts)) (When keeping (TotalLengths g ts)) (contentRules t xs fwd bwd js) (suc r)
+      (TotalsFit keeping (t .n) (t .d) (t .s) (l .couplings) (length ts)) (When keeping (TotalLengths g ts)) (contentRules t xs fwd bwd pins js) (suc r)
       fitting v

@@ -51,10 +51,10 @@ elsewhere t d s temperature = record {
   seed = t .seed;
 }
 
--- of every call of the task with these cuts: the tests look at no table and at no coupling, and not at the panel's other numbers
+-- of every call of the task with these cuts: the tests look at no table, pin or coupling, and not at the panel's other numbers
 abbrev pub EveryCall : Task → List Float → (Call → Type 0) → Type 0
 EveryCall t cuts P =
-    (d s : ℕ) (temperature : Float) (fwd bwd : List ℕ) (couplings : List ℤ) → P (callOf (elsewhere t d s temperature) fwd bwd couplings cuts)
+    (d s : ℕ) (temperature : Float) (fwd bwd pins : List ℕ) (couplings : List ℤ) → P (callOf (elsewhere t d s temperature) fwd bwd pins couplings cuts)
 
 -- and 9 and 10 at no cut
 abbrev pub EveryCut : Task → (Call → Type 0) → Type 0

@@ -25,9 +25,9 @@ pub totals-lengths-ok-determined : (keeping : Bool) (n d s couplings totals : �
     → Tells a (TotalsFit keeping n d s couplings totals) → Tells b (TotalsFit keeping n d s couplings totals) → a ≡ b
 totals-lengths-ok-determined keeping n d s couplings totals = tells-determined (TotalsFit keeping n d s couplings totals)
 
-pub test-panel-determined : (t : Task) (spins totals : List ℤ) (fwd bwd : List ℕ) (couplings : List ℤ) (l : Lengths) (a b : ℕ)
-    → Verdict (panelRules t spins totals fwd bwd couplings l) a → Verdict (panelRules t spins totals fwd bwd couplings l) b → a ≡ b
-test-panel-determined t spins totals fwd bwd couplings l = verdict-unique (panelRules t spins totals fwd bwd couplings l)
+pub test-panel-determined : (t : Task) (spins totals : List ℤ) (fwd bwd pins : List ℕ) (couplings : List ℤ) (l : Lengths) (a b : ℕ)
+    → Verdict (panelRules t spins totals fwd bwd pins couplings l) a → Verdict (panelRules t spins totals fwd bwd pins couplings l) b → a ≡ b
+test-panel-determined t spins totals fwd bwd pins couplings l = verdict-unique (panelRules t spins totals fwd bwd pins couplings l)
 
 -- at any one choice of what the tests do not look at
 pub test-choices-determined : (t : Task) (spins : List ℤ) (cuts : List Float) (choices greys : List ℕ) (a b : ℕ)
@@ -35,5 +35,5 @@ pub test-choices-determined : (t : Task) (spins : List ℤ) (cuts : List Float) 
     → EveryCall t cuts (λ c. Verdict (choiceRules c (choicesOf choices greys) spins) b)
     → a ≡ b
 test-choices-determined t spins cuts choices greys a b p q =
-    verdict-unique (choiceRules (callOf t [] [] [] cuts) (choicesOf choices greys) spins) a b
-    (p (t .d) (t .s) (t .temperature) [] [] []) (q (t .d) (t .s) (t .temperature) [] [] [])
+    verdict-unique (choiceRules (callOf t [] [] [] [] cuts) (choicesOf choices greys) spins) a b
+    (p (t .d) (t .s) (t .temperature) [] [] [] []) (q (t .d) (t .s) (t .temperature) [] [] [] [])

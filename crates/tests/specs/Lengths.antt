@@ -23,6 +23,7 @@ pub record FitsEach (mode : Mode) (form : Form) (n d s m count : ℕ) (l : Lengt
   pub spins : l .spins ≡ s * n
   pub fwd : l .fwd ≡ n * d
   pub bwd : l .bwd ≡ n * d
+  pub pins : l .pins ≡ n
   pub couplings : When (drawsBonds mode) (l .couplings ≡ n * d)
   pub cuts : When (drawsBonds mode) (l .cuts ≡ count * (n * d))
   pub choices : When (choicesBy mode form) (l .choices ≡ count * choiceBytes mode form n m)
@@ -51,6 +52,7 @@ module _ (mode : Mode) (form : Form) (n d s m : ℕ) (l : Lengths) where
     spins = f .spins;
     fwd = f .fwd;
     bwd = f .bwd;
+    pins = f .pins;
     couplings = f .couplings;
     cuts = λ e. rw one-mul at (f .cuts e);
     choices = λ e. rw one-mul at (f .choices e);
@@ -69,6 +71,7 @@ module _ (mode : Mode) (form : Form) (n d s m : ℕ) (l : Lengths) where
     spins = f .spins;
     fwd = f .fwd;
     bwd = f .bwd;
+    pins = f .pins;
     couplings = f .couplings;
     cuts = λ e. rw one-mul (f .cuts e);
     choices = λ e. rw one-mul (f .choices e);

@@ -13,7 +13,7 @@ use Rattle.paper.specs.Panel.Input.{Lattice}
 use Rattle.paper.specs.Panel.Made.{latticeOf}
 use Rattle.paper.specs.Panel.Takes.{drawsBonds, keepsBy}
 use Rattle.paper.specs.Refusal.Rule.{Rule, rule, Broken}
-use Rattle.paper.specs.Refusal.Rules.{When, Ranged, Fits, AllSystems, Spins, Inverse, Grouped, SmallCouplings, Warm}
+use Rattle.paper.specs.Refusal.Rules.{When, Ranged, Fits, AllSystems, Spins, Inverse, Pins, Grouped, SmallCouplings, Warm}
 use Rattle.paper.specs.Answer.Totals.{TotalLengths}
 
 -- l has the lengths of these buffers
@@ -47,10 +47,11 @@ shapeRules t totals l =
     ∷ []
 
 -- 3 to 7
-abbrev pub contentRules : Task → List ℤ → List ℕ → List ℕ → List ℤ → List Rule
-contentRules t spins fwd bwd couplings =
+abbrev pub contentRules : Task → List ℤ → List ℕ → List ℕ → List ℕ → List ℤ → List Rule
+contentRules t spins fwd bwd pins couplings =
     rule 3 (Spins (t .n) (AllSystems (t .s)) spins)
     ∷ rule 4 (Inverse (t .n) (t .d) fwd bwd)
+    ∷ rule 4 (Pins pins)
     ∷ rule 5 (Grouped (t .s) (t .group))
     ∷ rule 6 (When (drawsBonds (t .mode)) (SmallCouplings couplings))
     ∷ rule 6 (When (keepsBy (t .keeps) (t .form)) (SmallCouplings couplings))
@@ -58,12 +59,12 @@ contentRules t spins fwd bwd couplings =
     ∷ []
 
 -- all that is asked before the task's own choices
-abbrev pub panelRules : Task → List ℤ → List ℤ → List ℕ → List ℕ → List ℤ → Lengths → List Rule
-panelRules t spins totals fwd bwd couplings l =
+abbrev pub panelRules : Task → List ℤ → List ℤ → List ℕ → List ℕ → List ℕ → List ℤ → Lengths → List Rule
+panelRules t spins totals fwd bwd pins couplings l =
     rule 1 (Ranged (t .n) (t .d) (t .s) (t .mode) (t .group .len))
     ∷ rule 2 (Fits (t .mode) (t .form) (t .n) (t .d) (t .s) (t .group .len) l)
     ∷ rule 2 (When (keepsBy (t .keeps) (t .form)) (TotalLengths (latticeOf (t .n) (t .d) (t .s) fwd bwd couplings) totals))
-    ∷ contentRules t spins fwd bwd couplings
+    ∷ contentRules t spins fwd bwd pins couplings
 
 -- ---- one test for two rules of one number: of what is taken for either reason
 pub either-first : (a b : Bool) (P : Type 0) → When (a || b) P → When a P

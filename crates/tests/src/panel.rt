@@ -35,6 +35,7 @@ pub fn lengths_ok(
     (l.spins == s * n)
         & (l.fwd == bonds)
         & (l.bwd == bonds)
+        & (l.pins == n)
         & lattice::fits(drawn, l.couplings, bonds)
         & lattice::fits(drawn, l.cuts, count * bonds)
         & lattice::fits(choices, l.choices, count * (rows * width))
@@ -91,12 +92,13 @@ pub fn test_panel(
     totals: &[i64],
     fwd: &[u32],
     bwd: &[u32],
+    pins: &[u8],
     couplings: &[i32],
     l: Lengths,
 ) -> u8
     requires { ⌜ Measures (now spins) (now fwd) (now bwd) (now couplings) l ⌝ }
     ensures { λ r. ⌜ Verdict (panelRules t (now (spins .entry)) (now (totals .entry)) (now (fwd .entry)) (now (bwd .entry))
-        (now (couplings .entry)) l) r ⌝ }
+        (now (pins .entry)) (now (couplings .entry)) l) r ⌝ }
 {
     let shape = test_shape(t, totals.len(), l);
     if shape != 0 {
@@ -106,6 +108,9 @@ pub fn test_panel(
         return 3;
     }
     if !lattice::tables_ok(t.n, t.d, fwd, bwd) {
+        return 4;
+    }
+    if !lattice::bytes_at_most(pins, 1) {
         return 4;
     }
     let group = t.group;

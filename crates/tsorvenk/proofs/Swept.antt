@@ -23,14 +23,16 @@ use Rattle.tsorvenk.specs.Number.{Coded, codingOf, keepsOf, takenOf}
 use Rattle.tsorvenk.specs.Sweep.{planFor, WithOutcomes, withOutcomes, Fits, FitsPlan, Uncounted, SweepNumbers, Roomless, Told}
 
 -- ---- the counts, written one after the other
-two-set : (ts : List ℕ) (i m : ℕ) → length ts ≡ 2 → set (set ts 0 i) 1 m ≡ i ∷ m ∷ []
-two-set [] i m l = absurd (omega arith)
-two-set (x ∷ []) i m l = absurd (omega arith)
-two-set (x ∷ y ∷ []) i m l = refl
-two-set (x ∷ y ∷ z ∷ ts) i m l = absurd (omega arith)
+three-set : (ts : List ℕ) (i m h : ℕ) → length ts ≡ 3 → set (set (set ts 0 i) 1 m) 2 h ≡ i ∷ m ∷ h ∷ []
+three-set [] i m h l = absurd (omega arith)
+three-set (x ∷ []) i m h l = absurd (omega arith)
+three-set (x ∷ y ∷ []) i m h l = absurd (omega arith)
+three-set (x ∷ y ∷ z ∷ []) i m h l = refl
+three-set (x ∷ y ∷ z ∷ v ∷ ts) i m h l = absurd (omega arith)
 
-pub counts-told : (a : SweepAnswer) (ts : List ℕ) (i m : ℕ) → a ≡ Swept i m → length ts ≡ 2 → Told a ts 0 (set (set ts 0 i) 1 m)
-counts-told a ts i m e l = subst (λ (x : SweepAnswer). Told x ts 0 (set (set ts 0 i) 1 m)) (sym e) (record { number = refl; counts = two-set ts i m l })
+pub counts-told : (a : SweepAnswer) (ts : List ℕ) (i m h : ℕ) → a ≡ Swept i m h → length ts ≡ 3 → Told a ts 0 (set (set (set ts 0 i) 1 m) 2 h)
+counts-told a ts i m h e l =
+    subst (λ (x : SweepAnswer). Told x ts 0 (set (set (set ts 0 i) 1 m) 2 h)) (sym e) (record { number = refl; counts = three-set ts i m h l })
 
 -- ---- without room for the counts
 module _ (k : Keeps) (coded : Bool) (w : Sweep) where
@@ -40,18 +42,19 @@ module _ (k : Keeps) (coded : Bool) (w : Sweep) where
   sweep-fits : FitsPlan coded (planOf k w) → Fits coded w
   sweep-fits h = record { ranged = record { ranged = h .planned .ranged; all = h .planned .all; enough = h .planned .enough }; five = h .five }
 
-  roomless-at : (l : WithOutcomes) (r : ℕ) → (length (l .outcomes) ≡ 2 → ⊥) → Roomless coded (planOf k w) r → Uncounted coded w l r l
+  roomless-at : (l : WithOutcomes) (r : ℕ) → (length (l .outcomes) ≡ 3 → ⊥) → Roomless coded (planOf k w) r → Uncounted coded w l r l
   roomless-at l r n (inl v) = record { why = inl ((λ h. v .0 (plan-fits h)), sym (v .1)); kept = refl }
   roomless-at l r n (inr v) = record { why = inr (sweep-fits (v .0), inl (n, sym (v .1))); kept = refl }
 
 -- the mode and the form that were made of the lent numbers; what is kept is no part of a sweep
-module _ {n d s t r members : ℕ} {fwd bwd : List ℕ} {couplings : List ℤ} {order masks : List ℕ} {temperatures cuts : List Float}
+module _ {n d s t r members : ℕ} {fwd bwd pins : List ℕ} {couplings : List ℤ} {order masks : List ℕ} {temperatures cuts : List Float}
     {references seeds greys : List ℕ} (flips perms : List ℕ) (k k′ : Keeps) {m m′ : Mode} {f f′ : Form} where
   pub same-sweep : m ≡ m′ → f ≡ f′
-      → sweepOf (planFor m f k n d s t r members) fwd bwd couplings order masks temperatures cuts references seeds (takenOf m flips perms) greys
-      ≡ sweepOf (planFor m′ f′ k′ n d s t r members) fwd bwd couplings order masks temperatures cuts references seeds (takenOf m′ flips perms) greys
+      → sweepOf (planFor m f k n d s t r members) fwd bwd pins couplings order masks temperatures cuts references seeds (takenOf m flips perms) greys
+      ≡ sweepOf (planFor m′ f′ k′ n d s t r members) fwd bwd pins couplings order masks temperatures cuts references seeds (takenOf m′ flips perms) greys
   same-sweep em ef = λ i.
-      sweepOf (planFor (em i) (ef i) k n d s t r members) fwd bwd couplings order masks temperatures cuts references seeds (takenOf (em i) flips perms) greys
+      sweepOf (planFor (em i) (ef i) k n d s t r members) fwd bwd pins couplings order masks temperatures cuts references seeds
+      (takenOf (em i) flips perms) greys
 
 pub uncoded-sweep :
     {mode form coding keeps : ℕ} {w : Sweep} {l : WithOutcomes} → (Coded mode form coding keeps → ⊥) → SweepNumbers mode form coding keeps w l 1 l
@@ -59,7 +62,7 @@ uncoded-sweep none = record { known = λ k. absurd (none k); unknown = λ _. rec
 
 module _ {mode form coding keeps : ℕ} (w w′ : Sweep) (b : Buffers) (ts : List ℤ) (os : List ℕ) (r : ℕ) (x : Bool) where
   pub roomless-sweep : (k : Keeps) → Coded mode form coding keeps → x ≡ numbersBy (codingOf coding) (w′ .mode) (w′ .form) → w ≡ w′
-      → (length os ≡ 2 → ⊥) → Roomless x (planOf k w) r → SweepNumbers mode form coding keeps w′ (withOutcomes b ts os) r (withOutcomes b ts os)
+      → (length os ≡ 3 → ⊥) → Roomless x (planOf k w) r → SweepNumbers mode form coding keeps w′ (withOutcomes b ts os) r (withOutcomes b ts os)
   roomless-sweep k d ex e n h = record {
     known = λ _. record {
       roomed = λ l. absurd (n l);
@@ -75,7 +78,7 @@ module _ {mode form coding keeps : ℕ} (w w′ : Sweep) (b : Buffers) (ts : Lis
       → x ≡ numbersBy (codingOf coding) (w′ .mode) (w′ .form)
       → q ≡ keepsBy (keepsOf keeps) (w′ .form)
       → w ≡ w′
-      → length os ≡ 2
+      → length os ≡ 3
       → SweepCodedAnswers x q w b ts a b′ ts′
       → Told a os r os′
       → SweepNumbers mode form coding keeps w′ (withOutcomes b ts os) r (withOutcomes b′ ts′ os′)

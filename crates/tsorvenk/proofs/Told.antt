@@ -39,11 +39,12 @@ pub unknown-code :
     → StepAnswers mode form coding keeps c p l 1 l
 unknown-code none = record { known = λ k. absurd (none k); unknown = λ _. record { number = refl; kept = refl } }
 
-abbrev callBy : Lattice → Float → List Float → ℕ → ℕ → Mode → Form → Group → Call
-callBy t temperature cuts reference seed m f g = record {
+abbrev callBy : Lattice → List ℕ → Float → List Float → ℕ → ℕ → Mode → Form → Group → Call
+callBy t pins temperature cuts reference seed m f g = record {
   mode = m;
   form = f;
   lattice = t;
+  pins = pins;
   group = g;
   temperature = temperature;
   cuts = cuts;
@@ -52,9 +53,9 @@ callBy t temperature cuts reference seed m f g = record {
 }
 
 -- the mode, the form and the group that were made of the lent numbers
-module _ {t : Lattice} {x : Float} {cuts : List Float} {q s : ℕ} {m m′ : Mode} {f f′ : Form} {g g′ : Group} where
-  pub same-call : m ≡ m′ → f ≡ f′ → g ≡ g′ → callBy t x cuts q s m f g ≡ callBy t x cuts q s m′ f′ g′
-  same-call em ef eg = λ i. callBy t x cuts q s (em i) (ef i) (eg i)
+module _ {t : Lattice} {pins : List ℕ} {x : Float} {cuts : List Float} {q s : ℕ} {m m′ : Mode} {f f′ : Form} {g g′ : Group} where
+  pub same-call : m ≡ m′ → f ≡ f′ → g ≡ g′ → callBy t pins x cuts q s m f g ≡ callBy t pins x cuts q s m′ f′ g′
+  same-call em ef eg = λ i. callBy t pins x cuts q s (em i) (ef i) (eg i)
 
 -- and the choices of that mode
 pub same-choices :

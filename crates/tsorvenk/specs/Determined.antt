@@ -122,9 +122,9 @@ module _ (coded keeping : Bool) (w : Sweep) (l y z : WithOutcomes) where
       counts = f .counts ∙ (ap (λ (x : SweepAnswer). valuesTo (sweepValues x) (l .outcomes)) (same .answer) ∙ sym (g .counts))
 
   outcomes-same : (r r′ : ℕ) → OutcomeAnswers coded keeping w l r y → OutcomeAnswers coded keeping w l r′ z → Same r r′ y z
-  outcomes-same r r′ f g = go (ℕ-discrete (length (l .outcomes)) 2)
+  outcomes-same r r′ f g = go (ℕ-discrete (length (l .outcomes)) 3)
     where
-      go : Dec (length (l .outcomes) ≡ 2) → Same r r′ y z
+      go : Dec (length (l .outcomes) ≡ 3) → Same r r′ y z
       go (yes e) =
           let u = f .roomed e in
           let v = g .roomed e in

@@ -1,4 +1,4 @@
--- A refusal's number is one of the paper's list, 1 to 14. So the returned numbers 0, 64 and 65 are no refusal's, and each number tells its answer.
+-- A refusal's number is one of the paper's list, 1 to 14. So the returned numbers 0, 64, 65 and 66 are no refusal's, and each number tells its answer.
 use Prim.Native.Nat.{ℕ, zero, suc, _≤_}
 use mathlib.Core.Path.{_≡_, refl, ap}
 use mathlib.Core.Logic.{inl, inr}
@@ -9,7 +9,7 @@ use borrow.Author.Tests.{ne-eqb}
 use lib.Dec.{eqb}
 use lib.IntN.{ℤ}
 use Rattle.paper.specs.declared.Answer.{Answer}
-use Rattle.paper.specs.declared.Answer.the-variants.{Refused, Idle, Moved}
+use Rattle.paper.specs.declared.Answer.the-variants.{Refused, Idle, Held, Moved}
 use Rattle.paper.specs.declared.SweepAnswer.the-variants.{Fault}
 use Rattle.paper.specs.Panel.Input.{Lattice, Call, Choices, Buffers, size}
 use Rattle.paper.specs.Refusal.Rule.{Rule, Broken}
@@ -59,16 +59,18 @@ module _ (coded keeping : Bool) (c : Call) (p : Choices) (b : Buffers) (ts : Lis
       go (yes f) = broken-listed (keptRules keeping c (spelledChoices coded p) b ts) r all (h .five f .why)
       go (no f) = first-listed (ap numberOf (h .other f .number))
 
--- 0 moved, 64 idle, any other a refusal
+-- 0 moved, 64 idle, 66 held, any other a refusal
 abbrev pub answerOf : ℕ → Answer
-answerOf r = cond (eqb r 0) Moved (cond (eqb r 64) Idle (Refused r))
+answerOf r = cond (eqb r 0) Moved (cond (eqb r 64) Idle (cond (eqb r 66) Held (Refused r)))
 
 pub step-told :
     (coded keeping : Bool) (c : Call) (p : Choices) (b : Buffers) (ts : List ℤ) (b′ : Buffers) (ts′ : List ℤ) (a : Answer)
     → CodedAnswers coded keeping c p b ts a b′ ts′ → answerOf (numberOf a) ≡ a
 step-told coded keeping c p b ts b′ ts′ (Refused r) h =
-    let l = step-listed coded keeping c p b ts b′ ts′ r h in rw (ne-eqb r 0 (λ e. omega arith), ne-eqb r 64 (λ e. omega arith))
+    let l = step-listed coded keeping c p b ts b′ ts′ r h in
+    rw (ne-eqb r 0 (λ e. omega arith), ne-eqb r 64 (λ e. omega arith), ne-eqb r 66 (λ e. omega arith))
 step-told coded keeping c p b ts b′ ts′ Idle h = refl
+step-told coded keeping c p b ts b′ ts′ Held h = refl
 step-told coded keeping c p b ts b′ ts′ Moved h = refl
 
 -- ---- the meter

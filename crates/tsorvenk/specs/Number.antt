@@ -14,7 +14,7 @@ use Rattle.paper.specs.declared.Form.the-variants.{Sw, Wolff, Observe, Grow}
 use Rattle.paper.specs.declared.Keeps.{Keeps}
 use Rattle.paper.specs.declared.Keeps.the-variants.{Nothing, Totals}
 use Rattle.paper.specs.declared.Answer.{Answer}
-use Rattle.paper.specs.declared.Answer.the-variants.{Refused, Idle, Moved}
+use Rattle.paper.specs.declared.Answer.the-variants.{Refused, Idle, Held, Moved}
 use Rattle.paper.specs.Panel.Takes.{isPerm}
 use Rattle.paper.specs.Answer.Number.{number}
 use Rattle.coded.specs.declared.Coding.{Coding}
@@ -58,10 +58,11 @@ groupOf xs = record { len = length xs; systems = table 8 (λ k. getD xs k 0) }
 abbrev pub takenOf : Mode → List ℕ → List ℕ → List ℕ
 takenOf mode flips perms = cond (isPerm mode) perms flips
 
--- a step's answer: the paper's number, and for idle a mark of this interface on it
+-- a step's answer: the paper's number, and for idle and for held a mark of this interface on it
 abbrev pub numberOf : Answer → ℕ
 numberOf (Refused r) = number (Refused r)
 numberOf Idle = 64 + number Idle
+numberOf Held = 66 + number Held
 numberOf Moved = number Moved
 
 -- what is returned: the number of an answer that is allowed

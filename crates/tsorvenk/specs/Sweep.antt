@@ -38,7 +38,7 @@ planFor mode form keeps n d s t r members = record {
   members = members;
 }
 
--- what a sweep is lent to write to: the paper's buffers, the totals, and a buffer for its two counts
+-- what a sweep is lent to write to: the paper's buffers, the totals, and a buffer for its three counts
 pub record WithOutcomes : Type 0 where
   pub buffers : Buffers
   pub totals : List ℤ
@@ -52,11 +52,11 @@ pub record Fits (coded : Bool) (w : Sweep) : Type 0 where
   pub ranged : SweepRanged w
   pub five : Five coded (w .members)
 
--- the buffer of two counts is one more of test 2
+-- the buffer of three counts is one more of test 2
 abbrev pub outcomeRules : Bool → Sweep → WithOutcomes → List Rule
-outcomeRules coded w l = rule 1 (Fits coded w) ∷ rule 2 (length (l .outcomes) ≡ 2) ∷ []
+outcomeRules coded w l = rule 1 (Fits coded w) ∷ rule 2 (length (l .outcomes) ≡ 3) ∷ []
 
--- with room for the counts: the sweep's answer a, and those of a sweep that was swept are written, idle tasks first
+-- with room for the counts: the sweep's answer a, and those of a sweep that was swept are written, idle tasks first and held ones last
 pub record Counted (coded keeping : Bool) (w : Sweep) (l : WithOutcomes) (a : SweepAnswer) (l′ : WithOutcomes) : Type 0 where
   pub answers : SweepCodedAnswers coded keeping w (l .buffers) (l .totals) a (l′ .buffers) (l′ .totals)
   pub counts : l′ .outcomes ≡ valuesTo (sweepValues a) (l .outcomes)
@@ -68,8 +68,8 @@ pub record Uncounted (coded : Bool) (w : Sweep) (l : WithOutcomes) (r : ℕ) (l�
 
 -- the number r may be returned with the lent buffers l, which then hold l′
 pub record OutcomeAnswers (coded keeping : Bool) (w : Sweep) (l : WithOutcomes) (r : ℕ) (l′ : WithOutcomes) : Type 0 where
-  pub roomed : length (l .outcomes) ≡ 2 → Returned sweepNumber (λ a. Counted coded keeping w l a l′) r
-  pub roomless : (length (l .outcomes) ≡ 2 → ⊥) → Uncounted coded w l r l′
+  pub roomed : length (l .outcomes) ≡ 3 → Returned sweepNumber (λ a. Counted coded keeping w l a l′) r
+  pub roomless : (length (l .outcomes) ≡ 3 → ⊥) → Uncounted coded w l r l′
 
 -- a code that is none is refused with 1
 pub record Uncoded (r : ℕ) (l l′ : WithOutcomes) : Type 0 where

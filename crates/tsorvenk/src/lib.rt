@@ -120,6 +120,7 @@ fn number_of(answer: Answer) -> u8
     match answer {
         Answer::Refused(r) => r,
         Answer::Idle => 64,
+        Answer::Held => 66,
         Answer::Moved => 0,
     }
 }
@@ -139,6 +140,7 @@ pub extern "C" fn tsorvenk_step<'a>(
     totals: &mut [i64],
     fwd: &[u32],
     bwd: &[u32],
+    pins: &[u8],
     couplings: &[i32],
     group: &[u32],
     temperature: f32,
@@ -158,7 +160,7 @@ pub extern "C" fn tsorvenk_step<'a>(
 ) -> u8
     ensures { λ r. ⌜ StepAnswers mode form coding keeps
         (callOf (taskOf (modeOf mode) (formOf form) (keepsOf keeps) n d s (groupOf (now (group .entry))) temperature reference seed)
-        (now (fwd .entry)) (now (bwd .entry)) (now (couplings .entry)) (now (cuts .entry)))
+        (now (fwd .entry)) (now (bwd .entry)) (now (pins .entry)) (now (couplings .entry)) (now (cuts .entry)))
         (choicesOf (takenOf (modeOf mode) (now (flips .entry)) (now (perms .entry))) (now (greys .entry)))
         (withTotals (buffersOf (now (spins .entry)) (now (labels .entry)) (now («grey_labels» .entry)) (now (counts .entry)) (now (sizes .entry))
         (now («member_sites» .entry)) (now (found .entry)) (now («grey_found» .entry))) (now (totals .entry)))
@@ -189,6 +191,7 @@ pub extern "C" fn tsorvenk_step<'a>(
         totals,
         fwd,
         bwd,
+        pins,
         couplings,
         cuts,
         taken(m, flips, perms),

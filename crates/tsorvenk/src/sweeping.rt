@@ -19,7 +19,7 @@ ghost use Rattle.coded.specs.Takes.{numbersBy};
 ghost use Rattle.tsorvenk.specs.Number.{modeOf, formOf, keepsOf, takenOf};
 ghost use Rattle.tsorvenk.specs.Sweep.{planFor, Roomless, Told, withOutcomes, SweepNumbers};
 
-// What is refused for want of room for the two counts: test 1 comes first. By numbers it asks for groups of five.
+// What is refused for want of room for the three counts: test 1 comes first. By numbers it asks for groups of five.
 fn roomless(coding: Coding, plan: Plan) -> u8
     ensures { λ r. ⌜ Roomless (numbersBy coding (plan .mode) (plan .form)) plan r ⌝ }
 {
@@ -31,22 +31,24 @@ fn roomless(coding: Coding, plan: Plan) -> u8
     1
 }
 
-// The answer as a number; the two counts of a sweep that was swept are written.
+// The answer as a number; the three counts of a sweep that was swept are written.
 fn tell(answer: SweepAnswer, outcomes: &mut [u32]) -> u8
-    requires { ⌜ length (now outcomes) ≡ 2 ⌝ }
+    requires { ⌜ length (now outcomes) ≡ 3 ⌝ }
     ensures { λ r. ⌜ Told answer (now (outcomes .entry)) r (now (outcomes .exit)) ⌝ }
 {
     match answer {
         SweepAnswer::Fault(r) => r,
-        SweepAnswer::Swept(idle, moved) => {
+        SweepAnswer::Swept(idle, moved, held) => {
             outcomes[0] = idle;
             outcomes[1] = moved;
+            outcomes[2] = held;
             0
         }
     }
 }
 
-// A sweep over t temperatures of r replicas in groups of `members`. `outcomes` gets the number of idle tasks, then of all others.
+// A sweep over t temperatures of r replicas in groups of `members`. `outcomes` gets the number of idle tasks, then of those that moved, then of those
+// that were held.
 #[no_mangle]
 pub extern "C" fn tsorvenk_sweep<'a>(
     mode: u8,
@@ -63,6 +65,7 @@ pub extern "C" fn tsorvenk_sweep<'a>(
     totals: &mut [i64],
     fwd: &[u32],
     bwd: &[u32],
+    pins: &[u8],
     couplings: &[i32],
     order: &[u32],
     masks: &[u8],
@@ -84,7 +87,7 @@ pub extern "C" fn tsorvenk_sweep<'a>(
 ) -> u8
     ensures { λ k. ⌜ SweepNumbers mode form coding keeps
         (sweepOf (planFor (modeOf mode) (formOf form) (keepsOf keeps) n d s t r members) (now (fwd .entry)) (now (bwd .entry))
-        (now (couplings .entry)) (now (order .entry)) (now (masks .entry)) (now (temperatures .entry)) (now (cuts .entry))
+        (now (pins .entry)) (now (couplings .entry)) (now (order .entry)) (now (masks .entry)) (now (temperatures .entry)) (now (cuts .entry))
         (now (references .entry)) (now (seeds .entry))
         (takenOf (modeOf mode) (now (flips .entry)) (now (perms .entry))) (now (greys .entry)))
         (withOutcomes (buffersOf (now (spins .entry)) (now (labels .entry)) (now («grey_labels» .entry)) (now (counts .entry)) (now (sizes .entry))
@@ -109,7 +112,7 @@ pub extern "C" fn tsorvenk_sweep<'a>(
         members,
     };
     let c = coding_of(coding);
-    if outcomes.len() != 2 {
+    if outcomes.len() != 3 {
         return roomless(c, plan);
     }
     let answer = coded::overlap_update_by(
@@ -119,6 +122,7 @@ pub extern "C" fn tsorvenk_sweep<'a>(
         totals,
         fwd,
         bwd,
+        pins,
         couplings,
         order,
         masks,

@@ -35,7 +35,7 @@ module _ (t : Task) (choices : List ℕ) (one : OneCluster (t .form) choices) wh
   }
 
   -- so its choice is that of any label, in any call of the task
-  module _ (greys fwd bwd : List ℕ) (js : List ℤ) (cuts : List Float) (r : ℕ) where
+  module _ (greys fwd bwd pins : List ℕ) (js : List ℤ) (cuts : List Float) (r : ℕ) where
     same-flip : flipBy (t .form) choices r ≡ flipBy (t .form) choices 0
     same-flip = one .flips r ∙ sym (one .flips 0)
 
@@ -44,7 +44,7 @@ module _ (t : Task) (choices : List ℕ) (one : OneCluster (t .form) choices) wh
 
     pub act-any :
         (m : Mode) (P f : Pattern) (k : ℕ)
-        → actBy m (callOf t fwd bwd js cuts) (choicesOf choices greys) P r f k ≡ actBy m (bare t) (choicesOf choices greys) P 0 f k
+        → actBy m (callOf t fwd bwd pins js cuts) (choicesOf choices greys) P r f k ≡ actBy m (bare t) (choicesOf choices greys) P 0 f k
     act-any Houd P f k = ap (λ (b : Bool). cond (b && ltb k (2 * (t .group .len / 2))) (negℤ (f k)) (f k)) same-flip
     act-any Pair P f k = ap (λ (b : Bool). f (cond b (partner (t .group .len) k) k)) same-flip
     act-any Jorg P f k = ap (λ (b : Bool). f (cond b (partner (t .group .len) k) k)) same-flip

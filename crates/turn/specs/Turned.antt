@@ -23,7 +23,7 @@ use Rattle.choose.specs.Chosen.{greyed}
 
 -- the call, as far as a choice reads it: no table and no coupling
 abbrev pub bare : Task → Call
-bare t = callOf t [] [] [] []
+bare t = callOf t [] [] [] [] []
 
 -- the pattern f of a member, with P at the reference site: where it acts the cluster's choice is made
 abbrev pub actedTo : Task → List ℕ → List ℕ → Pattern → Bool → Pattern → Pattern

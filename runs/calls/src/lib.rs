@@ -96,12 +96,13 @@ impl Keeps {
 pub enum Answer {
     Moved,
     Idle,
+    Held,
     Refused(u8),
 }
 
 #[derive(Clone, Copy, Debug, PartialEq, Eq)]
 pub enum SweepAnswer {
-    Swept { idle: u32, moved: u32 },
+    Swept { idle: u32, moved: u32, held: u32 },
     Refused(u8),
 }
 
@@ -124,6 +125,7 @@ pub struct Step<'a> {
     pub totals: &'a mut [i64],
     pub fwd: &'a [u32],
     pub bwd: &'a [u32],
+    pub pins: &'a [u8],
     pub couplings: &'a [i32],
     pub group: &'a [u32],
     pub temperature: f32,
@@ -160,6 +162,7 @@ impl<'a> Step<'a> {
             totals: self.totals,
             fwd: self.fwd,
             bwd: self.bwd,
+            pins: self.pins,
             couplings: self.couplings,
             order: self.group,
             masks: &[0],
@@ -197,6 +200,7 @@ pub struct Sweep<'a> {
     pub totals: &'a mut [i64],
     pub fwd: &'a [u32],
     pub bwd: &'a [u32],
+    pub pins: &'a [u8],
     pub couplings: &'a [i32],
     pub order: &'a [u32],
     pub masks: &'a [u8],

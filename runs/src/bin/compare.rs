@@ -6,7 +6,9 @@
 //! to Wolff's call with the same seed, cuts and choices, damaged or not. Half of the calls keep totals, and all of the small
 //! shapes. A call of perm or gperm that moves a group of five is made again by numbers, damaged or not, and held to what the
 //! rows gave; with groups of other sizes it is refused. Half as many calls more are of groups of five, with faults among their
-//! numbers too. Last come days that keep totals, a thousand calls each on one panel, one day for every 50 cases.
+//! numbers too. Two calls of three have pins, and the small shapes have all of them where there are not too many; the Rust, which
+//! knows none, is then held to the call without pins that must give the same, where there is one. Last come days that keep
+//! totals, a thousand calls each on one panel, with pins that change from call to call, one day for every 50 cases.
 use calls::{Coding, Form, Mode, Port};
 use std::process::ExitCode;
 use tsorvenk_runs::compare::{self, keep, Found, Line};
@@ -123,7 +125,7 @@ fn print(mode: Mode, form: Form, line: &Line) {
     println!(
         "{:5} {:7} singles {:6} (all small: {:6}) sweeps {:6} | \
         Rust: labelled {:6} depth first {:6} acting sites {:6} | beside Wolff {:6} | odd N {:5} idle {:6} | \
-        port {:6} | damaged {:6} refused {:?} | \
+        pinned {:6} released {:6} held {:6} | port {:6} | damaged {:6} refused {:?} | \
         by number {:5} not of five {:6} | totals kept {:6} handed over {:?} | differences {}",
         mode.name(),
         form.name(),
@@ -136,6 +138,9 @@ fn print(mode: Mode, form: Form, line: &Line) {
         line.wolff,
         line.odd,
         line.idle,
+        line.pinned,
+        line.released,
+        line.held,
         line.port,
         line.damaged,
         &line.refused[1..],
@@ -149,13 +154,16 @@ fn print(mode: Mode, form: Form, line: &Line) {
 
 fn print_days(tally: &days::Tally) {
     println!(
-        "days of {} calls {:4} | moved {:6} idle {:5} observed {:5} swept {:6} by number {:5} refused {:?} | differences {}",
+        "days of {} calls {:4} | moved {:6} idle {:5} held {:5} observed {:5} swept {:6} held tasks {:6} by number {:5} refused {:?} | \
+        differences {}",
         days::CALLS,
         tally.days,
         tally.moved,
         tally.idle,
+        tally.held,
         tally.observed,
         tally.swept,
+        tally.held_tasks,
         tally.by_number,
         &tally.refused[1..],
         tally.differences,

@@ -83,6 +83,7 @@ fn tidy(case: &mut Swept) {
     }
     lent.member_sites.clear();
     lent.totals.clear();
+    panel.pins.fill(0);
     (panel.coding, panel.keeps) = (Coding::Rows, Keeps::Nothing);
 }
 
@@ -273,8 +274,15 @@ fn replayed(entry: &Entry, side: &mut dyn Port) -> (u8, u8, Lent) {
         return (idle, moved, lent);
     }
     match entry.case.run(side) {
-        (SweepAnswer::Swept { idle, moved }, lent) => (idle as u8, moved as u8, lent),
-        (SweepAnswer::Refused(_), lent) => (255, 255, lent),
+        (
+            SweepAnswer::Swept {
+                idle,
+                moved,
+                held: 0,
+            },
+            lent,
+        ) => (idle as u8, moved as u8, lent),
+        (_, lent) => (255, 255, lent),
     }
 }
 

@@ -4,9 +4,11 @@
 pub struct Components {
     /// Each site's number.
     pub labels: Vec<usize>,
-    /// By number, and so are the sizes.
+    /// By number, and so are the sizes and what is held.
     smallest: Vec<usize>,
     pub sizes: Vec<usize>,
+    /// Whether one of its sites is pinned (9/14).
+    pub held: Vec<bool>,
 }
 
 /// The smallest site of each site's component: both ends of a holding bond take the smaller one until nothing changes.
@@ -27,18 +29,22 @@ fn smallest_sites(n: usize, d: usize, fwd: &[u32], holds: &[bool]) -> Vec<usize>
 }
 
 impl Components {
-    /// A number is the rank of the component's smallest site among those of all components.
-    pub fn new(n: usize, d: usize, fwd: &[u32], holds: &[bool]) -> Self {
+    /// A number is the rank of the component's smallest site among those of all components. Where there are no pins nothing is held.
+    pub fn new(n: usize, d: usize, fwd: &[u32], holds: &[bool], pins: &[u8]) -> Self {
         let of = smallest_sites(n, d, fwd, holds);
         let smallest: Vec<usize> = (0..n).filter(|&i| of[i] == i).collect();
         let rank = |site: &usize| smallest.partition_point(|other| other < site);
         let labels: Vec<usize> = of.iter().map(rank).collect();
         let mut sizes = vec![0; smallest.len()];
         labels.iter().for_each(|&label| sizes[label] += 1);
+        let mut held = vec![false; smallest.len()];
+        let pinned = labels.iter().zip(pins).filter(|(_, &pin)| pin == 1);
+        pinned.for_each(|(&label, _)| held[label] = true);
         Self {
             labels,
             smallest,
             sizes,
+            held,
         }
     }
 

@@ -6,6 +6,8 @@ use calls::Mode;
 
 pub struct Grown {
     pub idle: bool,
+    /// The seed's component, in CMR the blue one, has a pinned site (9/14).
+    pub held: bool,
     /// In CMR the grey component.
     pub members: Vec<bool>,
     /// Spins of the group after the move: site by site, member by member.
@@ -41,7 +43,17 @@ pub fn grown(panel: Panel, task: &Task) -> Grown {
     if cmr {
         follow(panel, task, true, &mut members);
     }
+    let pinned = |sites: &[bool]| {
+        sites
+            .iter()
+            .zip(task.pins)
+            .any(|(&of, &pin)| of && pin == 1)
+    };
+    let (held, grey_held) = (pinned(&first), pinned(&members));
     let after = |i: usize| {
+        if held {
+            return column(panel, &task.group, i);
+        }
         if task.mode.permutes() && members[i] {
             return permuted_by(panel, task, &lent_permutation(task, 0), i);
         }
@@ -49,13 +61,14 @@ pub fn grown(panel: Panel, task: &Task) -> Grown {
         if first[i] {
             flip(task.mode, &mut spins);
         }
-        if cmr && members[i] {
+        if cmr && members[i] && !grey_held {
             negate_bits(task.greys[0], &mut spins);
         }
         spins
     };
     Grown {
         idle: !first[task.seed],
+        held,
         columns: (0..panel.n).map(after).collect(),
         members,
     }

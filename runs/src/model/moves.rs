@@ -7,6 +7,8 @@ use calls::{Coding, Form, Mode};
 
 pub struct Outcome {
     pub idle: bool,
+    /// Of Wolff: the seed's component has a pinned site.
+    pub held: bool,
     /// In CMR every site.
     pub acting: Vec<bool>,
     /// In CMR the blue ones.
@@ -26,10 +28,11 @@ pub fn flip(mode: Mode, spins: &mut [i8]) {
     }
 }
 
-/// Whether the flip chosen for site i's component acts on it.
+/// Whether the flip chosen for site i's component acts on it; none does where it is held.
 fn flip_chosen(task: &Task, of: &Components, i: usize) -> bool {
     let label = of.labels[i];
     match task.form {
+        _ if of.held[label] => false,
         Form::Sw => of.sizes[label] >= 2 && task.flips[label] == 1,
         Form::Wolff => label == of.labels[task.seed],
         Form::Observe => false,
@@ -46,10 +49,11 @@ pub fn lent_permutation(task: &Task, place: usize) -> Vec<u8> {
     }
 }
 
-/// The permutation chosen for site i, if its component has one.
+/// The permutation chosen for site i, if its component has one and is not held.
 fn permutation(task: &Task, of: &Components, i: usize) -> Option<Vec<u8>> {
     let label = of.labels[i];
     match task.form {
+        _ if of.held[label] => None,
         Form::Sw => Some(lent_permutation(task, label)),
         Form::Wolff => (label == of.labels[task.seed]).then(|| lent_permutation(task, 0)),
         Form::Observe => None,
@@ -60,14 +64,16 @@ fn permutation(task: &Task, of: &Components, i: usize) -> Option<Vec<u8>> {
 fn grey_number(task: &Task, of: &Components, i: usize) -> u8 {
     let label = of.labels[i];
     match task.form {
+        _ if of.held[label] => 0,
         Form::Sw if of.sizes[label] >= 2 => task.greys[label],
         Form::Wolff if label == of.labels[task.seed] => task.greys[0],
         _ => 0,
     }
 }
 
-fn components(panel: Panel, task: &Task, grey: bool) -> Components {
-    Components::new(panel.n, panel.d, panel.fwd, &holding(panel, task, grey))
+pub fn components(panel: Panel, task: &Task, grey: bool) -> Components {
+    let holds = holding(panel, task, grey);
+    Components::new(panel.n, panel.d, panel.fwd, &holds, task.pins)
 }
 
 /// Site i's spins after a flip of its component, if one is chosen.
@@ -130,6 +136,7 @@ pub fn outcome(panel: Panel, task: &Task) -> Outcome {
         .then(|| components(panel, task, true));
     let acting: Vec<bool> = (0..panel.n).map(|i| acts(panel, task, i)).collect();
     let idle = !acting.contains(&true);
+    let held = task.form == Form::Wolff && first.held[first.labels[task.seed]];
     let after = |i: usize| match (task.mode, &grey) {
         _ if idle => column(panel, &task.group, i),
         (Mode::Perm | Mode::Gperm, _) => permuted(panel, task, &first, i),
@@ -138,6 +145,7 @@ pub fn outcome(panel: Panel, task: &Task) -> Outcome {
     };
     Outcome {
         idle,
+        held,
         acting,
         columns: (0..panel.n).map(after).collect(),
         first,

@@ -38,6 +38,10 @@ pub fn tables_refused(panel: Panel) -> bool {
     })
 }
 
+pub fn pins_refused(pins: &[u8]) -> bool {
+    pins.iter().any(|&pin| pin != 0 && pin != 1)
+}
+
 pub fn systems_refused(systems: &[usize], s: usize) -> bool {
     systems
         .iter()
@@ -141,13 +145,14 @@ pub fn differs(wanted: Option<usize>, found: usize) -> bool {
 /// Tests 3 to 7, of what a call names or takes of it: none where it takes no such thing.
 pub fn panel_refusal(
     panel: Panel,
+    pins: &[u8],
     systems: &[usize],
     couplings_taken: bool,
     temperatures: &[f32],
 ) -> Option<u8> {
     if spins_refused(panel.spins) {
         Some(3)
-    } else if tables_refused(panel) {
+    } else if tables_refused(panel) || pins_refused(pins) {
         Some(4)
     } else if systems_refused(systems, panel.s) {
         Some(5)

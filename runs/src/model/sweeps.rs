@@ -27,6 +27,7 @@ pub fn sweep_task<'a>(call: &'a Sweep, number: usize) -> Task<'a> {
         mode: call.mode,
         form: call.form,
         coding: call.coding,
+        pins: call.pins,
         group: systems(&call.order[from..from + call.members]),
         temperature: if call.mode.draws() {
             call.temperatures[j]
@@ -47,6 +48,7 @@ fn sweep_length_refused(call: &Sweep) -> bool {
     let exact = lengths(call.mode, call.form, call.n, call.d, call.members, tasks)
         .spelt(call.coding, call.members);
     panel_length_refused(panel_of!(call))
+        || call.pins.len() != call.n
         || differs(exact.couplings, call.couplings.len())
         || call.order.len() != call.s
         || call.masks.len() != call.t
@@ -90,12 +92,18 @@ pub fn sweep_refusal(call: &Sweep) -> Option<u8> {
         return Some(2);
     }
     let drawn = if draws { call.temperatures } else { &[] };
-    panel_refusal(panel, &systems(call.order), draws || keeping, drawn)
-        .or_else(|| call.masks.iter().any(|&mask| mask > 1).then_some(9))
-        .or_else(|| {
-            unmasked(call)
-                .iter()
-                .find_map(|&number| task_refusal(panel, &sweep_task(call, number)))
-        })
-        .or_else(|| totals_refusal(keeping, call.totals))
+    panel_refusal(
+        panel,
+        call.pins,
+        &systems(call.order),
+        draws || keeping,
+        drawn,
+    )
+    .or_else(|| call.masks.iter().any(|&mask| mask > 1).then_some(9))
+    .or_else(|| {
+        unmasked(call)
+            .iter()
+            .find_map(|&number| task_refusal(panel, &sweep_task(call, number)))
+    })
+    .or_else(|| totals_refusal(keeping, call.totals))
 }

@@ -47,7 +47,7 @@ fn meter_refusal(panel: Panel, systems: &[usize], long: bool) -> Option<u8> {
     } else if panel_length_refused(panel) || panel.couplings.len() != panel.n * panel.d || !long {
         Some(2)
     } else {
-        panel_refusal(panel, systems, true, &[])
+        panel_refusal(panel, &[], systems, true, &[])
     }
 }
 

@@ -43,6 +43,7 @@ pub fn call(mode: Mode, form: Form, fwd: &[u32], rows: &[&str]) -> Single {
             s: members,
             fwd: fwd.to_vec(),
             bwd: backward(n, 1, fwd),
+            pins: vec![0; n],
             couplings: vec![0; exact.couplings.unwrap_or(0)],
         },
         group: (0..members as u32).collect(),
@@ -86,6 +87,11 @@ pub fn seed(mut case: Single, seed: usize) -> Single {
     case
 }
 
+pub fn pinned(mut case: Single, pins: &[u8]) -> Single {
+    case.panel.pins = pins.to_vec();
+    case
+}
+
 pub fn reference(mut case: Single, reference: usize) -> Single {
     case.reference = reference;
     case
@@ -99,7 +105,7 @@ pub fn run(case: &Single) -> (Answer, Lent) {
     }
     if let Answer::Refused(_) = answer.0 {
         assert_eq!(answer.1, case.lent, "{case:?}");
-    } else if published_patched::PRESENT && !case.panel.numbers() {
+    } else if published_patched::PRESENT && !case.panel.numbers() && !case.panel.pinned() {
         let mut lent = case.lent.clone();
         if case.panel.form == Form::Grow {
             published_patched::step(case.step(&mut lent), Branch::DepthFirst);
@@ -191,6 +197,11 @@ pub fn run_sweep(case: &Swept) -> (SweepAnswer, Lent) {
         assert_eq!(answer.1, case.lent, "{case:?}");
     }
     answer
+}
+
+/// The answer of a sweep with so many tasks of each kind.
+pub fn swept(idle: u32, moved: u32, held: u32) -> SweepAnswer {
+    SweepAnswer::Swept { idle, moved, held }
 }
 
 pub fn sweep_refused(case: &Swept, number: u8) {

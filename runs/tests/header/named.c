@@ -1,6 +1,6 @@
 /* The calls with named fields of include/tsorvenk.h over stand-ins of the exported functions: each field must reach
- * the argument of its name, and a buffer that is left out must get a pointer that is not null, with length 0. Then the
- * words of every number, and the room for frames, are printed for the Rust crate to be held to. */
+ * the argument of its name, and a buffer that is left out must get a pointer that is not null, with length 0, but pins that
+ * are left out zeros. Then the words of every number, and the room for frames, are printed for the Rust crate to be held to. */
 #include "tsorvenk.h"
 #include <stdio.h>
 #include <stdlib.h>
@@ -36,9 +36,20 @@ static void held(int so, const char *call, const char *field) {
     held(call.field ? field == call.field && field##_len == call.field##_len \
                     : field != NULL && (uintptr_t)field % sizeof *field == 0 && field##_len == 0, #call, #field)
 
+/* pins that are left out are zeros, n of them or 4096 */
+static int zeros(const uint8_t *pins, size_t pins_len, size_t n) {
+    size_t k;
+    for (k = 0; pins && k < pins_len && !pins[k];)
+        k++;
+    return pins && k == pins_len && pins_len == (n < 4096 ? n : 4096);
+}
+
+#define PINS(call) \
+    held(call.pins ? pins == call.pins && pins_len == call.pins_len : zeros(pins, pins_len, call.n), #call, "pins")
+
 uint8_t tsorvenk_step(uint8_t mode, uint8_t form, uint8_t coding, uint8_t keeps, size_t n, size_t d, size_t s,
     int8_t *spins, size_t spins_len, int64_t *totals, size_t totals_len,
-    const uint32_t *fwd, size_t fwd_len, const uint32_t *bwd, size_t bwd_len,
+    const uint32_t *fwd, size_t fwd_len, const uint32_t *bwd, size_t bwd_len, const uint8_t *pins, size_t pins_len,
     const int32_t *couplings, size_t couplings_len, const uint32_t *group, size_t group_len,
     float temperature, const float *cuts, size_t cuts_len, size_t reference, size_t seed,
     const uint8_t *flips, size_t flips_len, const uint8_t *perms, size_t perms_len, const uint8_t *greys, size_t greys_len,
@@ -49,6 +60,7 @@ uint8_t tsorvenk_step(uint8_t mode, uint8_t form, uint8_t coding, uint8_t keeps,
     NUMBER(step, mode), NUMBER(step, form), NUMBER(step, coding), NUMBER(step, keeps);
     NUMBER(step, n), NUMBER(step, d), NUMBER(step, s), BUFFER(step, totals);
     NUMBER(step, temperature), NUMBER(step, reference), NUMBER(step, seed);
+    PINS(step);
     BUFFER(step, spins), BUFFER(step, fwd), BUFFER(step, bwd), BUFFER(step, couplings), BUFFER(step, group);
     BUFFER(step, cuts), BUFFER(step, flips), BUFFER(step, perms), BUFFER(step, greys);
     BUFFER(step, labels), BUFFER(step, grey_labels), BUFFER(step, counts), BUFFER(step, sizes);
@@ -58,7 +70,7 @@ uint8_t tsorvenk_step(uint8_t mode, uint8_t form, uint8_t coding, uint8_t keeps,
 
 uint8_t tsorvenk_sweep(uint8_t mode, uint8_t form, uint8_t coding, uint8_t keeps, size_t n, size_t d, size_t s,
     size_t t, size_t r, size_t members, int8_t *spins, size_t spins_len, int64_t *totals, size_t totals_len,
-    const uint32_t *fwd, size_t fwd_len, const uint32_t *bwd, size_t bwd_len,
+    const uint32_t *fwd, size_t fwd_len, const uint32_t *bwd, size_t bwd_len, const uint8_t *pins, size_t pins_len,
     const int32_t *couplings, size_t couplings_len, const uint32_t *order, size_t order_len,
     const uint8_t *masks, size_t masks_len, const float *temperatures, size_t temperatures_len,
     const float *cuts, size_t cuts_len, const uint32_t *references, size_t references_len,
@@ -72,6 +84,7 @@ uint8_t tsorvenk_sweep(uint8_t mode, uint8_t form, uint8_t coding, uint8_t keeps
     NUMBER(sweep, mode), NUMBER(sweep, form), NUMBER(sweep, coding), NUMBER(sweep, keeps);
     NUMBER(sweep, n), NUMBER(sweep, d), NUMBER(sweep, s), BUFFER(sweep, totals);
     NUMBER(sweep, t), NUMBER(sweep, r), NUMBER(sweep, members);
+    PINS(sweep);
     BUFFER(sweep, spins), BUFFER(sweep, fwd), BUFFER(sweep, bwd), BUFFER(sweep, couplings), BUFFER(sweep, order);
     BUFFER(sweep, masks), BUFFER(sweep, temperatures), BUFFER(sweep, cuts), BUFFER(sweep, references);
     BUFFER(sweep, seeds), BUFFER(sweep, flips), BUFFER(sweep, perms), BUFFER(sweep, greys);
@@ -214,7 +227,7 @@ int main(void) {
         .flips = u8, .flips_len = 16, .perms = u8 + 1, .perms_len = 17, .greys = u8 + 2, .greys_len = 18,
         .labels = u32 + 3, .labels_len = 19, .grey_labels = u32 + 4, .grey_labels_len = 20,
         .counts = u32 + 5, .counts_len = 21, .sizes = u32 + 6, .sizes_len = 22,
-        .member_sites = u8 + 3, .member_sites_len = 23,
+        .member_sites = u8 + 3, .member_sites_len = 23, .pins = u8 + 4, .pins_len = 27,
         .found = u32 + 7, .found_len = 25, .grey_found = u32 + 8, .grey_found_len = 26,
     };
     sweep = (struct tsorvenk_sweep_args){
@@ -227,7 +240,7 @@ int main(void) {
         .flips = u8 + 1, .flips_len = 20, .perms = u8 + 2, .perms_len = 21, .greys = u8 + 3, .greys_len = 22,
         .labels = u32 + 5, .labels_len = 23, .grey_labels = u32 + 6, .grey_labels_len = 24,
         .counts = u32 + 7, .counts_len = 25, .sizes = u32 + 8, .sizes_len = 26, .outcomes = u32 + 9, .outcomes_len = 27,
-        .member_sites = u8 + 4, .member_sites_len = 28,
+        .member_sites = u8 + 4, .member_sites_len = 28, .pins = u8 + 5, .pins_len = 33,
         .found = u32 + 10, .found_len = 30, .grey_found = u32 + 11, .grey_found_len = 31,
     };
     energy_of = (struct tsorvenk_energy_args){
@@ -263,7 +276,12 @@ int main(void) {
     step.totals = NULL, sweep.totals = NULL, handed.totals = NULL;
     step.found = NULL, step.grey_found = NULL, sweep.found = NULL, sweep.grey_found = NULL, label.found = NULL;
     step.member_sites = NULL, sweep.member_sites = NULL, reading.text = NULL, writing.written = NULL;
+    step.pins = NULL, sweep.pins = NULL;
     call_all(); /* null, and a length beside it */
+    step.n = 4096, sweep.n = 4096;
+    call_all(); /* as many sites as there may be */
+    step.n = 4097, sweep.n = (size_t)-1;
+    call_all(); /* and more: no more than the table is lent */
     printf("room %d and %d\n", TSORVENK_FRAMES_ROOM, TSORVENK_EDGES_ROOM);
     for (int number = -1; number <= 256; number++)
         printf("%d %s\n", number, tsorvenk_refusal_words(number));

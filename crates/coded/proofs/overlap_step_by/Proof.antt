@@ -11,7 +11,7 @@ numbers-requires c κs = search needs
 step-by-numbers-requires : tie.Need-step-by-numbers-requires
 step-by-numbers-requires c κs =
     let t = c .before .before .before .before .before .before .before .before .before in
-    let a = t .before .before .before .before .before .before .before .before .before .before .before .before .before .before .args in
+    let a = t .before .before .before .before .before .before .before .before .before .before .before .before .before .before .before .args in
     numbers-perms (a .coding) (a .t .mode) (a .t .form) _ (t .before .numbers .ensures) (t .if1 .taken)
 
 same-length : tie.Need-same-length

@@ -11,7 +11,8 @@ numbers-requires c κs = search needs
 update-by-numbers-requires : tie.Need-update-by-numbers-requires
 update-by-numbers-requires c κs =
     let t = c .before .before .before .before .before .before .before .before .before in
-    let a = t .before .before .before .before .before .before .before .before .before .before .before .before .before .before .before .before .before .before .before .args in
+    let s = t .before .before .before .before .before .before .before .before .before .before in
+    let a = s .before .before .before .before .before .before .before .before .before .before .args in
     numbers-perms (a .coding) (a .plan .mode) (a .plan .form) _ (t .before .numbers .ensures) (t .if1 .taken)
 
 same-length : tie.Need-same-length

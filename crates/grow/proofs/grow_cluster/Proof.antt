@@ -1,5 +1,6 @@
 -- `grow_cluster` meets its contract.
 use mathlib.Core.Path.{refl, sym, _∙_}
+use mathlib.Core.List.{[]}
 use native.Mathlib.Omega.{arith}
 use lib.ListN.{length-set}
 use borrow.Author.Needs.{needs}
@@ -85,7 +86,7 @@ spread-requires-2 c κs =
     let cmr = sym (i .is-cmr .ensures) ∙ r .before .if1 .taken in (
       grounds g (r .prepare2 .ensures),
       (
-        blue-seeds g cmr (r .prepare2 .ensures) (first-by g (p .prepare .ensures) (a .spread .ensures .grown)),
+        blue-seeds g [] cmr (r .prepare2 .ensures) (first-by g [] (p .prepare .ensures) (a .spread .ensures .grown)),
         kept-for g (r .prepare2 .ensures) (kept-of g (p .prepare .ensures) (a .spread .ensures .kept)),
       ),
     )
@@ -101,7 +102,7 @@ same-length c =
     let i = I r in
     let g = S (C (P (A i))) .pre in
     let cmr = sym (i .is-cmr .ensures) ∙ r .before .if1 .taken in
-    second-by g cmr (r .prepare2 .ensures) (w .spread2 .ensures .grown) .cluster .members .long ∙ sym (g .members-long)
+    second-by g [] cmr (r .prepare2 .ensures) (w .spread2 .ensures .grown) .cluster .members .long ∙ sym (g .members-long)
 
 same-length-2 : tie.Need-same-length-2
 same-length-2 c =
@@ -123,7 +124,10 @@ returns c =
     let g = S (C p) .pre in
     let cmr = sym (i .is-cmr .ensures) ∙ r .before .if1 .taken in
     record {
-      grown = both g cmr (first-by g (p .prepare .ensures) (a .spread .ensures .grown)) (second-by g cmr (r .prepare2 .ensures) (w .spread2 .ensures .grown));
+      grown = λ pins.
+          both g pins cmr
+          (first-by g pins (p .prepare .ensures) (a .spread .ensures .grown))
+          (second-by g pins cmr (r .prepare2 .ensures) (w .spread2 .ensures .grown));
       kept = kept-of g (r .prepare2 .ensures) (w .spread2 .ensures .kept);
     }
 
@@ -132,7 +136,7 @@ same-length-4 c =
     let a = A (c .before) in
     let p = P a in
     let g = S (C p) .pre in
-    first-by g (p .prepare .ensures) (a .spread .ensures .grown) .cluster .members .long ∙ sym (g .members-long)
+    first-by g [] (p .prepare .ensures) (a .spread .ensures .grown) .cluster .members .long ∙ sym (g .members-long)
 
 same-length-5 : tie.Need-same-length-5
 same-length-5 c =
@@ -150,7 +154,7 @@ returns-2 c =
     let p = P a in
     let g = S (C p) .pre in
     record {
-      grown = plain g (sym (i .is-cmr .ensures) ∙ c .if1 .left) (first-by g (p .prepare .ensures) (a .spread .ensures .grown));
+      grown = λ pins. plain g pins (sym (i .is-cmr .ensures) ∙ c .if1 .left) (first-by g pins (p .prepare .ensures) (a .spread .ensures .grown));
       kept = kept-of g (p .prepare .ensures) (a .spread .ensures .kept);
     }
 

@@ -29,11 +29,12 @@ flips-taken f m e q = rw (e, q) refl
 reach-requires : tie.Need-reach-requires
 reach-requires c κs =
     let s = c .before .before .before .before .before .before .before .before in
-    let p = s .pre in
+    let p = s .pre .choosable in
     record {
       labelled = p .labels-long ∙ sym (p .flags-long);
       below = λ i l. rw (p .flags-long) (p .below i (rw (p .flags-long) at l));
-      sized = p .tallied;
+      pins = s .pre .pins;
+      sized = s .pre .tallied;
       seeded = λ e. rw (p .flags-long) (p .seeded e);
       lent = p .reached-long ∙ sym (p .flags-long);
     }
@@ -42,16 +43,16 @@ is-perm-requires : tie.Need-is-perm-requires
 is-perm-requires c κs = search needs
 
 gauge-requires : tie.Need-gauge-requires
-gauge-requires c κs = let p = S (R (c .before .before)) .pre in record { few = p .size-high; site = p .reference }
+gauge-requires c κs = let p = S (R (c .before .before)) .pre .choosable in record { few = p .size-high; site = p .reference }
 
 permute-columns-requires : tie.Need-permute-columns-requires
 permute-columns-requires c κs =
     let m = c .before .before .before .before in
     let r = R (m .before) in
-    let p = S r .pre in
+    let p = S r .pre .choosable in
     let e = perm-yes m in
     record {
-      sites = record { marked = r .reach .ensures .long ∙ p .flags-long; labelled = p .labels-long; below = p .below };
+      sites = record { marked = r .reach .ensures (S r .pre .pins) (S r .pre .tallied) .long ∙ p .flags-long; labelled = p .labels-long; below = p .below };
       moving = p .moving;
       few = p .size-high;
       lent = p .perms-long e;
@@ -59,16 +60,16 @@ permute-columns-requires c κs =
     }
 
 flip-table-requires : tie.Need-flip-table-requires
-flip-table-requires c κs = let p = S (R (c .before .before)) .pre in record { some = p .size-low; few = p .size-high }
+flip-table-requires c κs = let p = S (R (c .before .before)) .pre .choosable in record { some = p .size-low; few = p .size-high }
 
 flip-columns-requires : tie.Need-flip-columns-requires
 flip-columns-requires c κs =
     let m = c .before .before .before in
     let r = R (m .before) in
     let s = S r in
-    let p = s .pre in
+    let p = s .pre .choosable in
     record {
-      sites = record { marked = r .reach .ensures .long ∙ p .flags-long; labelled = p .labels-long; below = p .below };
+      sites = record { marked = r .reach .ensures (S r .pre .pins) (S r .pre .tallied) .long ∙ p .flags-long; labelled = p .labels-long; below = p .below };
       lent = λ e. p .flips-long (flips-taken (s .args .t .form) (s .args .t .mode) e (perm-no m));
     }
 
@@ -79,20 +80,20 @@ same-length-2 : tie.Need-same-length-2
 same-length-2 c = search needs
 
 returns : tie.Need-returns
-returns c =
+returns c = λ pins freed.
     let k = c .before .before in
     let g = k .before .before .before in
     let m = g .before .before in
     let r = R (m .before) in
     let a = S r .args in
-    let p = S r .pre in
+    let p = S r .pre .choosable in
     let b = k .permute-columns .ensures in
     record {
       long = b .long;
       at = λ i l.
           b .at i l
-          ∙ by-perms (a .t) (length (now (a .acts))) (now (a .acts)) (now (a .labels)) (now (a .choices)) _ (now (a .cols)) (r .reach .ensures)
-          _ (g .gauge .ensures) (perm-yes m) i (rw (p .flags-long) l);
+          ∙ by-perms (a .t) (length (now (a .acts))) pins (now (a .acts)) (now (a .labels)) (now (a .choices)) _ (now (a .cols))
+          (r .reach .ensures pins freed) _ (g .gauge .ensures) (perm-yes m) i (rw (p .flags-long) l);
     }
 
 same-length-3 : tie.Need-same-length-3
@@ -102,20 +103,20 @@ same-length-4 : tie.Need-same-length-4
 same-length-4 c = search needs
 
 returns-2 : tie.Need-returns-2
-returns-2 c =
+returns-2 c = λ pins freed.
     let k = c .before .before in
     let table = k .before .before in
     let m = table .before .before in
     let r = R (m .before) in
     let a = S r .args in
-    let p = S r .pre in
+    let p = S r .pre .choosable in
     let b = k .flip-columns .ensures in
     record {
       long = b .long;
       at = λ i l.
           b .at i l
-          ∙ by-flips (a .t) (length (now (a .acts))) (now (a .acts)) (now (a .labels)) (now (a .choices)) _ (now (a .cols)) (r .reach .ensures)
-          _ (perm-no m) (table .flip-table .ensures) i (rw (p .flags-long) l) (p .narrow i l);
+          ∙ by-flips (a .t) (length (now (a .acts))) pins (now (a .acts)) (now (a .labels)) (now (a .choices)) _ (now (a .cols))
+          (r .reach .ensures pins freed) _ (perm-no m) (table .flip-table .ensures) i (rw (p .flags-long) l) (p .narrow i l);
     }
 
 pub choose-columns-spec : {M : Type 1} → statement M

@@ -103,13 +103,14 @@ same-length-9 : tie.Need-same-length-9
 same-length-9 c = search needs
 
 returns : tie.Need-returns
-returns c = λ bwd.
+returns c = λ bwd pins.
     let o = c .before .before .before .before in
     let l = o .before .before .before .before .before .before .before .before .before .before in
     let h = H l in
     let k = K h in
     let p = S k .pre in
-    label-leaves bwd (now (S k .args .found)) (h .hold .ensures) (p .tested) (k .look .ensures) (l .label .ensures) (o .count .ensures) (p .lent .found-long)
+    label-leaves bwd pins (now (S k .args .found)) (h .hold .ensures) (p .tested) (k .look .ensures) (l .label .ensures) (o .count .ensures)
+    (p .lent .found-long)
 
 pub label-task-spec : {M : Type 1} → statement M
 label-task-spec =

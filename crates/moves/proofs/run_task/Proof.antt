@@ -16,7 +16,7 @@ use Rattle.moves.proofs.run_task.Tie as tie
 
 -- the start, and the place past the labelling
 abbrev A : tie.After-struct-known → tie.Start
-A k = k .before .before .before .before .before .before .before .before .before .before .before .before
+A k = k .before .before .before .before .before .before .before .before .before .before .before .before .before
 
 abbrev S : tie.After-label-task → tie.Start
 S o = A (o .before .before .before .before .before .before .before .before .before .before .before .before .before .before .before)
@@ -40,13 +40,13 @@ lentAt b members = let a = b .args in buffersOf (now (a .spins)) (now (a .labels
 high : (b : tie.Start) → b .args .t .n ≤ 4096
 high b =
     let a = b .args in
-    answered.n-high (a .t) (now (a .fwd)) (now (a .bwd)) (now (a .couplings)) (now (a .cuts)) (choicesAt b) (lentAt b [])
+    answered.n-high (a .t) (now (a .fwd)) (now (a .bwd)) (now (a .pins)) (now (a .couplings)) (now (a .cuts)) (choicesAt b) (lentAt b [])
     (b .pre .labelled) (b .pre .valid)
 
 many : (b : tie.Start) → b .args .t .n * b .args .t .d ≤ 16384
 many b =
     let a = b .args in
-    answered.bonds-high (a .t) (now (a .fwd)) (now (a .bwd)) (now (a .couplings)) (now (a .cuts)) (choicesAt b) (lentAt b [])
+    answered.bonds-high (a .t) (now (a .fwd)) (now (a .bwd)) (now (a .pins)) (now (a .couplings)) (now (a .cuts)) (choicesAt b) (lentAt b [])
     (b .pre .labelled) (b .pre .valid)
 
 moving : (m : tie.Then2) → moves (S (T (m .before .before .before)) .args .t .form) ≡ true
@@ -92,7 +92,7 @@ label-task-requires : tie.Need-label-task-requires
 label-task-requires c κs =
     let b = A (c .before .before .before .before .before .before .before .before .before .before .before .before .before .before) in
     let a = b .args in
-    answered.label-asks (a .t) (now (a .fwd)) (now (a .bwd)) (now (a .couplings)) (now (a .cuts)) (choicesAt b) (lentAt b [])
+    answered.label-asks (a .t) (now (a .fwd)) (now (a .bwd)) (now (a .pins)) (now (a .couplings)) (now (a .cuts)) (choicesAt b) (lentAt b [])
     (b .pre .labelled) (b .pre .valid)
 
 same-length : tie.Need-same-length
@@ -116,9 +116,9 @@ returns c = λ members.
     let o = T (m .before) in
     let b = S o in
     let a = b .args in
-    answered.idle-answers (a .t) (now (a .fwd)) (now (a .bwd)) (now (a .couplings)) (now (a .cuts)) (choicesAt b) (lentAt b members)
+    answered.idle-answers (a .t) (now (a .fwd)) (now (a .bwd)) (now (a .pins)) (now (a .couplings)) (now (a .cuts)) (choicesAt b) (lentAt b members)
     (b .pre .labelled) (answered.valid-with (b .pre .labelled) (b .pre .valid) members)
-    (o .label-task .ensures (now (a .bwd))) (m .if1 .taken)
+    (o .label-task .ensures (now (a .bwd)) (now (a .pins))) (m .if1 .taken)
 
 moves-requires : tie.Need-moves-requires
 moves-requires c κs = search needs
@@ -135,9 +135,9 @@ choose-task-requires c κs =
     let o = T (m .before .before .before) in
     let b = S o in
     let a = b .args in
-    answered.choose-asks (a .t) (now (a .fwd)) (now (a .bwd)) (now (a .couplings)) (now (a .cuts)) (choicesAt b) (lentAt b [])
+    answered.choose-asks (a .t) (now (a .fwd)) (now (a .bwd)) (now (a .pins)) (now (a .couplings)) (now (a .cuts)) (choicesAt b) (lentAt b [])
     (b .pre .labelled) (b .pre .valid)
-    (o .label-task .ensures (now (a .bwd))) (moving m)
+    (o .label-task .ensures (now (a .bwd)) (now (a .pins))) (moving m)
 
 write-task-requires : tie.Need-write-task-requires
 write-task-requires c κs =
@@ -146,9 +146,9 @@ write-task-requires c κs =
     let o = T (m .before .before .before) in
     let b = S o in
     let a = b .args in
-    answered.write-asks (a .t) (now (a .fwd)) (now (a .bwd)) (now (a .couplings)) (now (a .cuts)) (choicesAt b) (lentAt b [])
+    answered.write-asks (a .t) (now (a .fwd)) (now (a .bwd)) (now (a .pins)) (now (a .couplings)) (now (a .cuts)) (choicesAt b) (lentAt b [])
     (b .pre .labelled) (b .pre .valid)
-    (o .label-task .ensures (now (a .bwd))) (k .choose-task .ensures)
+    (o .label-task .ensures (now (a .bwd)) (now (a .pins))) (k .choose-task .ensures)
 
 same-length-6 : tie.Need-same-length-6
 same-length-6 c = search needs
@@ -158,8 +158,8 @@ same-length-7 c =
     let o = D c in
     let b = S o in
     let a = b .args in
-    answered.labels-kept (a .t) (now (a .fwd)) (now (a .bwd)) (now (a .couplings)) (now (a .cuts)) (choicesAt b) (lentAt b [])
-    (b .pre .labelled) (b .pre .valid) (o .label-task .ensures (now (a .bwd)))
+    answered.labels-kept (a .t) (now (a .fwd)) (now (a .bwd)) (now (a .pins)) (now (a .couplings)) (now (a .cuts)) (choicesAt b) (lentAt b [])
+    (b .pre .labelled) (b .pre .valid) (o .label-task .ensures (now (a .bwd)) (now (a .pins)))
 
 same-length-8 : tie.Need-same-length-8
 same-length-8 c = search needs
@@ -169,24 +169,24 @@ same-length-9 c =
     let o = D c in
     let b = S o in
     let a = b .args in
-    answered.counts-kept (a .t) (now (a .fwd)) (now (a .bwd)) (now (a .couplings)) (now (a .cuts)) (choicesAt b) (lentAt b [])
-    (b .pre .labelled) (b .pre .valid) (o .label-task .ensures (now (a .bwd)))
+    answered.counts-kept (a .t) (now (a .fwd)) (now (a .bwd)) (now (a .pins)) (now (a .couplings)) (now (a .cuts)) (choicesAt b) (lentAt b [])
+    (b .pre .labelled) (b .pre .valid) (o .label-task .ensures (now (a .bwd)) (now (a .pins)))
 
 same-length-10 : tie.Need-same-length-10
 same-length-10 c =
     let o = D c in
     let b = S o in
     let a = b .args in
-    answered.sizes-kept (a .t) (now (a .fwd)) (now (a .bwd)) (now (a .couplings)) (now (a .cuts)) (choicesAt b) (lentAt b [])
-    (b .pre .labelled) (b .pre .valid) (o .label-task .ensures (now (a .bwd)))
+    answered.sizes-kept (a .t) (now (a .fwd)) (now (a .bwd)) (now (a .pins)) (now (a .couplings)) (now (a .cuts)) (choicesAt b) (lentAt b [])
+    (b .pre .labelled) (b .pre .valid) (o .label-task .ensures (now (a .bwd)) (now (a .pins)))
 
 same-length-11 : tie.Need-same-length-11
 same-length-11 c =
     let o = D c in
     let b = S o in
     let a = b .args in
-    answered.found-kept (a .t) (now (a .fwd)) (now (a .bwd)) (now (a .couplings)) (now (a .cuts)) (choicesAt b) (lentAt b [])
-    (b .pre .labelled) (b .pre .valid) (o .label-task .ensures (now (a .bwd)))
+    answered.found-kept (a .t) (now (a .fwd)) (now (a .bwd)) (now (a .pins)) (now (a .couplings)) (now (a .cuts)) (choicesAt b) (lentAt b [])
+    (b .pre .labelled) (b .pre .valid) (o .label-task .ensures (now (a .bwd)) (now (a .pins)))
 
 same-length-12 : tie.Need-same-length-12
 same-length-12 c = search needs
@@ -200,9 +200,9 @@ returns-2 c = λ members.
     let o = T (e .before) in
     let b = S o in
     let a = b .args in
-    answered.moved-answers (a .t) (now (a .fwd)) (now (a .bwd)) (now (a .couplings)) (now (a .cuts)) (choicesAt b) (lentAt b members)
+    answered.done-answers (a .t) (now (a .fwd)) (now (a .bwd)) (now (a .pins)) (now (a .couplings)) (now (a .cuts)) (choicesAt b) (lentAt b members)
     (b .pre .labelled) (answered.valid-with (b .pre .labelled) (b .pre .valid) members)
-    (o .label-task .ensures (now (a .bwd))) (k .choose-task .ensures) (e .if1 .left) (moving m) (w .write-task .ensures)
+    (o .label-task .ensures (now (a .bwd)) (now (a .pins))) (k .choose-task .ensures) (e .if1 .left) (moving m) (w .write-task .ensures)
 
 same-length-13 : tie.Need-same-length-13
 same-length-13 c = search needs
@@ -226,9 +226,9 @@ returns-3 c = λ members.
     let o = T (e .before) in
     let b = S o in
     let a = b .args in
-    answered.observe-answers (a .t) (now (a .fwd)) (now (a .bwd)) (now (a .couplings)) (now (a .cuts)) (choicesAt b) (lentAt b members)
+    answered.observe-answers (a .t) (now (a .fwd)) (now (a .bwd)) (now (a .pins)) (now (a .couplings)) (now (a .cuts)) (choicesAt b) (lentAt b members)
     (b .pre .labelled) (answered.valid-with (b .pre .labelled) (b .pre .valid) members)
-    (o .label-task .ensures (now (a .bwd))) (e .if1 .left) (resting m)
+    (o .label-task .ensures (now (a .bwd)) (now (a .pins))) (e .if1 .left) (resting m)
 
 pub run-task-spec : {M : Type 1} → statement M
 run-task-spec =

@@ -89,6 +89,7 @@ frameCall text bwd = record {
   mode = Perm;
   form = Sw;
   lattice = frameLattice text bwd;
+  pins = table (frameLattice text bwd .n) (λ k. 0);
   group = record { len = length (groupBytes text); systems = table 8 (λ k. getD (groupBytes text) k 0) };
   temperature = whole 1;
   cuts = [];

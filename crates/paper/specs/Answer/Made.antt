@@ -7,11 +7,12 @@ use Rattle.paper.specs.declared.Keeps.{Keeps}
 use Rattle.paper.specs.declared.Plan.{Plan}
 use Rattle.paper.specs.Answer.Task.{Sweep}
 
-abbrev pub sweepOf : Plan → List ℕ → List ℕ → List ℤ → List ℕ → List ℕ → List Float → List Float → List ℕ → List ℕ → List ℕ → List ℕ → Sweep
-sweepOf q fwd bwd couplings order masks temperatures cuts references seeds choices greys = record {
+abbrev pub sweepOf : Plan → List ℕ → List ℕ → List ℕ → List ℤ → List ℕ → List ℕ → List Float → List Float → List ℕ → List ℕ → List ℕ → List ℕ → Sweep
+sweepOf q fwd bwd pins couplings order masks temperatures cuts references seeds choices greys = record {
   mode = q .mode;
   form = q .form;
   lattice = record { n = q .n; d = q .d; s = q .s; fwd = fwd; bwd = bwd; couplings = couplings };
+  pins = pins;
   t = q .t;
   r = q .r;
   members = q .members;

@@ -1,18 +1,18 @@
 -- What a move answers, for every input, and what every lent buffer then holds.
 use mathlib.Core.Path.{_≡_, refl}
-use mathlib.Core.Bool.{Bool, false, cond}
+use mathlib.Core.Bool.{Bool, true, false, cond}
 use mathlib.Core.List.{List}
-use Prim.Native.Nat.{ℕ}
+use Prim.Native.Nat.{ℕ, _<_}
 use lib.IntN.{ℤ}
 use Rattle.lemmas.specs.Stores.{Cleared}
 use Rattle.paper.specs.declared.Answer.{Answer}
-use Rattle.paper.specs.declared.Answer.the-variants.{Refused, Idle, Moved}
+use Rattle.paper.specs.declared.Answer.the-variants.{Refused, Idle, Held, Moved}
 use Rattle.paper.specs.Answer.Number.{number}
-use Rattle.paper.specs.Panel.Input.{graph, Call, Choices, Buffers}
-use Rattle.paper.specs.Panel.Takes.{isCmr, growsBy, labelsBy, takesGreys}
+use Rattle.paper.specs.Panel.Input.{graph, Call, Choices, Buffers, pinned}
+use Rattle.paper.specs.Panel.Takes.{isCmr, oneCluster, growsBy, labelsBy, takesGreys}
 use Rattle.paper.specs.Site.Acting.{acts, SomeActs, NoneActs}
 use Rattle.paper.specs.Site.Bonds.{holds, holdsGrey}
-use Rattle.paper.specs.Component.Labels.{Numbered}
+use Rattle.paper.specs.Component.Labels.{Joined, Numbered}
 use Rattle.paper.specs.Component.Members.{Members}
 use Rattle.paper.specs.Component.Sizes.{Counted, Largest}
 use Rattle.paper.specs.Move.Moving.{Moves}
@@ -63,6 +63,22 @@ pub record Rests (c : Call) (p : Choices) (b b′ : Buffers) : Type 0 where
   pub still : b′ .spins ≡ b .spins
   pub seen : Seen c b b′
 
+-- the seed's component, in CMR the blue one, has a pinned site
+pub record SeedHeld (c : Call) (xs : List ℤ) : Type 0 where
+  pub site : ℕ
+  pub below : site < c .lattice .n
+  pub pin : pinned c site ≡ true
+  pub joined : Joined (graph c) (holds c xs) (c .seed) site
+
+-- held: the seed's component, the one that the form would move, is held
+pub record Stays (c : Call) (p : Choices) (b b′ : Buffers) : Type 0 where
+  pub valid : Verdict (rules c p b) (number Held)
+  pub some : SomeActs c (b .spins)
+  pub one : oneCluster (c .form) ≡ true
+  pub held : SeedHeld c (b .spins)
+  pub still : b′ .spins ≡ b .spins
+  pub seen : Seen c b b′
+
 -- moved with the members as bytes. In CMR these are of the grey component: the sites of the blue one, which are flipped first, are not written
 pub record Turns (c : Call) (p : Choices) (xs : List ℤ) (members : List ℕ) (ys : List ℤ) : Type 0 where
   pub blue : List ℕ
@@ -73,6 +89,7 @@ pub record Turns (c : Call) (p : Choices) (xs : List ℤ) (members : List ℕ) (
 pub record Goes (c : Call) (p : Choices) (b b′ : Buffers) : Type 0 where
   pub valid : Verdict (rules c p b) (number Moved)
   pub some : SomeActs c (b .spins)
+  pub free : When (oneCluster (c .form)) (SeedHeld c (b .spins) → ⊥)
   pub moved : When (labelsBy (c .form)) (Moves c p (b .spins) (b′ .labels) (b′ .greyLabels) (b′ .spins))
   pub turned : When (growsBy (c .form)) (Turns c p (b .spins) (b′ .members) (b′ .spins))
   pub seen : Seen c b b′
@@ -81,14 +98,17 @@ pub record Goes (c : Call) (p : Choices) (b b′ : Buffers) : Type 0 where
 abbrev pub Answers : Call → Choices → Buffers → Answer → Buffers → Type 0
 Answers c p b (Refused r) b′ = Refuses c p b (number (Refused r)) b′
 Answers c p b Idle b′ = Rests c p b b′
+Answers c p b Held b′ = Stays c p b b′
 Answers c p b Moved b′ = Goes c p b b′
 
 -- an answer that is no refusal
 pub data Accepted : Answer → Type 0 where
   idle : Accepted Idle
+  held : Accepted Held
   moved : Accepted Moved
 
 -- has the number 0
 pub accepted-zero : {a : Answer} → Accepted a → number a ≡ 0
 accepted-zero idle = refl
+accepted-zero held = refl
 accepted-zero moved = refl

@@ -4,7 +4,7 @@ use Prim.Native.Nat.{ℕ}
 use mathlib.Core.List.{List, [], _∷_}
 use lib.IntN.{ℤ}
 use Rattle.paper.specs.declared.Answer.{Answer}
-use Rattle.paper.specs.declared.Answer.the-variants.{Refused, Idle, Moved}
+use Rattle.paper.specs.declared.Answer.the-variants.{Refused, Idle, Held, Moved}
 use Rattle.paper.specs.declared.SweepAnswer.{SweepAnswer}
 use Rattle.paper.specs.declared.SweepAnswer.the-variants.{Fault, Swept}
 use Rattle.paper.specs.declared.MeterAnswer.{MeterAnswer}
@@ -14,16 +14,17 @@ use Rattle.paper.specs.declared.MeterAnswer.the-variants.{Unmetered, Ene
 abbrev pub number : Answer → ℕ
 number (Refused r) = r
 number Idle = 0
+number Held = 0
 number Moved = 0
 
--- of a sweep, with the two counts
+-- of a sweep, with the three counts
 abbrev pub sweepNumber : SweepAnswer → ℕ
 sweepNumber (Fault r) = r
-sweepNumber (Swept idle moved) = 0
+sweepNumber (Swept idle moved held) = 0
 
 abbrev pub sweepValues : SweepAnswer → List ℕ
 sweepValues (Fault r) = []
-sweepValues (Swept idle moved) = idle ∷ moved ∷ []
+sweepValues (Swept idle moved held) = idle ∷ moved ∷ held ∷ []
 
 -- of the meter, with the energy
 abbrev pub meterNumber : MeterAnswer → ℕ

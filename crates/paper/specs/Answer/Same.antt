@@ -5,7 +5,7 @@ use mathlib.Core.Bool.{false, cond}
 use lib.ListN.{length}
 use Rattle.paper.specs.declared.Mode.{Mode}
 use Rattle.paper.specs.declared.Answer.{Answer}
-use Rattle.paper.specs.declared.Answer.the-variants.{Refused, Idle, Moved}
+use Rattle.paper.specs.declared.Answer.the-variants.{Refused, Idle, Held, Moved}
 use Rattle.paper.specs.Panel.Input.{Lattice, Call, Choices, Buffers, size, system}
 use Rattle.paper.specs.Panel.Takes.{growsBy, labelsBy, drawsBonds, takesCuts, takesChoices, takesGreys, takesGreyLabels, takesReference, takesSeed}
 use Rattle.paper.specs.Refusal.Rules.{When}
@@ -25,6 +25,7 @@ pub record SameCall (c a : Call) : Type 0 where
   pub mode : a .mode ≡ c .mode
   pub form : a .form ≡ c .form
   pub panel : SamePanel (c .mode) (c .lattice) (a .lattice)
+  pub pins : a .pins ≡ c .pins
   pub members : size a ≡ size c
   pub systems : (k : ℕ) → k < size c → system a k ≡ system c k
   pub temperature : When (takesCuts c) (a .temperature ≡ c .temperature)
@@ -69,6 +70,7 @@ written c d b′ = record {
 abbrev pub left : Call → Answer → Buffers → Buffers → Buffers
 left c (Refused r) d b′ = d
 left c Idle d b′ = written c d b′
+left c Held d b′ = written c d b′
 left c Moved d b′ = written c d b′
 
 -- two sweeps: every order entry, mask byte and temperature is tested, and how long the areas are; what the areas hold is taken of unmasked tasks only
@@ -76,6 +78,7 @@ pub record SameSwept (w v : Sweep) : Type 0 where
   pub mode : v .mode ≡ w .mode
   pub form : v .form ≡ w .form
   pub panel : SamePanel (w .mode) (w .lattice) (v .lattice)
+  pub pins : v .pins ≡ w .pins
   pub t : v .t ≡ w .t
   pub r : v .r ≡ w .r
   pub members : v .members ≡ w .members

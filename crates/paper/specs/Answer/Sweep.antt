@@ -14,11 +14,11 @@ use Rattle.paper.specs.Panel.Input.{Call, Buffers, spin, pattern, system
 use Rattle.paper.specs.Panel.Takes.{growsBy, labelsBy, takesCuts, takesChoices, takesGreys, takesGreyLabels, takesReference, takesSeed}
 use Rattle.paper.specs.Panel.Takes.{entries, choiceBytes}
 use Rattle.paper.specs.Refusal.Rule.{Rule, rule, Broken}
-use Rattle.paper.specs.Refusal.Rules.{When, Ranged, AllSystems, Spins, Inverse, Permutes, SmallCouplings, Warm, choiceRules, More, noMore}
+use Rattle.paper.specs.Refusal.Rules.{When, Ranged, AllSystems, Spins, Inverse, Pins, Permutes, SmallCouplings, Warm, choiceRules, More, noMore}
 use Rattle.paper.specs.Refusal.Verdict.{Verdict}
 use Rattle.paper.specs.Answer.Number.{sweepNumber, sweepValues}
 use Rattle.paper.specs.Answer.Move.{Answers}
-use Rattle.paper.specs.Answer.Task.{Sweep, tasks, masked, taskCall, taskChoices, areas, idleTasks, movedTasks}
+use Rattle.paper.specs.Answer.Task.{Sweep, tasks, masked, taskCall, taskChoices, areas, isIdle, isMoved, isHeld, tasksThat}
 
 -- what all tasks share
 abbrev pub common : Sweep → Call
@@ -33,6 +33,7 @@ pub record SweepExact (w : Sweep) (b : Buffers) : Type 0 where
   pub spins : length (b .spins) ≡ w .lattice .s * w .lattice .n
   pub fwd : length (w .lattice .fwd) ≡ w .lattice .n * w .lattice .d
   pub bwd : length (w .lattice .bwd) ≡ w .lattice .n * w .lattice .d
+  pub pins : length (w .pins) ≡ w .lattice .n
   pub order : length (w .order) ≡ w .lattice .s
   pub masks : length (w .masks) ≡ w .t
   pub couplings : When (takesCuts (common w)) (length (w .lattice .couplings) ≡ w .lattice .n * w .lattice .d)
@@ -63,6 +64,7 @@ sharedRules m w b =
     ∷ (m .lengths ++ (
     rule 3 (Spins (w .lattice .n) (AllSystems (w .lattice .s)) (b .spins))
     ∷ rule 4 (Inverse (w .lattice .n) (w .lattice .d) (w .lattice .fwd) (w .lattice .bwd))
+    ∷ rule 4 (Pins (w .pins))
     ∷ rule 5 (Permutes (w .lattice .s) (λ k. getD (w .order) k 0))
     ∷ rule 6 (When (takesCuts (common w)) (SmallCouplings (w .lattice .couplings)))
     ∷ (m .couplings ++ (
@@ -76,11 +78,10 @@ sweepRules w b = sharedRules noMore w b ++ taskRules w b (tasks w)
 abbrev pub sweepRulesWith : More → Sweep → Buffers → List Rule
 sweepRulesWith m w b = sharedRules m w b ++ (taskRules w b (tasks w) ++ m .last)
 
--- the task k, alone on the spins before the sweep, would leave the spins xs: its group's rows are those, and its areas are its outputs
-pub record Done (w : Sweep) (b b′ : Buffers) (k : ℕ) : Type 0 where
-  pub answer : Answer
+-- the task k, alone on the spins before the sweep, would answer a and leave the spins xs: its group's rows are those, and its areas are its outputs
+pub record Done (w : Sweep) (b b′ : Buffers) (k : ℕ) (a : Answer) : Type 0 where
   pub spins : List ℤ
-  pub answers : Answers (taskCall w k) (taskChoices w k) (areas w b (b .spins) k) answer (areas w b′ spins k)
+  pub answers : Answers (taskCall w k) (taskChoices w k) (areas w b (b .spins) k) a (areas w b′ spins k)
   pub rows : (i x : ℕ) → i < w .lattice .n → x < w .members → pattern (taskCall w k) (b′ .spins) i x ≡ pattern (taskCall w k) spins i x
 
 -- the system t is in no unmasked task's group
@@ -107,11 +108,13 @@ pub record Unwritten (c : Call) (b b′ : Buffers) : Type 0 where
   pub found : labelsBy (c .form) ≡ false → b′ .found ≡ b .found
   pub grey-found : takesGreyLabels c ≡ false → b′ .greyFound ≡ b .greyFound
 
-pub record Sweeps (w : Sweep) (b : Buffers) (idle moved : ℕ) (b′ : Buffers) : Type 0 where
-  pub valid : Verdict (sweepRules w b) (sweepNumber (Swept idle moved))
-  pub counts : sweepValues (Swept idle moved) ≡ idleTasks w (b .spins) ∷ movedTasks w (b .spins) ∷ []
+pub record Sweeps (w : Sweep) (b : Buffers) (idle moved held : ℕ) (b′ : Buffers) : Type 0 where
+  pub valid : Verdict (sweepRules w b) (sweepNumber (Swept idle moved held))
+  -- what each task answers; of a masked one it is not looked at
+  pub answered : ℕ → Answer
+  pub counts : sweepValues (Swept idle moved held) ≡ tasksThat isIdle w answered ∷ tasksThat isMoved w answered ∷ tasksThat isHeld w answered ∷ []
   pub lengths : SameLengths b b′
-  pub each : (k : ℕ) → k < tasks w → masked w k ≡ false → Done w b b′ k
+  pub each : (k : ℕ) → k < tasks w → masked w k ≡ false → Done w b b′ k (answered k)
   pub skipped : (k : ℕ) → k < tasks w → masked w k ≡ true → areas w b′ (b .spins) k ≡ areas w b (b .spins) k
   pub others : (i t : ℕ) → i < w .lattice .n → Unmoved w t → spin (w .lattice .n) (b′ .spins) t i ≡ spin (w .lattice .n) (b .spins) t i
   pub kept : Unwritten (common w) b b′
@@ -122,4 +125,4 @@ pub record SweepRefuses (w : Sweep) (b : Buffers) (r : ℕ) (b′ : Buffers) : T
 
 abbrev pub SweepAnswers : Sweep → Buffers → SweepAnswer → Buffers → Type 0
 SweepAnswers w b (Fault r) b′ = SweepRefuses w b (sweepNumber (Fault r)) b′
-SweepAnswers w b (Swept idle moved) b′ = Sweeps w b idle moved b′
+SweepAnswers w b (Swept idle moved held) b′ = Sweeps w b idle moved held b′

@@ -1,6 +1,6 @@
 -- A sweep: its tasks, each a move with its own areas.
 use Prim.Native.Nat.{ℕ, _+_, _*_, _/_, _%_}
-use mathlib.Core.Bool.{Bool, not, cond, _&&_}
+use mathlib.Core.Bool.{Bool, true, false, not, cond, _&&_, _||_}
 use mathlib.Core.List.{List}
 use lib.Dec.{eqb, ltb}
 use lib.ListN.{getD, take, drop}
@@ -8,18 +8,20 @@ use lib.IntN.{ℤ}
 use lib.Ieee.{Float, nan}
 use Rattle.lemmas.specs.Counts.{countWhere}
 use Rattle.lemmas.specs.Cells.{table}
+use Rattle.paper.specs.declared.Answer.{Answer}
+use Rattle.paper.specs.declared.Answer.the-variants.{Refused, Idle, Held, Moved}
 use Rattle.paper.specs.declared.Group.{Group}
 use Rattle.paper.specs.declared.Mode.{Mode}
 use Rattle.paper.specs.declared.Form.{Form}
 use Rattle.paper.specs.Panel.Input.{Lattice, Call, Choices, Buffers}
 use Rattle.paper.specs.Panel.Takes.{entries, choiceBytes}
-use Rattle.paper.specs.Site.Acting.{acts}
 
 -- t temperatures of r replicas; groups of `members` systems. The last five are the tasks' areas, at the task's number
 pub record Sweep : Type 0 where
   pub mode : Mode
   pub form : Form
   pub lattice : Lattice
+  pub pins : List ℕ
   pub t : ℕ
   pub r : ℕ
   pub members : ℕ
@@ -62,6 +64,7 @@ taskCall w k = record {
   mode = w .mode;
   form = w .form;
   lattice = w .lattice;
+  pins = w .pins;
   group = groupOf w k;
   temperature = getD (w .temperatures) (temperatureOf w k) nan;
   cuts = part k (w .lattice .n * w .lattice .d) (w .cuts);
@@ -88,12 +91,22 @@ areas w b xs k = record {
   greyFound = part k 1 (b .greyFound);
 }
 
--- ---- the two counts
-abbrev pub idleTask : Sweep → List ℤ → ℕ → Bool
-idleTask w xs k = eqb (countWhere (acts (taskCall w k) xs) (w .lattice .n)) 0
+-- ---- the three counts, of the unmasked tasks by their answers
+abbrev pub isIdle : Answer → Bool
+isIdle (Refused r) = false
+isIdle Idle = true
+isIdle Held = false
+isIdle Moved = false
 
-abbrev pub idleTasks : Sweep → List ℤ → ℕ
-idleTasks w xs = countWhere (λ k. not (masked w k) && idleTask w xs k) (tasks w)
+abbrev pub isHeld : Answer → Bool
+isHeld (Refused r) = false
+isHeld Idle = false
+isHeld Held = true
+isHeld Moved = false
 
-abbrev pub movedTasks : Sweep → List ℤ → ℕ
-movedTasks w xs = countWhere (λ k. not (masked w k) && not (idleTask w xs k)) (tasks w)
+-- all others
+abbrev pub isMoved : Answer → Bool
+isMoved a = not (isIdle a || isHeld a)
+
+abbrev pub tasksThat : (Answer → Bool) → Sweep → (ℕ → Answer) → ℕ
+tasksThat kind w answered = countWhere (λ k. not (masked w k) && kind (answered k)) (tasks w)

@@ -6,7 +6,7 @@ use mathlib.Core.List.{List, [], _∷_, _++_}
 use lib.ListN.{length, getD}
 use lib.IntN.{ℤ, pos, natAbs, _+ℤ_, _-ℤ_}
 use Rattle.paper.specs.declared.Answer.{Answer}
-use Rattle.paper.specs.declared.Answer.the-variants.{Refused, Idle, Moved}
+use Rattle.paper.specs.declared.Answer.the-variants.{Refused, Idle, Held, Moved}
 use Rattle.paper.specs.declared.Group.{Group}
 use Rattle.paper.specs.declared.SweepAnswer.{SweepAnswer}
 use Rattle.paper.specs.declared.SweepAnswer.the-variants.{Fault, Swept}
@@ -66,12 +66,13 @@ module _ (keeping : Bool) (c : Call) (p : Choices) (b : Buffers) (ts : List ℤ)
   pub kept-valid : Kept (keptRules keeping c p b ts) → Valid c p b
   kept-valid k =
       let q = k .1 .1 .1 in
-      let h = q .1 .1 .1 .1 .1 in
-      valid-of c p b (k .0, (k .1 .0, (q .0, (q .1 .0, (q .1 .1 .0, (q .1 .1 .1 .0, (h .0, (h .1 .0, (h .1 .1 .0, (h .1 .1 .1 .0, tt))))))))))
+      let h = q .1 .1 .1 .1 .1 .1 in
+      valid-of c p b
+      (k .0, (k .1 .0, (q .0, (q .1 .0, (q .1 .1 .0, (q .1 .1 .1 .0, (q .1 .1 .1 .1 .0, (h .0, (h .1 .0, (h .1 .1 .0, (h .1 .1 .1 .0, tt)))))))))))
 
   pub kept-asked : Kept (keptRules keeping c p b ts) → TotalsAsked keeping (c .lattice) ts
   kept-asked k =
-      let h = k .1 .1 .1 .1 .1 .1 .1 in
+      let h = k .1 .1 .1 .1 .1 .1 .1 .1 in
       record { lengths = k .1 .1 .0; couplings = h .0; small = h .1 .1 .1 .1 .1 .0 }
 
   last-kept : Valid c p b → TotalsAsked keeping (c .lattice) ts → Kept (choiceRules c p (b .spins) ++ totalsAsk keeping (c .lattice) ts .last)
@@ -80,7 +81,7 @@ module _ (keeping : Bool) (c : Call) (p : Choices) (b : Buffers) (ts : List ℤ)
   pub asked-kept : Valid c p b → TotalsAsked keeping (c .lattice) ts → Kept (keptRules keeping c p b ts)
   asked-kept v a =
       let s = v .sound in
-      (s .ranged, (s .exact, (a .lengths, (s .spins, (s .inverse, (s .grouped, (s .couplings, (a .couplings, (s .warm, last-kept v a)))))))))
+      (s .ranged, (s .exact, (a .lengths, (s .spins, (s .inverse, (s .pins, (s .grouped, (s .couplings, (a .couplings, (s .warm, last-kept v a))))))))))
 
 -- ---- what becomes of the totals
 
@@ -110,6 +111,7 @@ pub record KeepAccepts (keeping : Bool) (c : Call) (p : Choices) (b : Buffers) (
 abbrev pub KeepAnswers : Bool → Call → Choices → Buffers → List ℤ → Answer → Buffers → List ℤ → Type 0
 KeepAnswers keeping c p b ts (Refused r) b′ ts′ = KeepRefuses keeping c p b ts (number (Refused r)) b′ ts′
 KeepAnswers keeping c p b ts Idle b′ ts′ = KeepAccepts keeping c p b ts Idle b′ ts′
+KeepAnswers keeping c p b ts Held b′ ts′ = KeepAccepts keeping c p b ts Held b′ ts′
 KeepAnswers keeping c p b ts Moved b′ ts′ = KeepAccepts keeping c p b ts Moved b′ ts′
 
 -- ---- a sweep
@@ -119,14 +121,14 @@ pub record SweepKeepRefuses (keeping : Bool) (w : Sweep) (b : Buffers) (ts : Lis
   pub kept : b′ ≡ b
   pub totals-kept : ts′ ≡ ts
 
-pub record SweepKeeps (keeping : Bool) (w : Sweep) (b : Buffers) (ts : List ℤ) (idle moved : ℕ) (b′ : Buffers) (ts′ : List ℤ) : Type 0 where
+pub record SweepKeeps (keeping : Bool) (w : Sweep) (b : Buffers) (ts : List ℤ) (idle moved held : ℕ) (b′ : Buffers) (ts′ : List ℤ) : Type 0 where
   pub valid : Kept (sweptRules keeping w b ts)
-  pub answers : SweepAnswers w b (Swept idle moved) b′
+  pub answers : SweepAnswers w b (Swept idle moved held) b′
   pub totals : TotalsAfter keeping (w .lattice) (b .spins) ts (b′ .spins) ts′
 
 abbrev pub SweepKeepAnswers : Bool → Sweep → Buffers → List ℤ → SweepAnswer → Buffers → List ℤ → Type 0
 SweepKeepAnswers keeping w b ts (Fault r) b′ ts′ = SweepKeepRefuses keeping w b ts (sweepNumber (Fault r)) b′ ts′
-SweepKeepAnswers keeping w b ts (Swept idle moved) b′ ts′ = SweepKeeps keeping w b ts idle moved b′ ts′
+SweepKeepAnswers keeping w b ts (Swept idle moved held) b′ ts′ = SweepKeeps keeping w b ts idle moved held b′ ts′
 
 -- ---- the hand-over
 

@@ -2,16 +2,17 @@
 use Prim.Native.Nat.{ℕ, zero, suc, _+_, _*_, _/_, _%_, _<_}
 use mathlib.Core.Path.{_≡_}
 use mathlib.Core.Logic.{_≢_}
-use mathlib.Core.Bool.{Bool, true, false, cond, _&&_}
+use mathlib.Core.Bool.{Bool, true, false, not, cond, _&&_}
 use mathlib.Core.List.{List}
 use lib.Dec.{eqb, ltb, leb}
 use lib.ListN.{length, getD}
 use lib.IntN.{ℤ, negℤ, _*ℤ_}
+use Rattle.lemmas.specs.Counts.{countWhere}
 use Rattle.paper.specs.declared.Mode.{Mode}
 use Rattle.paper.specs.declared.Mode.the-variants.{Houd, Pair, Perm, Gperm, Jorg, Cmr}
 use Rattle.paper.specs.declared.Form.{Form}
 use Rattle.paper.specs.declared.Form.the-variants.{Sw, Wolff, Observe, Grow}
-use Rattle.paper.specs.Panel.Input.{Call, Choices, Pattern, pattern, spin, size, system}
+use Rattle.paper.specs.Panel.Input.{Call, Choices, Pattern, pinned, pattern, spin, size, system}
 use Rattle.paper.specs.Panel.Takes.{isPerm, takesGreys, entry}
 use Rattle.paper.specs.Site.Acting.{acts}
 use Rattle.paper.specs.Component.Sizes.{labelOf, sizeOf}
@@ -93,9 +94,17 @@ reachedBy Wolff mode seed l i = eqb (labelOf l i) (labelOf l seed)
 reachedBy Observe mode seed l i = false
 reachedBy Grow mode seed l i = eqb (labelOf l i) 1
 
--- the site i acts and its component, by the list l, is one that the form moves
+-- some site of the component with the label r has the mark
+unfoldable pub hasOne : (ℕ → Bool) → List ℕ → ℕ → Bool
+hasOne mark l r = ltb 0 (countWhere (λ j. eqb (labelOf l j) r && mark j) (length l))
+
+-- a component with a pinned site is held
+abbrev pub held : Call → List ℕ → ℕ → Bool
+held c l i = hasOne (pinned c) l (labelOf l i)
+
+-- the site i acts and its component, by the list l, is one that the form moves and that is not held
 unfoldable pub reached : Call → List ℤ → List ℕ → ℕ → Bool
-reached c xs l i = acts c xs i && reachedBy (c .form) (c .mode) (c .seed) l i
+reached c xs l i = acts c xs i && (reachedBy (c .form) (c .mode) (c .seed) l i && not (held c l i))
 
 -- ---- the pattern at the site i after the move
 

@@ -1,6 +1,8 @@
 -- What one move is handed. A call has the panel, the group and the sites; the choices are the draws; the buffers are what is lent and may change.
 use Prim.Native.Nat.{ℕ, _+_, _*_}
+use mathlib.Core.Bool.{Bool}
 use mathlib.Core.List.{List}
+use lib.Dec.{eqb}
 use lib.ListN.{getD}
 use lib.IntN.{ℤ, pos}
 use lib.Ieee.{Float}
@@ -26,11 +28,12 @@ pub record Lattice : Type 0 where
   pub bwd : List ℕ
   pub couplings : List ℤ
 
--- what stays the same from one move to the next. A mode that does not take an input does not read its field
+-- what stays the same from one move to the next. A mode that does not take an input does not read its field. A pin byte for each site: 1 pins it
 pub record Call : Type 0 where
   pub mode : Mode
   pub form : Form
   pub lattice : Lattice
+  pub pins : List ℕ
   pub group : Group
   pub temperature : Float
   pub cuts : List Float
@@ -53,6 +56,10 @@ pub record Buffers : Type 0 where
   pub members : List ℕ
   pub found : List ℕ
   pub greyFound : List ℕ
+
+-- is the site i pinned?
+abbrev pub pinned : Call → ℕ → Bool
+pinned c i = eqb (getD (c .pins) i 0) 1
 
 -- the number of systems in the group, N, and the system at its place k
 abbrev pub size : Call → ℕ

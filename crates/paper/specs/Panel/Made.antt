@@ -9,11 +9,12 @@ use Rattle.paper.specs.Panel.Input.{Lattice, Call, Choices, Buffers}
 abbrev pub latticeOf : ℕ → ℕ → ℕ → List ℕ → List ℕ → List ℤ → Lattice
 latticeOf n d s fwd bwd couplings = record { n = n; d = d; s = s; fwd = fwd; bwd = bwd; couplings = couplings }
 
-abbrev pub callOf : Task → List ℕ → List ℕ → List ℤ → List Float → Call
-callOf t fwd bwd couplings cuts = record {
+abbrev pub callOf : Task → List ℕ → List ℕ → List ℕ → List ℤ → List Float → Call
+callOf t fwd bwd pins couplings cuts = record {
   mode = t .mode;
   form = t .form;
   lattice = latticeOf (t .n) (t .d) (t .s) fwd bwd couplings;
+  pins = pins;
   group = t .group;
   temperature = t .temperature;
   cuts = cuts;

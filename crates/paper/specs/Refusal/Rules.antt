@@ -44,6 +44,7 @@ pub record Fits (mode : Mode) (form : Form) (n d s m : ℕ) (l : Lengths) : Type
   pub spins : l .spins ≡ s * n
   pub fwd : l .fwd ≡ n * d
   pub bwd : l .bwd ≡ n * d
+  pub pins : l .pins ≡ n
   pub couplings : When (drawsBonds mode) (l .couplings ≡ n * d)
   pub cuts : When (drawsBonds mode) (l .cuts ≡ n * d)
   pub choices : When (choicesBy mode form) (l .choices ≡ choiceBytes mode form n m)
@@ -61,6 +62,7 @@ lengthsOf c p b = record {
   spins = length (b .spins);
   fwd = length (c .lattice .fwd);
   bwd = length (c .lattice .bwd);
+  pins = length (c .pins);
   couplings = length (c .lattice .couplings);
   cuts = length (c .cuts);
   choices = length (p .choices);
@@ -97,6 +99,10 @@ pub record Back (n d : ℕ) (a b : List ℕ) (i e : ℕ) : Type 0 where
 pub record Inverse (n d : ℕ) (fwd bwd : List ℕ) : Type 0 where
   pub there : (i e : ℕ) → i < n → e < d → Back n d fwd bwd i e
   pub here : (i e : ℕ) → i < n → e < d → Back n d bwd fwd i e
+
+-- a pin byte is 0 or 1
+abbrev pub Pins : List ℕ → Type 0
+Pins ps = (i : ℕ) → i < length ps → getD ps i 0 ≤ 1
 
 -- no two of the first m are equal
 abbrev pub Distinct : ℕ → (ℕ → ℕ) → Type 0
@@ -172,6 +178,7 @@ rulesWith m c p b =
     ∷ (m .lengths ++ (
     rule 3 (Spins (c .lattice .n) (AllSystems (c .lattice .s)) (b .spins))
     ∷ rule 4 (Inverse (c .lattice .n) (c .lattice .d) (c .lattice .fwd) (c .lattice .bwd))
+    ∷ rule 4 (Pins (c .pins))
     ∷ rule 5 (Grouped (c .lattice .s) (c .group))
     ∷ rule 6 (When (takesCuts c) (SmallCouplings (c .lattice .couplings)))
     ∷ (m .couplings ++ (

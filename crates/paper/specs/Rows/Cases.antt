@@ -7,6 +7,7 @@ use mathlib.Core.List.{List, [], _∷_}
 use lib.ListN.{getD}
 use lib.IntN.{ℤ, pos, negsuc}
 use lib.Ieee.{Float, binary32, round}
+use Rattle.lemmas.specs.Cells.{table}
 use Rattle.paper.specs.declared.Group.{Group}
 use Rattle.paper.specs.declared.Mode.{Mode}
 use Rattle.paper.specs.declared.Mode.the-variants.{Houd}
@@ -36,7 +37,7 @@ row (suc m) f = f 0 ∷ row m (λ k. f (suc k))
 abbrev pub decimal : ℕ → ℕ → Float
 decimal m k = round binary32 false m (10 ^ k)
 
--- a lattice of D = 1, and a call on it that takes no temperature
+-- a lattice of D = 1, and a call on it that takes no temperature and pins nothing
 abbrev pub line : ℕ → ℕ → List ℕ → List ℕ → List ℤ → Lattice
 line n s fwd bwd couplings = record { n = n; d = 1; s = s; fwd = fwd; bwd = bwd; couplings = couplings }
 
@@ -45,6 +46,7 @@ plain mode form lattice group = record {
   mode = mode;
   form = form;
   lattice = lattice;
+  pins = table (lattice .n) (λ k. 0);
   group = group;
   temperature = whole 1;
   cuts = [];

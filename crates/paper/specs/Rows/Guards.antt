@@ -13,22 +13,25 @@ use Rattle.lemmas.specs.Counts.{countWhere}
 use Rattle.paper.specs.declared.BondKind.the-variants.{Red}
 use Rattle.paper.specs.Site.Bonds.{whole, samplerOf, jorgHolds, greyHolds, holds, holdsGrey}
 use Rattle.paper.specs.Site.Energy.{energy}
-use Rattle.paper.specs.Move.Moving.{other, partner, permute, reachedBy, reached, after, afterGrey, final}
+use Rattle.paper.specs.Move.Moving.{other, partner, permute, reachedBy, hasOne, reached, after, afterGrey, final}
 use Rattle.paper.specs.Refusal.Rules.{Warm, isCut, rules}
 use Rattle.paper.specs.Rows.Cases.{+, -, of, row, line, first}
+use Rattle.paper.specs.declared.Mode.{Mode}
 use Rattle.paper.specs.declared.Mode.the-variants.{Pair, Perm, Cmr}
 use Rattle.paper.specs.declared.Form.the-variants.{Sw, Grow}
-use Rattle.paper.specs.declared.Answer.the-variants.{Idle, Moved}
+use Rattle.paper.specs.declared.Answer.the-variants.{Idle, Held, Moved}
 use Rattle.paper.specs.declared.SweepAnswer.the-variants.{Swept}
 use Rattle.paper.specs.declared.MeterAnswer.the-variants.{Energy}
-use Rattle.paper.specs.Panel.Input.{Graph, Call, Choices, Buffers}
+use Rattle.paper.specs.Panel.Input.{Graph, graph, Call, Choices, Buffers}
+use Rattle.paper.specs.Panel.Takes.{oneCluster, growsBy}
 use Rattle.paper.specs.Site.Acting.{acts, pairDiffers, differs}
 use Rattle.paper.specs.Component.Labels.{Labels}
+use Rattle.paper.specs.Component.Members.{Members}
 use Rattle.paper.specs.Component.Sizes.{sizeOf, isFirst, ofSize, atLeast, Counted, Largest}
 use Rattle.paper.specs.Refusal.Rule.{Rule}
 use Rattle.paper.specs.Answer.Number.{number, sweepNumber, meterNumber}
-use Rattle.paper.specs.Answer.Move.{SeenAll, SeenOne, memberBonds}
-use Rattle.paper.specs.Answer.Task.{Sweep, tasks, temperatureOf, masked, idleTasks, movedTasks}
+use Rattle.paper.specs.Answer.Move.{SeenAll, SeenOne, memberBonds, Stays}
+use Rattle.paper.specs.Answer.Task.{Sweep, tasks, temperatureOf, masked, isIdle, isMoved, isHeld, tasksThat}
 use Rattle.paper.specs.Answer.Sweep.{Sweeps, taskRules, sweepRules}
 
 -- the `f32` nearest to a / b
@@ -115,6 +118,7 @@ cmr = record {
   mode = Cmr;
   form = Sw;
   lattice = line 2 2 (1 ∷ 0 ∷ []) (1 ∷ 0 ∷ []) (pos 5 ∷ pos 5 ∷ []);
+  pins = 0 ∷ 0 ∷ [];
   group = first 2;
   temperature = whole 4;
   cuts = whole 2 ∷ whole 2 ∷ [];
@@ -137,7 +141,7 @@ pub record Greys : Type 0 where
   pub second : row 2 (afterGrey cmr greyOne red (0 ∷ 0 ∷ []) 0 (of (- ∷ - ∷ []))) ≡ + ∷ - ∷ []
 
 pub greys : Greys
-unfolding holds holdsGrey acts reached sizeOf countWhere row mul div lt ofInt
+unfolding holds holdsGrey acts hasOne reached sizeOf countWhere row mul div lt ofInt
 greys = record { not-blue = refl; grey = refl; member = refl; second = refl }
 
 -- what is counted: of the same two sites, each alone, pair counts the second, which acts, and CMR counts both
@@ -146,6 +150,7 @@ pair = record {
   mode = Pair;
   form = Sw;
   lattice = cmr .lattice;
+  pins = 0 ∷ 0 ∷ [];
   group = first 2;
   temperature = whole 4;
   cuts = [];
@@ -173,17 +178,21 @@ unfolding isFirst countWhere
 by-smallest t holding found e w = absurd (omega (arith, w .rising 0 1 (omega arith) (omega (arith, e)) refl refl))
 
 -- a choice is found by its component's number: of three sites the third, alone, is the component 1, and has the second entry
-abbrev perm : Call
-perm = record {
-  mode = Perm;
+abbrev pinnedTo : Mode → List ℕ → Call
+pinnedTo mode pins = record {
+  mode = mode;
   form = Sw;
   lattice = line 3 2 (1 ∷ 0 ∷ 2 ∷ []) (1 ∷ 0 ∷ 2 ∷ []) [];
+  pins = pins;
   group = first 2;
   temperature = whole 4;
   cuts = [];
   reference = 0;
   seed = 0;
 }
+
+abbrev perm : Call
+perm = pinnedTo Perm (0 ∷ 0 ∷ 0 ∷ [])
 
 abbrev second : Choices
 second = record { choices = 0 ∷ 1 ∷ 1 ∷ 0 ∷ 0 ∷ 1 ∷ []; greys = [] }
@@ -193,7 +202,7 @@ pub record Chosen : Type 0 where
   pub not-others : row 2 (after perm second (+ ∷ + ∷ + ∷ - ∷ - ∷ - ∷ []) (0 ∷ 0 ∷ 1 ∷ []) 1) ≡ + ∷ - ∷ []
 
 pub chosen : Chosen
-unfolding acts differs reached sizeOf countWhere row
+unfolding acts differs hasOne reached sizeOf countWhere row
 chosen = record { by-number = refl; not-others = refl }
 
 -- and a grey number by its grey component's, whatever the blue one's is
@@ -209,8 +218,57 @@ pub record GreyChosen : Type 0 where
   pub blue : row 2 (final cmr blueSecond red (1 ∷ 1 ∷ []) (0 ∷ 0 ∷ []) 0) ≡ - ∷ - ∷ []
 
 pub grey-chosen : GreyChosen
-unfolding acts reached sizeOf countWhere row final
+unfolding acts hasOne reached sizeOf countWhere row final
 grey-chosen = record { grey = refl; blue = refl }
+
+-- a component with a pinned site does not move, at any of its sites, and a pin holds no other component. By permutations that exchange both replicas on
+-- each component, of sites that all act
+abbrev exchanged : Choices
+exchanged = record { choices = 1 ∷ 0 ∷ 1 ∷ 0 ∷ 1 ∷ 0 ∷ []; greys = [] }
+
+abbrev apart : List ℤ
+apart = + ∷ + ∷ + ∷ - ∷ - ∷ - ∷ []
+
+-- CMR: every blue flip, and the grey number 1
+abbrev bothBlue : Choices
+bothBlue = record { choices = 1 ∷ 1 ∷ []; greys = 1 ∷ 1 ∷ [] }
+
+pub record Pinned : Type 0 where
+  pub itself : row 2 (final (pinnedTo Perm (0 ∷ 1 ∷ 0 ∷ [])) exchanged apart (0 ∷ 0 ∷ 1 ∷ []) [] 1) ≡ + ∷ - ∷ []
+  pub whole-component : row 2 (final (pinnedTo Perm (0 ∷ 1 ∷ 0 ∷ [])) exchanged apart (0 ∷ 0 ∷ 1 ∷ []) [] 0) ≡ + ∷ - ∷ []
+  pub no-other : row 2 (final (pinnedTo Perm (0 ∷ 1 ∷ 0 ∷ [])) exchanged apart (0 ∷ 0 ∷ 1 ∷ []) [] 2) ≡ - ∷ + ∷ []
+  pub none : row 2 (final perm exchanged apart (0 ∷ 0 ∷ 1 ∷ []) [] 1) ≡ - ∷ + ∷ []
+  -- CMR, three sites of one grey component: the blue one of the first two is not held and flips, the grey one is held by the third and does not
+  pub blue-flips : row 2 (final (pinnedTo Cmr (0 ∷ 0 ∷ 1 ∷ [])) bothBlue apart (0 ∷ 0 ∷ 1 ∷ []) (0 ∷ 0 ∷ 0 ∷ []) 0) ≡ - ∷ + ∷ []
+  -- and with the first site pinned both are held
+  pub blue-held : row 2 (final (pinnedTo Cmr (1 ∷ 0 ∷ 0 ∷ [])) bothBlue apart (0 ∷ 0 ∷ 1 ∷ []) (0 ∷ 0 ∷ 0 ∷ []) 1) ≡ + ∷ - ∷ []
+
+pub pins : Pinned
+unfolding acts differs hasOne reached sizeOf countWhere row final
+pins = record { itself = refl; whole-component = refl; no-other = refl; none = refl; blue-flips = refl; blue-held = refl }
+
+-- a held answer is given by the forms that move one component alone, and is counted as held, and as nothing else
+pub held-one : (c : Call) (p : Choices) (b b′ : Buffers) → Stays c p b b′ → oneCluster (c .form) ≡ true
+held-one c p b b′ s = s .one
+
+-- the members of a held component are written like those of any other
+pub held-members :
+    (c : Call) (p : Choices) (b b′ : Buffers)
+    → Stays c p b b′
+    → growsBy (c .form) ≡ true
+    → acts c (b .spins) (c .seed) ≡ true
+    → Members (graph c) (memberBonds c (b .spins)) (c .seed) (b′ .members)
+held-members c p b b′ s g e = s .seen .one g .members e
+
+pub record Kinds : Type 0 where
+  pub held : isHeld Held ≡ true
+  pub not-moved : isMoved Held ≡ false
+  pub not-idle : isIdle Held ≡ false
+  pub moved : isMoved Moved ≡ true
+  pub moved-not-held : isHeld Moved ≡ false
+
+pub kinds : Kinds
+kinds = record { held = refl; not-moved = refl; not-idle = refl; moved = refl; moved-not-held = refl }
 
 -- and that is what a move's counts and sizes are of
 pub acting-counted :
@@ -222,12 +280,13 @@ acting-counted c b b′ s = (s .counts, s .sizes)
 -- an answer that is no refusal has the number 0
 pub record Numbers : Type 0 where
   pub idle : number Idle ≡ 0
+  pub held : number Held ≡ 0
   pub moved : number Moved ≡ 0
-  pub swept : (idle moved : ℕ) → sweepNumber (Swept idle moved) ≡ 0
+  pub swept : (idle moved held : ℕ) → sweepNumber (Swept idle moved held) ≡ 0
   pub metered : (e : ℤ) → meterNumber (Energy e) ≡ 0
 
 pub numbers : Numbers
-numbers = record { idle = refl; moved = refl; swept = λ idle moved. refl; metered = λ e. refl }
+numbers = record { idle = refl; held = refl; moved = refl; swept = λ idle moved held. refl; metered = λ e. refl }
 
 -- the refusals in their order; a sweep's are followed by those of its tasks
 abbrev inOrder : List Rule → List ℕ
@@ -235,10 +294,10 @@ inOrder [] = []
 inOrder (r ∷ rs) = r .number ∷ inOrder rs
 
 pub record Orders : Type 0 where
-  pub move : (c : Call) (p : Choices) (b : Buffers) → inOrder (rules c p b) ≡ 1 ∷ 2 ∷ 3 ∷ 4 ∷ 5 ∷ 6 ∷ 7 ∷ 8 ∷ 9 ∷ 10 ∷ []
+  pub move : (c : Call) (p : Choices) (b : Buffers) → inOrder (rules c p b) ≡ 1 ∷ 2 ∷ 3 ∷ 4 ∷ 4 ∷ 5 ∷ 6 ∷ 7 ∷ 8 ∷ 9 ∷ 10 ∷ []
   pub sweep :
       (w : Sweep) (b : Buffers)
-      → inOrder (sweepRules w b) ≡ 1 ∷ 2 ∷ 3 ∷ 4 ∷ 5 ∷ 6 ∷ 7 ∷ 9 ∷ inOrder (taskRules w b (tasks w))
+      → inOrder (sweepRules w b) ≡ 1 ∷ 2 ∷ 3 ∷ 4 ∷ 4 ∷ 5 ∷ 6 ∷ 7 ∷ 9 ∷ inOrder (taskRules w b (tasks w))
 
 pub orders : Orders
 orders = record { move = λ c p b. refl; sweep = λ w b. refl }
@@ -251,12 +310,11 @@ pub record Masks (w : Sweep) (k : ℕ) : Type 0 where
 pub masks : (w : Sweep) (k : ℕ) → Masks w k
 masks w k = record { one = λ e. rw e refl; zero = λ e. rw e refl }
 
--- a sweep's first count is of idle tasks, its second of the others
+-- a sweep's first count is of idle tasks, its second of those that are neither idle nor held, its third of held ones
 pub tasks-counted :
-    (w : Sweep) (b b′ : Buffers) (idle moved : ℕ)
-    → Sweeps w b idle moved b′
-    → idle ∷ moved ∷ [] ≡ idleTasks w (b .spins) ∷ movedTasks w (b .spins) ∷ []
-tasks-counted w b b′ idle moved s = s .counts
+    (w : Sweep) (b b′ : Buffers) (idle moved held : ℕ) (s : Sweeps w b idle moved held b′)
+    → idle ∷ moved ∷ held ∷ [] ≡ tasksThat isIdle w (s .answered) ∷ tasksThat isMoved w (s .answered) ∷ tasksThat isHeld w (s .answered) ∷ []
+tasks-counted w b b′ idle moved held s = s .counts
 
 -- bonds are judged on the spins before the move: what it leaves in the spins does not matter to the labels, counts and sizes, nor to the members
 abbrev withSpins : Buffers → List ℤ → Buffers

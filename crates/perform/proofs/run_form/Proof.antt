@@ -13,7 +13,7 @@ use Rattle.perform.proofs.run_form.Statement.{statement}
 use Rattle.perform.proofs.run_form.Tie as tie
 
 abbrev S : tie.After-grows → tie.Start
-S g = g .before .before .before .before .before .before .before .before .before .before .before .before .before
+S g = g .before .before .before .before .before .before .before .before .before .before .before .before .before .before
 
 -- the form that grows does not take these
 abbrev others : tie.Start → Outputs

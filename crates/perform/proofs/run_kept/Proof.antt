@@ -15,7 +15,7 @@ use Rattle.perform.proofs.run_kept.Tie as tie
 
 -- the start, the columns before, and the task
 abbrev A : tie.After-group → tie.Start
-A c = c .before .before .before .before .before .before .before .before .before .before .before .before
+A c = c .before .before .before .before .before .before .before .before .before .before .before .before .before
 
 abbrev S : tie.After-pack → tie.Start
 S p = A (p .before .before .before .before)
@@ -27,7 +27,7 @@ abbrev R : tie.After-slice-known13 → tie.After-run-task
 R c = c .before .before .before .before .before .before .before .before .before .before .before .before .before
 
 abbrev callAt : tie.Start → Call
-callAt b = let a = b .args in callOf (a .t) (now (a .fwd)) (now (a .bwd)) (now (a .couplings)) (now (a .cuts))
+callAt b = let a = b .args in callOf (a .t) (now (a .fwd)) (now (a .bwd)) (now (a .pins)) (now (a .couplings)) (now (a .cuts))
 
 abbrev choicesAt : tie.Start → Choices
 choicesAt b = choicesOf (now (b .args .choices)) (now (b .args .greys))
@@ -40,7 +40,7 @@ lentAt b = let a = b .args in buffersOf (now (a .spins)) (now (a .labels)) (now 
 abbrev leftAt : tie.After-run-task → Buffers
 leftAt r =
     let z = r .run-task .last in
-    let w = z .1 .1 .1 .1 .1 .1 .1 .1 in
+    let w = z .1 .1 .1 .1 .1 .1 .1 .1 .1 in
     let v = w .1 .1 .1 in
     buffersOf (z .1 .0) (w .0) (w .1 .0) (w .1 .1 .0) (v .0) [] (v .1 .0) (v .1 .1 .0)
 

@@ -79,8 +79,8 @@ returns c =
     let k = c .before .before .before .before .before .before .before .before .before .before .before .before .before .before in
     let o = k .overlap-step in
     let e = keeps-none _ _ _ _ (o .result) _ _ (o .ensures) .answers in
-    let f = rw (empty (o .last .1 .1 .1 .1 .1 .1 .1 .1 .1 .1 .0) (o .kept .1 .1 .1 .1 .1 .1 .1 .1 .1 .1 .0)) at e in
-    let g = rw (empty (o .last .1 .1 .1 .1 .1 .1 .1 .1 .1 .1 .1 .1 .1 .1 .1 .0) (o .kept .1 .1 .1 .1 .1 .1 .1 .1 .1 .1 .1 .1 .1 .1 .1 .0)) at f in
+    let f = rw (empty (o .last .1 .1 .1 .1 .1 .1 .1 .1 .1 .1 .1 .0) (o .kept .1 .1 .1 .1 .1 .1 .1 .1 .1 .1 .1 .0)) at e in
+    let g = rw (empty (o .last .1 .1 .1 .1 .1 .1 .1 .1 .1 .1 .1 .1 .1 .1 .1 .1 .0) (o .kept .1 .1 .1 .1 .1 .1 .1 .1 .1 .1 .1 .1 .1 .1 .1 .1 .0)) at f in
     rw one at (rw (M k .mode-of .ensures) at g)
 
 pub houdayer-step-spec : {M : Type 1} → statement M

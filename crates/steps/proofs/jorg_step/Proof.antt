@@ -52,8 +52,8 @@ returns c =
     let k = c .before .before .before .before .before .before .before .before .before .before .before .before .before .before in
     let o = k .overlap-step in
     let e = keeps-none _ _ _ _ (o .result) _ _ (o .ensures) .answers in
-    rw (empty (o .last .1 .1 .1 .1 .1 .1 .1 .1 .1 .1 .0) (o .kept .1 .1 .1 .1 .1 .1 .1 .1 .1 .1 .0)) at
-    (rw (empty (o .last .1 .1 .1 .1 .1 .1 .1 .1 .1 .1 .1 .1 .1 .1 .1 .0) (o .kept .1 .1 .1 .1 .1 .1 .1 .1 .1 .1 .1 .1 .1 .1 .1 .0)) at e)
+    rw (empty (o .last .1 .1 .1 .1 .1 .1 .1 .1 .1 .1 .1 .0) (o .kept .1 .1 .1 .1 .1 .1 .1 .1 .1 .1 .1 .0)) at
+    (rw (empty (o .last .1 .1 .1 .1 .1 .1 .1 .1 .1 .1 .1 .1 .1 .1 .1 .1 .0) (o .kept .1 .1 .1 .1 .1 .1 .1 .1 .1 .1 .1 .1 .1 .1 .1 .1 .0)) at e)
 
 pub jorg-step-spec : {M : Type 1} → statement M
 jorg-step-spec =

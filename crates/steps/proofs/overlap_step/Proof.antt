@@ -14,7 +14,7 @@ use Rattle.steps.proofs.overlap_step.Statement.{statement}
 use Rattle.steps.proofs.overlap_step.Tie as tie
 
 abbrev S : tie.After-test-call → tie.Start
-S k = k .before .before .before .before .before .before .before .before .before .before .before .before .before .before .before
+S k = k .before .before .before .before .before .before .before .before .before .before .before .before .before .before .before .before
 
 abbrev keepingAt : tie.Start → Bool
 keepingAt b = keepsBy (b .args .t .keeps) (b .args .t .form)
@@ -22,7 +22,7 @@ keepingAt b = keepsBy (b .args .t .keeps) (b .args .t .form)
 abbrev callAt : tie.Start → Call
 callAt b =
     let a = b .args in
-    callOf (a .t) (now (a .fwd)) (now (a .bwd)) (now (a .couplings)) (now (a .cuts))
+    callOf (a .t) (now (a .fwd)) (now (a .bwd)) (now (a .pins)) (now (a .couplings)) (now (a .cuts))
 
 abbrev choicesAt : tie.Start → Choices
 choicesAt b = choicesOf (now (b .args .choices)) (now (b .args .greys))

@@ -18,12 +18,12 @@ use Rattle.steps.proofs.test_call.Statement.{statement}
 use Rattle.steps.proofs.test_call.Tie as tie
 
 abbrev S : tie.After-test-panel → tie.Start
-S k = k .before .before .before .before .before .before
+S k = k .before .before .before .before .before .before .before
 
 abbrev callAt : tie.Start → Call
 callAt b =
     let a = b .args in
-    callOf (a .t) (now (a .fwd)) (now (a .bwd)) (now (a .couplings)) (now (a .cuts))
+    callOf (a .t) (now (a .fwd)) (now (a .bwd)) (now (a .pins)) (now (a .couplings)) (now (a .cuts))
 
 abbrev choicesAt : tie.Start → Choices
 choicesAt b = choicesOf (now (b .args .choices)) (now (b .args .greys))
@@ -44,7 +44,7 @@ sound e = verdict-kept (soundAt (S (e .before))) (e .before .test-panel .result)
 own : (k : tie.After-test-choices) → Verdict (ownAt (S (k .before .before))) (k .test-choices .result)
 own k =
     let a = S (k .before .before) .args in
-    k .test-choices .ensures (a .t .d) (a .t .s) (a .t .temperature) (now (a .fwd)) (now (a .bwd)) (now (a .couplings))
+    k .test-choices .ensures (a .t .d) (a .t .s) (a .t .temperature) (now (a .fwd)) (now (a .bwd)) (now (a .pins)) (now (a .couplings))
 
 chosen : (e : tie.Else2) → Kept (ownAt (S (e .before .before .before)))
 chosen e = verdict-kept (ownAt (S (e .before .before .before))) (e .before .test-choices .result) (e .if2 .left) (own (e .before))
@@ -63,7 +63,7 @@ later m r v =
 
 test-panel-requires : tie.Need-test-panel-requires
 test-panel-requires c κs =
-    let m = c .before .before .before .before .before .pre in
+    let m = c .before .before .before .before .before .before .pre in
     record { spins-is = m .spins-is; fwd-is = m .fwd-is; bwd-is = m .bwd-is; couplings-is = m .couplings-is }
 
 returns : tie.Need-returns

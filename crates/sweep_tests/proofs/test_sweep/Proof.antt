@@ -12,13 +12,13 @@ use Rattle.sweep_tests.proofs.test_sweep.Statement.{statement}
 use Rattle.sweep_tests.proofs.test_sweep.Tie as tie
 
 abbrev S : tie.After-test-lengths → tie.Start
-S t = t .before .before .before .before .before .before .before .before .before .before .before .before .before .before .before .before .before .before
+S t = t .before .before .before .before .before .before .before .before .before .before .before .before .before .before .before .before .before .before .before
 
 abbrev W : tie.Start → Sweep
 W s =
     let a = s .args in
-    sweepOf (a .plan) (now (a .fwd)) (now (a .bwd)) (now (a .couplings)) (now (a .order)) (now (a .masks)) (now (a .temperatures)) (now (a .cuts))
-    (now (a .references)) (now (a .seeds)) (now (a .choices)) (now (a .greys))
+    sweepOf (a .plan) (now (a .fwd)) (now (a .bwd)) (now (a .pins)) (now (a .couplings)) (now (a .order)) (now (a .masks)) (now (a .temperatures))
+    (now (a .cuts)) (now (a .references)) (now (a .seeds)) (now (a .choices)) (now (a .greys))
 
 abbrev B : tie.Start → Buffers
 B s =

@@ -21,13 +21,13 @@ use Rattle.sweep_tests.proofs.test_values.Statement.{statement}
 use Rattle.sweep_tests.proofs.test_values.Tie as tie
 
 abbrev S : tie.After-test-panel → tie.Start
-S t = t .before .before .before .before .before .before .before .before .before .before .before
+S t = t .before .before .before .before .before .before .before .before .before .before .before .before
 
 abbrev W : tie.Start → Sweep
 W s =
     let a = s .args in
-    sweepOf (a .plan) (now (a .fwd)) (now (a .bwd)) (now (a .couplings)) (now (a .order)) (now (a .masks)) (now (a .temperatures)) (now (a .cuts))
-    (now (a .references)) (now (a .seeds)) (now (a .choices)) (now (a .greys))
+    sweepOf (a .plan) (now (a .fwd)) (now (a .bwd)) (now (a .pins)) (now (a .couplings)) (now (a .order)) (now (a .masks)) (now (a .temperatures))
+    (now (a .cuts)) (now (a .references)) (now (a .seeds)) (now (a .choices)) (now (a .greys))
 
 -- the rules, whatever the outputs hold
 module _ (s : tie.Start) (labels greyLabels counts sizes members found greyFound : List ℕ) where
@@ -63,7 +63,7 @@ abbrev S3 : tie.After-totals-fit → tie.Start
 S3 e = S1 (E1 (E2 (T e)))
 
 -- what is known past each test
-panel : (e : tie.Else1) → let a = S1 e .args in Kept (panelRules (a .plan) (now (a .spins)) (now (a .fwd)) (now (a .bwd)) (now (a .order)))
+panel : (e : tie.Else1) → let a = S1 e .args in Kept (panelRules (a .plan) (now (a .spins)) (now (a .fwd)) (now (a .bwd)) (now (a .pins)) (now (a .order)))
 panel e = verdict-kept _ (e .before .test-panel .result) (e .if1 .left) (e .before .test-panel .ensures)
 
 heat : (e : tie.Else2) → let a = S1 (E1 e) .args in Kept (heatRules (a .plan) (now (a .couplings)) (now (a .temperatures)) (now (a .masks)))
@@ -81,14 +81,14 @@ past e a b c d f x y r v =
 -- the verdict on the tasks, and that on the totals
 tasks-told : (e : tie.After-test-tasks) (labels greyLabels counts sizes members found greyFound : List ℕ) →
     Verdict (K (S1 (E1 (E2 e))) labels greyLabels counts sizes members found greyFound) (e .test-tasks .result)
-tasks-told e = let a = S1 (E1 (E2 e)) .args in e .test-tasks .ensures .is (now (a .fwd)) (now (a .bwd)) (now (a .couplings))
+tasks-told e = let a = S1 (E1 (E2 e)) .args in e .test-tasks .ensures .is (now (a .fwd)) (now (a .bwd)) (now (a .pins)) (now (a .couplings))
 
 totals-tell : (e : tie.After-totals-fit) → let a = S3 e .args in
     Tells (e .totals-fit .result) (When (keepsBy (a .plan .keeps) (a .plan .form)) (SmallTotals (now (a .totals))))
 totals-tell e = rw (e .before .totals .ensures) at (e .totals-fit .ensures)
 
 test-panel-requires : tie.Need-test-panel-requires
-test-panel-requires c κs = c .before .before .before .before .before .before .before .before .before .before .pre .panel
+test-panel-requires c κs = c .before .before .before .before .before .before .before .before .before .before .before .pre .panel
 
 returns : tie.Need-returns
 returns c = let t = c .before in let s = S t in record {
@@ -108,7 +108,7 @@ returns-2 c = let t = c .before in let i = t .before in let s = S1 i in record {
 }
 
 test-tasks-requires : tie.Need-test-tasks-requires
-test-tasks-requires c κs = tested-of (S1 (E1 c) .pre) (panel (E1 c))
+test-tasks-requires c κs = let s = S1 (E1 c) in tested-of (s .pre) (now (s .args .pins)) (panel (E1 c))
 
 totals-requires : tie.Need-totals-requires
 totals-requires c κs = search needs

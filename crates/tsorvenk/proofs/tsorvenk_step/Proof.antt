@@ -8,7 +8,7 @@ use Rattle.tsorvenk.proofs.tsorvenk_step.Statement.{statement}
 use Rattle.tsorvenk.proofs.tsorvenk_step.Tie as tie
 
 abbrev S : tie.After-codes-ok → tie.Start
-S k = k .before .before .before .before .before .before .before .before .before .before .before .before .before .before .before
+S k = k .before .before .before .before .before .before .before .before .before .before .before .before .before .before .before .before
 
 -- the codes are known from here on
 known : (e : tie.Else1) → let a = S (e .before) .args in Coded (a .mode) (a .form) (a .coding) (a .keeps)

@@ -1,11 +1,12 @@
-//! bench [repetitions] [totals|numbers]: the port against the published Rust, in one run, as the tables of docs/BENCHMARKS.md.
+//! bench [repetitions] [totals|numbers|pins]: the port against the published Rust, in one run, as the tables of docs/BENCHMARKS.md.
 //!
 //! Times are medians in microseconds. "Rust" is the published code with a generator, "lent" the same code with its
 //! draws read from the lent choices, "depth" the one-cluster form without outputs, a search from the seed; beside a
 //! form that grows "Rust" and "lent" are that search. The port's tests are the time of the same call made to fail its
 //! last test; "move" is the rest. The standard output has the tables, and the standard error each case with all that
 //! was measured. Where the port is not linked the model stands in for it, so that the run itself can be tried. With the word
-//! `totals` behind the repetitions only the tables of totals are made, and with `numbers` only those of permutations by number.
+//! `totals` behind the repetitions only the tables of totals are made, with `numbers` only those of permutations by number, and
+//! with `pins` only those of panels with pinned sites.
 mod clusters;
 mod coded;
 mod draws;
@@ -13,6 +14,7 @@ mod edges;
 mod labelling;
 mod moves;
 mod parts;
+mod pins;
 mod tables;
 mod totals;
 
@@ -154,6 +156,7 @@ fn main() {
     match words.get(1).map(String::as_str) {
         Some("totals") => bench.totals(),
         Some("numbers") => bench.coded(),
+        Some("pins") => bench.pins(),
         _ => all(&mut bench),
     }
 }
@@ -186,4 +189,5 @@ fn all(bench: &mut Bench) {
     println!("\nedge lists");
     bench.edges();
     bench.coded();
+    bench.pins();
 }

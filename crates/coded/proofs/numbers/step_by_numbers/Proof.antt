@@ -9,7 +9,7 @@ use Rattle.coded.proofs.numbers.step_by_numbers.Statement.{statement}
 use Rattle.coded.proofs.numbers.step_by_numbers.Tie as tie
 
 abbrev S : tie.Else1 → tie.Start
-S e = e .before .before .before .before .before .before .before .before .before .before .before .before .before .before .before
+S e = e .before .before .before .before .before .before .before .before .before .before .before .before .before .before .before .before
 
 abbrev P : tie.After-area3 → tie.After-spell-into
 P c = c .before .before .before .before

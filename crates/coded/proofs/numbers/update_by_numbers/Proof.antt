@@ -11,14 +11,14 @@ use Rattle.coded.proofs.numbers.update_by_numbers.Statement.{statement}
 use Rattle.coded.proofs.numbers.update_by_numbers.Tie as tie
 
 abbrev S : tie.Else1 → tie.Start
-S e = e .before .before .before .before .before .before .before .before .before .before .before .before .before .before .before .before .before .before .before
+S e = e .before .before .before .before .before .before .before .before .before .before .before .before .before .before .before .before .before .before .before .before
 
 -- the sweep, its choices as lent
 abbrev W : tie.Start → Sweep
 W b =
     let a = b .args in
-    sweepOf (a .plan) (now (a .fwd)) (now (a .bwd)) (now (a .couplings)) (now (a .order)) (now (a .masks)) (now (a .temperatures)) (now (a .cuts))
-    (now (a .references)) (now (a .seeds)) (now (a .choices)) (now (a .greys))
+    sweepOf (a .plan) (now (a .fwd)) (now (a .bwd)) (now (a .pins)) (now (a .couplings)) (now (a .order)) (now (a .masks)) (now (a .temperatures))
+    (now (a .cuts)) (now (a .references)) (now (a .seeds)) (now (a .choices)) (now (a .greys))
 
 abbrev P : tie.After-area3 → tie.After-spell-into
 P c = c .before .before .before .before

@@ -28,6 +28,14 @@ write-requires-2 c κs =
     let s = c .before .before .before .before .before .before in
     subst (λ a. Writable a (now (s .args .labels)) (now (s .args .counts))) (c .before .enum-told2 .given .1) (s .pre)
 
+enum-told-3 : tie.Need-enum-told-3
+enum-told-3 c = search needs
+
+write-requires-3 : tie.Need-write-requires-3
+write-requires-3 c κs =
+    let s = c .before .before .before .before .before .before in
+    subst (λ a. Writable a (now (s .args .labels)) (now (s .args .counts))) (c .before .enum-told3 .given .1) (s .pre)
+
 same-length : tie.Need-same-length
 same-length c = search needs
 
@@ -50,6 +58,12 @@ same-length-3 c = search needs
 returns-3 : tie.Need-returns-3
 returns-3 c = rw (c .before .before .before .before .enum-told2 .given .1) (c .before .before .write2 .ensures)
 
+same-length-4 : tie.Need-same-length-4
+same-length-4 c = search needs
+
+returns-4 : tie.Need-returns-4
+returns-4 c = rw (c .before .before .before .before .enum-told3 .given .1) (c .before .before .write3 .ensures)
+
 pub write-answer-spec : {M : Type 1} → statement M
 write-answer-spec =
     tie.close
@@ -60,9 +74,13 @@ write-answer-spec =
     write-requires
     enum-told-2
     write-requires-2
+    enum-told-3
+    write-requires-3
     same-length
     returns
     same-length-2
     returns-2
     same-length-3
-    returns-3)
+    returns-3
+    same-length-4
+    returns-4)

@@ -94,9 +94,13 @@ takes-greys-requires-3 c κs = search needs
 only-requires-8 : tie.Need-only-requires-8
 only-requires-8 c κs = search needs
 
+room-requires-10 : tie.Need-room-requires-10
+room-requires-10 c κs = search needs
+
 returns : tie.Need-returns
 returns c =
-    let o7 = c .before .before in
+    let o8 = c .before in
+    let o7 = o8 .before .before in
     let o4 = o7 .before .before .before .before .before .before in
     let o3 = o4 .before .before in
     let r9 = o3 .before .before in
@@ -123,7 +127,8 @@ returns c =
       counts = omega (arith, labels, tasks);
       sizes = omega (arith, tasks);
       found = tasks;
-      grey-found = omega (arith, c .only8 .ensures, tasks);
+      grey-found = omega (arith, o8 .only8 .ensures, tasks);
+      pins = c .room10 .ensures;
     }
 
 pub sizes-of-spec : {M : Type 1} → statement M
@@ -160,4 +165,5 @@ sizes-of-spec =
     mul-t27
     takes-greys-requires-3
     only-requires-8
+    room-requires-10
     returns)

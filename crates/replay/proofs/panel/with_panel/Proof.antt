@@ -26,6 +26,12 @@ array-borrow-prefix-bwd-area c = search needs
 slice-aggregate-bwd : tie.Need-slice-aggregate-bwd
 slice-aggregate-bwd c = sym (length-take-le _ _ (array-borrow-prefix-bwd-area (c .before)))
 
+array-share-prefix-pins-area : tie.Need-array-share-prefix-pins-area
+array-share-prefix-pins-area c = search needs
+
+slice-aggregate-pins : tie.Need-slice-aggregate-pins
+slice-aggregate-pins c = sym (length-take-le _ _ (array-share-prefix-pins-area (c .before)))
+
 array-borrow-prefix-couplings-area : tie.Need-array-borrow-prefix-couplings-area
 array-borrow-prefix-couplings-area c = search needs
 
@@ -73,6 +79,8 @@ with-panel-spec =
     slice-aggregate-fwd
     array-borrow-prefix-bwd-area
     slice-aggregate-bwd
+    array-share-prefix-pins-area
+    slice-aggregate-pins
     array-borrow-prefix-couplings-area
     slice-aggregate-couplings
     past-requires

@@ -19,26 +19,27 @@ use Rattle.sweep.proofs.run.run_tasks.Statement.{statement}
 use Rattle.sweep.proofs.run.run_tasks.Tie as tie
 
 abbrev Inv-loop : tie.InvT-loop
-Inv-loop plan spins₀ totals₀ fwd bwd couplings order masks temperatures cuts references seeds choices greys labels₀ greyLabels₀ counts₀ sizes₀ members₀
+Inv-loop plan spins₀ totals₀ fwd bwd pins couplings order masks temperatures cuts references seeds choices greys labels₀ greyLabels₀ counts₀ sizes₀ members₀
     found₀ greyFound₀ count outcomes₀ k₀ spins totals labels greyLabels counts sizes members found greyFound outcomes k =
     RanKeeping (keepsBy (plan .keeps) (plan .form))
-    (sweepOf plan fwd bwd couplings order masks temperatures cuts references seeds choices greys)
-    (buffersOf spins₀ labels₀ greyLabels₀ counts₀ sizes₀ members₀ found₀ greyFound₀) totals₀ k (outcomes .idle) (outcomes .moved)
+    (sweepOf plan fwd bwd pins couplings order masks temperatures cuts references seeds choices greys)
+    (buffersOf spins₀ labels₀ greyLabels₀ counts₀ sizes₀ members₀ found₀ greyFound₀) totals₀ k (outcomes .idle) (outcomes .moved) (outcomes .held)
     (buffersOf spins labels greyLabels counts sizes members found greyFound) totals
 
 abbrev μ-loop : tie.MeasureT-loop
-μ-loop plan spins₀ totals₀ fwd bwd couplings order masks temperatures cuts references seeds choices greys labels₀ greyLabels₀ counts₀ sizes₀ members₀
+μ-loop plan spins₀ totals₀ fwd bwd pins couplings order masks temperatures cuts references seeds choices greys labels₀ greyLabels₀ counts₀ sizes₀ members₀
     found₀ greyFound₀ count outcomes₀ k₀ spins totals labels greyLabels counts sizes members found greyFound outcomes k =
     count - k
 
 abbrev S : tie.After-task-count Inv-loop μ-loop → tie.Start Inv-loop μ-loop
-S t = t .before .before .before .before .before .before .before .before .before .before .before .before .before .before .before .before .before .before
+S t =
+    t .before .before .before .before .before .before .before .before .before .before .before .before .before .before .before .before .before .before .before
 
 abbrev W : tie.Start Inv-loop μ-loop → Sweep
 W s =
     let a = s .args in
-    sweepOf (a .plan) (now (a .fwd)) (now (a .bwd)) (now (a .couplings)) (now (a .order)) (now (a .masks)) (now (a .temperatures)) (now (a .cuts))
-    (now (a .references)) (now (a .seeds)) (now (a .choices)) (now (a .greys))
+    sweepOf (a .plan) (now (a .fwd)) (now (a .bwd)) (now (a .pins)) (now (a .couplings)) (now (a .order)) (now (a .masks)) (now (a .temperatures))
+    (now (a .cuts)) (now (a .references)) (now (a .seeds)) (now (a .choices)) (now (a .greys))
 
 abbrev B : tie.Start Inv-loop μ-loop → Buffers
 B s =
@@ -66,7 +67,7 @@ now-at l =
 
 task-count-requires : tie.Need-task-count-requires Inv-loop μ-loop
 task-count-requires c κs =
-    planned (c .before .before .before .before .before .before .before .before .before .before .before .before .before .before .before .before .before)
+    planned (c .before .before .before .before .before .before .before .before .before .before .before .before .before .before .before .before .before .before)
 
 loop-holds : tie.Need-loop-holds Inv-loop μ-loop
 loop-holds c =
@@ -85,10 +86,10 @@ step-requires c κs =
     record {
       placing = record { task = record { planned = planned s; below = below l }; long = s .pre .0 .1 .0 .order };
       room = room-of (W s) (B s) (z .k) (z .outcomes) (now-at l) (few-tasks (s .args .plan) (planned s)) h;
-      valid = ran-valid (W s) (B s) (s .pre .0) (z .k) (z .outcomes .idle) (z .outcomes .moved) (now-at l) (below l) h;
+      valid = ran-valid (W s) (B s) (s .pre .0) (z .k) (z .outcomes .idle) (z .outcomes .moved) (z .outcomes .held) (now-at l) (below l) h;
       ready =
-          λ _. task-ready (keeping s) (W s) (B s) (now (s .args .totals)) (s .pre .0) (s .pre .1) (z .k) (z .outcomes .idle) (z .outcomes .moved) (now-at l)
-          (z .totals) (below l) (z .inv);
+          λ _. task-ready (keeping s) (W s) (B s) (now (s .args .totals)) (s .pre .0) (s .pre .1) (z .k) (z .outcomes .idle) (z .outcomes .moved)
+          (z .outcomes .held) (now-at l) (z .totals) (below l) (z .inv);
     }
 
 -- the turn's task has run, and before it
@@ -153,7 +154,7 @@ returns c =
     let z = c .before .loop in
     let h = z .inv .ran in
     let e : z .k ≡ tasksOf (s .args .plan) = le-antisymm (h .reached) (rw (t .task-count .ensures) at (c .loop-test .left)) in (
-      ran-all (W s) (B s) (s .pre .0) (z .outcomes .idle) (z .outcomes .moved)
+      ran-all (W s) (B s) (s .pre .0) (z .outcomes .idle) (z .outcomes .moved) (z .outcomes .held)
           (buffersOf (z .spins) (z .labels) (z .grey-labels) (z .counts) (z .sizes) (z .members) (z .found) (z .grey-found)) (rw e at h),
       z .inv .totals,
     )

@@ -18,7 +18,8 @@ use Rattle.sweep.proofs.run.step.Statement.{statement}
 use Rattle.sweep.proofs.run.step.Tie as tie
 
 abbrev S : tie.After-masked → tie.Start
-S t = t .before .before .before .before .before .before .before .before .before .before .before .before .before .before .before .before .before .before
+S t =
+    t .before .before .before .before .before .before .before .before .before .before .before .before .before .before .before .before .before .before .before
 
 -- past the bounds of the areas, and past the parts of the inputs
 abbrev T : tie.After-bounds7 → tie.Start
@@ -52,8 +53,8 @@ A6 t = t .before
 abbrev W : tie.Start → Sweep
 W s =
     let a = s .args in
-    sweepOf (a .plan) (now (a .fwd)) (now (a .bwd)) (now (a .couplings)) (now (a .order)) (now (a .masks)) (now (a .temperatures)) (now (a .cuts))
-    (now (a .references)) (now (a .seeds)) (now (a .choices)) (now (a .greys))
+    sweepOf (a .plan) (now (a .fwd)) (now (a .bwd)) (now (a .pins)) (now (a .couplings)) (now (a .order)) (now (a .masks)) (now (a .temperatures))
+    (now (a .cuts)) (now (a .references)) (now (a .seeds)) (now (a .choices)) (now (a .greys))
 
 abbrev B : tie.Start → Buffers
 B s =
@@ -115,7 +116,9 @@ parts g = record {
 
 masked-requires : tie.Need-masked-requires
 masked-requires c κs =
-    let s = c .before .before .before .before .before .before .before .before .before .before .before .before .before .before .before .before .before in
+    let s =
+    c .before .before .before .before .before .before .before .before .before .before .before .before .before .before .before .before .before .before
+    in
     s .pre .placing .task .planned
 
 returns : tie.Need-returns
@@ -198,49 +201,49 @@ same-length-3 c =
     let z = R (c .before) .run-form in
     let t = Q c in
     put-long (now (T t .args .labels)) (T t .args .k) (T t .args .plan .n) (A1 t .bounds .ensures)
-    (z .last .1 .1 .1 .1 .1 .1 .1 .1 .1 .0) (z .kept .1 .1 .1 .1 .1 .1 .1 .1 .1 .0)
+    (z .last .1 .1 .1 .1 .1 .1 .1 .1 .1 .1 .0) (z .kept .1 .1 .1 .1 .1 .1 .1 .1 .1 .1 .0)
 
 same-length-4 : tie.Need-same-length-4
 same-length-4 c =
     let z = R (c .before) .run-form in
     let t = Q c in
     put-long (now (T t .args .grey-labels)) (T t .args .k) (T t .args .plan .n) (A2 t .bounds2 .ensures)
-    (z .last .1 .1 .1 .1 .1 .1 .1 .1 .1 .1 .0) (z .kept .1 .1 .1 .1 .1 .1 .1 .1 .1 .1 .0)
+    (z .last .1 .1 .1 .1 .1 .1 .1 .1 .1 .1 .1 .0) (z .kept .1 .1 .1 .1 .1 .1 .1 .1 .1 .1 .1 .0)
 
 same-length-5 : tie.Need-same-length-5
 same-length-5 c =
     let z = R (c .before) .run-form in
     let t = Q c in
     put-long (now (T t .args .counts)) (T t .args .k) (T t .args .plan .n + 1) (A3 t .bounds3 .ensures)
-    (z .last .1 .1 .1 .1 .1 .1 .1 .1 .1 .1 .1 .0) (z .kept .1 .1 .1 .1 .1 .1 .1 .1 .1 .1 .1 .0)
+    (z .last .1 .1 .1 .1 .1 .1 .1 .1 .1 .1 .1 .1 .0) (z .kept .1 .1 .1 .1 .1 .1 .1 .1 .1 .1 .1 .1 .0)
 
 same-length-6 : tie.Need-same-length-6
 same-length-6 c =
     let z = R (c .before) .run-form in
     let t = Q c in
     put-long (now (T t .args .sizes)) (T t .args .k) 4 (A4 t .bounds4 .ensures)
-    (z .last .1 .1 .1 .1 .1 .1 .1 .1 .1 .1 .1 .1 .0) (z .kept .1 .1 .1 .1 .1 .1 .1 .1 .1 .1 .1 .1 .0)
+    (z .last .1 .1 .1 .1 .1 .1 .1 .1 .1 .1 .1 .1 .1 .0) (z .kept .1 .1 .1 .1 .1 .1 .1 .1 .1 .1 .1 .1 .1 .0)
 
 same-length-7 : tie.Need-same-length-7
 same-length-7 c =
     let z = R (c .before) .run-form in
     let t = Q c in
     put-long (now (T t .args .members)) (T t .args .k) (T t .args .plan .n) (A5 t .bounds5 .ensures)
-    (z .last .1 .1 .1 .1 .1 .1 .1 .1 .1 .1 .1 .1 .1 .0) (z .kept .1 .1 .1 .1 .1 .1 .1 .1 .1 .1 .1 .1 .1 .0)
+    (z .last .1 .1 .1 .1 .1 .1 .1 .1 .1 .1 .1 .1 .1 .1 .0) (z .kept .1 .1 .1 .1 .1 .1 .1 .1 .1 .1 .1 .1 .1 .1 .0)
 
 same-length-8 : tie.Need-same-length-8
 same-length-8 c =
     let z = R (c .before) .run-form in
     let t = Q c in
     put-long (now (T t .args .found)) (T t .args .k) 1 (A6 t .bounds6 .ensures)
-    (z .last .1 .1 .1 .1 .1 .1 .1 .1 .1 .1 .1 .1 .1 .1 .0) (z .kept .1 .1 .1 .1 .1 .1 .1 .1 .1 .1 .1 .1 .1 .1 .0)
+    (z .last .1 .1 .1 .1 .1 .1 .1 .1 .1 .1 .1 .1 .1 .1 .1 .0) (z .kept .1 .1 .1 .1 .1 .1 .1 .1 .1 .1 .1 .1 .1 .1 .1 .0)
 
 same-length-9 : tie.Need-same-length-9
 same-length-9 c =
     let z = R (c .before) .run-form in
     let t = Q c in
     put-long (now (T t .args .grey-found)) (T t .args .k) 1 (t .bounds7 .ensures)
-    (z .last .1 .1 .1 .1 .1 .1 .1 .1 .1 .1 .1 .1 .1 .1 .1 .0) (z .kept .1 .1 .1 .1 .1 .1 .1 .1 .1 .1 .1 .1 .1 .1 .1 .0)
+    (z .last .1 .1 .1 .1 .1 .1 .1 .1 .1 .1 .1 .1 .1 .1 .1 .1 .0) (z .kept .1 .1 .1 .1 .1 .1 .1 .1 .1 .1 .1 .1 .1 .1 .1 .1 .0)
 
 returns-2 : tie.Need-returns-2
 returns-2 c =
@@ -254,20 +257,20 @@ returns-2 c =
           (A3 t .bounds3 .ensures) (A4 t .bounds4 .ensures) (A5 t .bounds5 .ensures) (A6 t .bounds6 .ensures)
           (t .bounds7 .ensures)
           (z .last .1 .0)
-          (z .last .1 .1 .1 .1 .1 .1 .1 .1 .1 .0)
           (z .last .1 .1 .1 .1 .1 .1 .1 .1 .1 .1 .0)
           (z .last .1 .1 .1 .1 .1 .1 .1 .1 .1 .1 .1 .0)
           (z .last .1 .1 .1 .1 .1 .1 .1 .1 .1 .1 .1 .1 .0)
           (z .last .1 .1 .1 .1 .1 .1 .1 .1 .1 .1 .1 .1 .1 .0)
           (z .last .1 .1 .1 .1 .1 .1 .1 .1 .1 .1 .1 .1 .1 .1 .0)
           (z .last .1 .1 .1 .1 .1 .1 .1 .1 .1 .1 .1 .1 .1 .1 .1 .0)
-          (z .kept .1 .1 .1 .1 .1 .1 .1 .1 .1 .0)
+          (z .last .1 .1 .1 .1 .1 .1 .1 .1 .1 .1 .1 .1 .1 .1 .1 .1 .0)
           (z .kept .1 .1 .1 .1 .1 .1 .1 .1 .1 .1 .0)
           (z .kept .1 .1 .1 .1 .1 .1 .1 .1 .1 .1 .1 .0)
           (z .kept .1 .1 .1 .1 .1 .1 .1 .1 .1 .1 .1 .1 .0)
           (z .kept .1 .1 .1 .1 .1 .1 .1 .1 .1 .1 .1 .1 .1 .0)
           (z .kept .1 .1 .1 .1 .1 .1 .1 .1 .1 .1 .1 .1 .1 .1 .0)
           (z .kept .1 .1 .1 .1 .1 .1 .1 .1 .1 .1 .1 .1 .1 .1 .1 .0)
+          (z .kept .1 .1 .1 .1 .1 .1 .1 .1 .1 .1 .1 .1 .1 .1 .1 .1 .0)
           (z .result) (answers-parts (parts g) _ _ (z .result) (z .ensures .0))) (c .add .ensures),
       totals-parts (parts g) (now (s .args .spins)) (now (s .args .totals)) (z .last .1 .0) (z .last .1 .1 .0) (z .ensures .1),
     )

@@ -25,8 +25,8 @@ k8 : (e : tie.Else1) → let a = S (e .before) .args in When (drawsBonds (a .t .
 k8 e = rw (e .before .before .is-drawn .ensures) at (passed (e .before .cuts-fit .result) (e .if1 .left) (e .before .cuts-fit .ensures))
 
 k9 : (e : tie.Else2) → let a = S (E1 e .before) .args in EveryCut (a .t) (λ c. Chosen c (choicesOf (now (a .choices)) (now (a .greys))))
-k9 e cuts d s temperature fwd bwd couplings =
-    passed (e .before .chosen-ok .result) (e .if2 .left) (e .before .chosen-ok .ensures cuts d s temperature fwd bwd couplings)
+k9 e cuts d s temperature fwd bwd pins couplings =
+    passed (e .before .chosen-ok .result) (e .if2 .left) (e .before .chosen-ok .ensures cuts d s temperature fwd bwd pins couplings)
 
 is-drawn-requires : tie.Need-is-drawn-requires
 is-drawn-requires c κs = search needs
@@ -35,7 +35,7 @@ cuts-fit-requires : tie.Need-cuts-fit-requires
 cuts-fit-requires c κs = search needs
 
 returns : tie.Need-returns
-returns c = λ d s temperature fwd bwd couplings.
+returns c = λ d s temperature fwd bwd pins couplings.
     inl ((λ w. refused (c .before .cuts-fit .result) (c .if1 .taken) (c .before .cuts-fit .ensures) (rw (c .before .before .is-drawn .ensures) w)), refl)
 
 chosen-ok-requires : tie.Need-chosen-ok-requires
@@ -44,9 +44,9 @@ chosen-ok-requires c κs =
     record { n-high = p .n-high; size-high = p .size-high; choices-long = p .choices-long; greys-long = p .greys-long }
 
 returns-2 : tie.Need-returns-2
-returns-2 c = λ d s temperature fwd bwd couplings.
+returns-2 c = λ d s temperature fwd bwd pins couplings.
     let e = c .before .before in
-    let t = c .before .chosen-ok .ensures (now (S (e .before) .args .cuts)) d s temperature fwd bwd couplings in
+    let t = c .before .chosen-ok .ensures (now (S (e .before) .args .cuts)) d s temperature fwd bwd pins couplings in
     inr (k8 e, inl (refused (c .before .chosen-ok .result) (c .if2 .taken) t, refl))
 
 seed-ok-requires : tie.Need-seed-ok-requires
@@ -58,22 +58,22 @@ seed-ok-requires c κs =
       size-high = p .size-high;
       inside = p .inside;
       spins = p .spins;
-      reference = k9 c [] 0 0 nan [] [] [] .reference;
+      reference = k9 c [] 0 0 nan [] [] [] [] .reference;
     }
 
 returns-3 : tie.Need-returns-3
-returns-3 c = λ d s temperature fwd bwd couplings.
+returns-3 c = λ d s temperature fwd bwd pins couplings.
     let e = c .before .before in
     let cuts = now (S (E1 e .before) .args .cuts) in
-    let t = c .before .seed-ok .ensures cuts d s temperature fwd bwd couplings in
-    inr (k8 (E1 e), inr (k9 e cuts d s temperature fwd bwd couplings, inl (refused (c .before .seed-ok .result) (c .if3 .taken) t, refl)))
+    let t = c .before .seed-ok .ensures cuts d s temperature fwd bwd pins couplings in
+    inr (k8 (E1 e), inr (k9 e cuts d s temperature fwd bwd pins couplings, inl (refused (c .before .seed-ok .result) (c .if3 .taken) t, refl)))
 
 returns-4 : tie.Need-returns-4
-returns-4 c = λ d s temperature fwd bwd couplings.
+returns-4 c = λ d s temperature fwd bwd pins couplings.
     let e = c .before .before in
     let cuts = now (S (E1 e .before) .args .cuts) in
-    let t = c .before .seed-ok .ensures cuts d s temperature fwd bwd couplings in
-    (k8 (E1 e), (k9 e cuts d s temperature fwd bwd couplings, (passed (c .before .seed-ok .result) (c .if3 .left) t, tt)))
+    let t = c .before .seed-ok .ensures cuts d s temperature fwd bwd pins couplings in
+    (k8 (E1 e), (k9 e cuts d s temperature fwd bwd pins couplings, (passed (c .before .seed-ok .result) (c .if3 .left) t, tt)))
 
 pub test-choices-spec : {M : Type 1} → statement M
 test-choices-spec =

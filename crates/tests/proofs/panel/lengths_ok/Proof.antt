@@ -16,7 +16,7 @@ abbrev E : tie.After-takes-greys → tie.After-entries
 E d = d .before .before .before .before
 
 abbrev G : tie.After-fits2 → tie.After-grows
-G c = c .before .before .before .before
+G c = c .before .before .before .before .before
 
 abbrev D : tie.After-fits2 → tie.After-takes-greys
 D c = G c .before
@@ -174,9 +174,10 @@ returns c =
     let l = a .l in
     same (FitsEach (a .mode) (a .form) (a .n) (a .d) (a .s) (a .m) (a .count) l)
     (λ h. record {
-      spins = h .0 .0 .0 .0 .0 .0 .0 .0 .0 .0 .0 .0 .0;
-      fwd = h .0 .0 .0 .0 .0 .0 .0 .0 .0 .0 .0 .0 .1;
-      bwd = h .0 .0 .0 .0 .0 .0 .0 .0 .0 .0 .0 .1;
+      spins = h .0 .0 .0 .0 .0 .0 .0 .0 .0 .0 .0 .0 .0 .0;
+      fwd = h .0 .0 .0 .0 .0 .0 .0 .0 .0 .0 .0 .0 .0 .1;
+      bwd = h .0 .0 .0 .0 .0 .0 .0 .0 .0 .0 .0 .0 .1;
+      pins = h .0 .0 .0 .0 .0 .0 .0 .0 .0 .0 .0 .1;
       couplings = h .0 .0 .0 .0 .0 .0 .0 .0 .0 .0 .1;
       cuts = h .0 .0 .0 .0 .0 .0 .0 .0 .0 .1;
       choices = h .0 .0 .0 .0 .0 .0 .0 .0 .1;
@@ -192,17 +193,21 @@ returns c =
     (λ z. (
       (
         (
-          ((((((((((z .spins, z .fwd), z .bwd), z .couplings), z .cuts), z .choices), z .greys), z .labels), z .grey-labels), z .counts), z .sizes),
+          (
+            ((((((((((z .spins, z .fwd), z .bwd), z .pins), z .couplings), z .cuts), z .choices), z .greys), z .labels), z .grey-labels), z .counts),
+            z .sizes,
+          ),
           z .members,
         ),
         z .found,
       ),
       z .grey-found,
     ))
-    (both (both (both (both (both (both (both (both (both (both (both (both (both
+    (both (both (both (both (both (both (both (both (both (both (both (both (both (both
     (test-eq (l .spins) (a .s * a .n))
     (test-eq (l .fwd) (a .n * a .d)))
     (test-eq (l .bwd) (a .n * a .d)))
+    (test-eq (l .pins) (a .n)))
     (took (drawn d) refl (f2 .fits2 .ensures)))
     (took (drawn d) refl (f3 .fits3 .ensures)))
     (took (by-choices d) (ap (λ (x : ℕ). a .count * (x * width d)) (rows-of d)

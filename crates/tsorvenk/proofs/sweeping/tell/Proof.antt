@@ -17,6 +17,9 @@ slice-write-outcomes c = search needs
 slice-write-outcomes-2 : tie.Need-slice-write-outcomes-2
 slice-write-outcomes-2 c = search needs
 
+slice-write-outcomes-3 : tie.Need-slice-write-outcomes-3
+slice-write-outcomes-3 c = search needs
+
 returns : tie.Need-returns
 returns c = search needs
 
@@ -27,7 +30,7 @@ returns-2 : tie.Need-returns-2
 returns-2 c =
     let a = c .before .answer2 in
     let k = c .before .before .before in
-    counts-told (k .args .answer) (now (k .args .outcomes)) (a .given .0 .0) (a .given .0 .1 .0) (a .given .1) (k .pre)
+    counts-told (k .args .answer) (now (k .args .outcomes)) (a .given .0 .0) (a .given .0 .1 .0) (a .given .0 .1 .1 .0) (a .given .1) (k .pre)
 
 pub tell-spec : {M : Type 1} → statement M
 tell-spec =
@@ -37,6 +40,7 @@ tell-spec =
     enum-known-answer-2
     slice-write-outcomes
     slice-write-outcomes-2
+    slice-write-outcomes-3
     returns
     same-length
     returns-2)

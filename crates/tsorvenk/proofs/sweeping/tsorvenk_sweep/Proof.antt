@@ -20,7 +20,9 @@ use Rattle.tsorvenk.proofs.sweeping.tsorvenk_sweep.Statement.{statement
 use Rattle.tsorvenk.proofs.sweeping.tsorvenk_sweep.Tie as tie
 
 abbrev S : tie.After-codes-ok → tie.Start
-S k = k .before .before .before .before .before .before .before .before .before .before .before .before .before .before .before .before .before .before .before .before
+S k =
+    let h = k .before .before .before .before .before .before .before .before .before .before in
+    h .before .before .before .before .before .before .before .before .before .before .before
 
 -- the codes are known from here on
 abbrev F : tie.After-keeps-of → tie.Start
@@ -30,7 +32,8 @@ F f = S (f .before .before .before .before)
 abbrev W : tie.Start → Mode → Form → Keeps → Sweep
 W k m f q =
     let a = k .args in
-    sweepOf (planFor m f q (a .n) (a .d) (a .s) (a .t) (a .r) (a .members)) (now (a .fwd)) (now (a .bwd)) (now (a .couplings)) (now (a .order))
+    sweepOf (planFor m f q (a .n) (a .d) (a .s) (a .t) (a .r) (a .members)) (now (a .fwd)) (now (a .bwd)) (now (a .pins)) (now (a .couplings))
+    (now (a .order))
     (now (a .masks)) (now (a .temperatures)) (now (a .cuts)) (now (a .references)) (now (a .seeds))
     (takenOf m (now (a .flips)) (now (a .perms))) (now (a .greys))
 

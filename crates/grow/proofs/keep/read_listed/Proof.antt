@@ -5,8 +5,8 @@ use native.Mathlib.Omega.{arith}
 use lib.ListN.{length}
 use borrow.Author.Needs.{needs}
 use Rattle.grow.specs.Totals.{ReadAt, read-none, read-more}
-use Rattle.grow.proofs.read_listed.Statement.{statement}
-use Rattle.grow.proofs.read_listed.Tie as tie
+use Rattle.grow.proofs.keep.read_listed.Statement.{statement}
+use Rattle.grow.proofs.keep.read_listed.Tie as tie
 
 abbrev Inv-loop : tie.InvT-loop
 Inv-loop spins n group list len news₀ a₀ news a = (a ≤ len) × ReadAt n group spins list a news₀ news

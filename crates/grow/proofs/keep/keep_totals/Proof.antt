@@ -2,8 +2,8 @@
 use mathlib.Core.Path.{refl}
 use borrow.Author.Needs.{needs}
 use Rattle.grow.specs.Totals.{readable, listing}
-use Rattle.grow.proofs.keep_totals.Statement.{statement}
-use Rattle.grow.proofs.keep_totals.Tie as tie
+use Rattle.grow.proofs.keep.keep_totals.Statement.{statement}
+use Rattle.grow.proofs.keep.keep_totals.Tie as tie
 
 abbrev s : tie.After-news → tie.Start
 s c = c .before .before .before .before .before .before .before
