@@ -18,6 +18,7 @@
  *   1  n not 1 to 4096, d not 1 to 4, s not 1 to 64, group size not 2 to 8, or not 2 in CMR, or not 5 where permutations
  *      are numbers; a mode above 5, a form above 3, a coding above 1, keeps above 1; in a sweep t * r not s, or members
  *      above r
+ *  15  straight after 1: houd with a group of more than 2 in SW, Wolff or grow; a sweep is refused whole
  *   2  a buffer's length is not the exact one
  *   3  a spin of any system is not +1 or -1
  *   4  a neighbour is n or more, or fwd and bwd are not inverse; after the tables, a pin byte is not 0 or 1
@@ -38,7 +39,8 @@
  *
  * A test is made only of what the mode and form take.
  *
- * Modes: 0 houd, 1 pair, 2 perm, 3 gperm, 4 Joerg, 5 CMR.
+ * Modes: 0 houd, 1 pair, 2 perm, 3 gperm, 4 Joerg, 5 CMR. Houd moves groups of 2 alone, since with more a flip changes the group's
+ * energy, and with 2 it is what pair is; it observes groups of any size.
  * Forms: 0 all clusters (SW), 1 one cluster (Wolff), 2 observe, 3 one cluster by growth (grow).
  *
  * Grow moves what Wolff moves, given the same seed, cuts and choices, and answers and refuses alike. It looks only at what the
@@ -93,7 +95,7 @@ enum { TSORVENK_IDLE = 64, TSORVENK_NO_ROOM = 65, TSORVENK_HELD = 66 };
  *   fwd, bwd     n * d: entry i * d + e is the neighbour of site i in direction e, forward and backward
  *   pins         n, each 0 or 1: 1 pins the site, and its component does not move
  *   couplings    n * d, at the bond's entry                        Joerg, CMR, in every form; totals kept, in every mode
- *   group        N systems, 2 to 8 (CMR: 2); they differ, and their order matters
+ *   group        N systems, 2 to 8 (CMR: 2, houd: 2 unless it observes); they differ, and their order matters
  *   temperature                                                    Joerg, CMR, in every form
  *   cuts         n * d, at the bond's entry; a bond is drawn where scale * strength is above its cut
  *                                                                  Joerg, CMR, in every form
@@ -130,7 +132,8 @@ enum { TSORVENK_IDLE = 64, TSORVENK_NO_ROOM = 65, TSORVENK_HELD = 66 };
  *                energy before; those of others stay                SW, Wolff, grow where keeps is 1
  *
  * Returns TSORVENK_IDLE if no site acts (never in CMR), TSORVENK_HELD if some does and the form is Wolff or grow and the seed's
- * component (CMR: its blue one) has a pinned site, 0 in all other cases that are not refused, else the refusal 1 to 10 or 14. */
+ * component (CMR: its blue one) has a pinned site, 0 in all other cases that are not refused, else the refusal 1 to 10, 14
+ * or 15. */
 uint8_t tsorvenk_step(uint8_t mode, uint8_t form, uint8_t coding, uint8_t keeps, size_t n, size_t d, size_t s,
     int8_t *spins, size_t spins_len, int64_t *totals, size_t totals_len,
     const uint32_t *fwd, size_t fwd_len, const uint32_t *bwd, size_t bwd_len, const uint8_t *pins, size_t pins_len,
@@ -174,10 +177,10 @@ uint8_t tsorvenk_step(uint8_t mode, uint8_t form, uint8_t coding, uint8_t keeps,
  *   spins         the rows of the groups of unmasked tasks
  *   totals        s, as in a step                                  SW, Wolff, grow where keeps is 1
  *
- * Tests 1 to 7 and the mask bytes (9) are made over the whole sweep, masked temperatures too, then 8, 9 and 10 of each
+ * Tests 1, 15, 2 to 7 and the mask bytes (9) are made over the whole sweep, masked temperatures too, then 8, 9 and 10 of each
  * unmasked task in ascending order, and 14 after all of these; all before anything is written.
  *
- * Returns 0 if swept, else the refusal 1 to 10 or 14. */
+ * Returns 0 if swept, else the refusal 1 to 10, 14 or 15. */
 uint8_t tsorvenk_sweep(uint8_t mode, uint8_t form, uint8_t coding, uint8_t keeps, size_t n, size_t d, size_t s,
     size_t t, size_t r, size_t members, int8_t *spins, size_t spins_len, int64_t *totals, size_t totals_len,
     const uint32_t *fwd, size_t fwd_len, const uint32_t *bwd, size_t bwd_len, const uint8_t *pins, size_t pins_len,
@@ -738,6 +741,7 @@ static inline const char *tsorvenk_refusal_words(int number) {
     case 12: return "a source of draws is all 0, m or the members are out of range, or 64 words in a row were taken again";
     case 13: return "a text is no edge list of this lattice: its form, n, m, a site, or a line for which no bond is left";
     case 14: return "a total is not its system's energy at the hand-over, or is above 16,384,000,000 in size";
+    case 15: return "houd moves groups of two alone; it observes groups of any size";
     case TSORVENK_IDLE: return "not refused: no site acts";
     case TSORVENK_NO_ROOM: return "there is no room for the answer";
     case TSORVENK_HELD: return "not refused: a pin holds the seed's component";

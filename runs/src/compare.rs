@@ -9,54 +9,14 @@ use std::fmt::{Debug, Write};
 use std::panic::{catch_unwind, AssertUnwindSafe};
 
 mod coded;
+mod houd;
 mod labelling;
+mod line;
 mod pinned;
 
+pub use houd::{single_of_more, swept_of_more};
 pub use labelling::{damaged_labelling, labelling};
-
-/// How much was compared for one mode and form.
-#[derive(Default)]
-pub struct Line {
-    pub all_small: usize,
-    pub singles: usize,
-    pub sweeps: usize,
-    pub union_find: usize,
-    pub depth_first: usize,
-    /// Calls that grow, held to Wolff's.
-    pub wolff: usize,
-    pub acting: usize,
-    pub odd: usize,
-    pub idle: usize,
-    /// Calls with pins, those of them that the Rust is held to without pins, and held tasks.
-    pub pinned: usize,
-    pub released: usize,
-    pub held: usize,
-    pub port: usize,
-    pub damaged: usize,
-    /// Damaged calls by the model's refusal number; entry 0 those that are accepted all the same.
-    pub refused: [usize; 15],
-    /// Calls by rows of five that are made again by numbers, and calls by numbers whose group is not of five.
-    pub by_number: usize,
-    pub not_of_five: usize,
-    /// Calls that keep totals.
-    pub kept: usize,
-    /// What the model answers to a hand-over of the panel, good or damaged, by number.
-    pub handed: [usize; 15],
-    pub differences: usize,
-}
-
-/// A difference, with a measure of its case's size.
-pub struct Found {
-    pub weight: usize,
-    pub text: String,
-}
-
-/// Keeps the smallest.
-pub fn keep(smallest: &mut Option<Found>, found: Found) {
-    if smallest.as_ref().is_none_or(|s| found.weight < s.weight) {
-        *smallest = Some(found);
-    }
-}
+pub use line::{keep, Found, Line};
 
 pub fn differ<T: PartialEq + Debug>(text: &mut String, what: &str, one: T, other: T) {
     if one != other {
@@ -235,6 +195,7 @@ pub fn single(case: &Single, port: Option<&mut Box<dyn Port>>, line: &mut Line) 
         }
     }
     text += &coded::single(case, (answer, &lent), port.as_deref_mut(), line);
+    text += &houd::single(case, (answer, &lent), port.as_deref_mut(), line);
     if case.panel.form == Form::Grow {
         let found = beside_wolff(port, line, |side| grown::single(case, side));
         if !found.is_empty() {
@@ -330,6 +291,7 @@ pub fn swept(case: &Swept, port: Option<&mut Box<dyn Port>>, line: &mut Line) ->
         }
     }
     text += &coded::swept(case, (answer, &lent), port.as_deref_mut(), line);
+    text += &houd::swept(case, (answer, &lent), port.as_deref_mut(), line);
     if case.panel.form == Form::Grow {
         let found = beside_wolff(port, line, |side| grown::swept(case, side));
         if !found.is_empty() {
@@ -360,6 +322,7 @@ pub fn damaged_single(
         text += &single_port(case, answer, &lent, port.as_mut());
     }
     text += &coded::single(case, (answer, &lent), port.as_deref_mut(), line);
+    text += &houd::single(case, (answer, &lent), port.as_deref_mut(), line);
     if case.panel.form == Form::Grow {
         text += &beside_wolff(port, line, |side| grown::single(case, side));
     }
@@ -390,6 +353,7 @@ pub fn damaged_sweep(
         differ_lent(&mut text, &lent, &port_lent);
     }
     text += &coded::swept(case, (answer, &lent), port.as_deref_mut(), line);
+    text += &houd::swept(case, (answer, &lent), port.as_deref_mut(), line);
     if case.panel.form == Form::Grow {
         text += &beside_wolff(port, line, |side| grown::swept(case, side));
     }

@@ -25,7 +25,7 @@ pub struct Tally {
     /// Calls whose permutations are numbers, refused ones too.
     pub by_number: usize,
     /// By number.
-    pub refused: [usize; 15],
+    pub refused: [usize; 16],
     pub differences: usize,
 }
 
@@ -67,7 +67,7 @@ impl Day {
         let mut panel = self.panel.clone();
         panel.pins = make::pins(rand, panel.n);
         (panel.mode, panel.form) = (rand.pick(&Mode::ALL), rand.pick(&Form::ALL));
-        let members = make::members(rand, panel.mode);
+        let members = make::members(rand, panel.mode, panel.form);
         (panel, members)
     }
 
@@ -103,10 +103,9 @@ impl Day {
         }
     }
 
-    /// Whether a call of this mode leaves the sum over its groups, and so over all systems.
-    fn keeps_sum(mode: Mode, members: usize) -> bool {
-        matches!(mode, Mode::Pair | Mode::Perm | Mode::Gperm)
-            || (mode == Mode::Houd && members == 2)
+    /// Whether a call of this mode leaves the sum over its groups, and so over all systems. Houd of more than two only observes.
+    fn keeps_sum(mode: Mode) -> bool {
+        matches!(mode, Mode::Houd | Mode::Pair | Mode::Perm | Mode::Gperm)
     }
 
     /// Goes on from what a call left, after a look at its totals.
@@ -177,7 +176,7 @@ fn single(
         Answer::Held => tally.held += 1,
     }
     if !matches!(answer, Answer::Refused(_)) {
-        let sum_kept = Day::keeps_sum(case.panel.mode, case.group.len());
+        let sum_kept = Day::keeps_sum(case.panel.mode);
         day.go_on(&mut text, lent, sum_kept);
     }
     told("a move of a day", &case, text)
@@ -206,7 +205,7 @@ fn swept(
         SweepAnswer::Swept { held, .. } => {
             tally.swept += 1;
             tally.held_tasks += held as usize;
-            let sum_kept = Day::keeps_sum(case.panel.mode, case.members);
+            let sum_kept = Day::keeps_sum(case.panel.mode);
             day.go_on(&mut text, lent, sum_kept);
         }
     }

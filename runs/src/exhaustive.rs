@@ -120,7 +120,7 @@ fn pins(n: usize, number: usize) -> Vec<u8> {
 /// All cases of each shape of up to three sites and four members that has at most `most` of them, without pins, and with every choice of
 /// pins where there are no more than twice that. A seed that does not act is among them.
 pub fn each(mode: Mode, form: Form, most: usize, mut visit: impl FnMut(Single)) {
-    let members = if mode == Mode::Cmr { 2 } else { 4 };
+    let members = mode.most_members(form).min(4);
     for n in 1..=3 {
         for members in 2..=members {
             let (_, all) = case(mode, form, n, members, 0);

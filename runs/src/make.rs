@@ -165,9 +165,9 @@ fn outputs(rand: &mut Rand, exact: Lengths, n: usize, spins: Vec<i8>) -> Lent {
     }
 }
 
-pub fn members(rand: &mut Rand, mode: Mode) -> usize {
+pub fn members(rand: &mut Rand, mode: Mode, form: Form) -> usize {
     match mode {
-        Mode::Cmr => 2,
+        _ if mode.most_members(form) == 2 => 2,
         Mode::Perm | Mode::Gperm => rand.range(2, 8),
         _ if rand.once_in(4) => rand.range(2, 8),
         _ => rand.pick(&[2, 2, 4, 4, 6, 8]),
@@ -213,7 +213,7 @@ fn seed(rand: &mut Rand, active: &[bool]) -> usize {
 }
 
 pub fn single(rand: &mut Rand, mode: Mode, form: Form, size: Size) -> Single {
-    let members = members(rand, mode);
+    let members = members(rand, mode, form);
     single_of(rand, mode, form, size, members)
 }
 
@@ -317,7 +317,7 @@ pub fn spoil_masked(case: &mut Swept) {
 }
 
 pub fn swept(rand: &mut Rand, mode: Mode, form: Form, size: Size) -> Swept {
-    let members = members(rand, mode);
+    let members = members(rand, mode, form);
     swept_of(rand, mode, form, size, members)
 }
 

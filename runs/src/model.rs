@@ -1,6 +1,6 @@
 //! Document 01 in plain Rust, written from its text and not from overlap.rs: every sentence once, no speed. Counts and sizes are those of
 //! request 4/14, the form that grows is that of request 5/14, the totals are those of 6/14, the components are numbered as in 7/14,
-//! permutations may be numbers as in 8/14, and sites may be pinned as in 9/14.
+//! permutations may be numbers as in 8/14, sites may be pinned as in 9/14, and houd moves groups of two alone as in 10/14.
 use crate::case;
 use calls::{Answer, HandOver, Label, Meter, MeterAnswer, Port, Step, Sweep, SweepAnswer};
 use calls::{Coding, Form, Mode};
@@ -161,6 +161,9 @@ fn single_refusal(call: &Step) -> Option<u8> {
         || coding_refused(call.coding.numbers(call.mode, call.form), members)
     {
         return Some(1);
+    }
+    if houd_refused(call.mode, call.form, members) {
+        return Some(15);
     }
     if single_length_refused(call) || totals_length_refused(keeping, panel, call.totals) {
         return Some(2);

@@ -10,8 +10,8 @@
 //! kind        1            0 single move, 1 sweep
 //! mode        1            0 houd, 1 pair, 2 perm, 3 gperm, 4 jorg, 5 cmr
 //! form        1            0 SW, 1 Wolff, 2 observe
-//! marks       1            bit 0: odd N in houd, pair or jorg, outside the Rust's published domain; bit 1: an idle
-//!                          task; bit 2: an acting component of one site; bit 3: a self-bond; bit 4: a double bond
+//! marks       1            bit 0: odd N in houd, which then observes, pair or jorg, outside the Rust's published domain; bit 1:
+//!                          an idle task; bit 2: an acting component of one site; bit 3: a self-bond; bit 4: a double bond
 //! n           2
 //! D, S, N     1 each
 //! t, r        1 each       single move: 1 and N

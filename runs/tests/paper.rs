@@ -3,11 +3,12 @@ mod common;
 
 use calls::{Answer, MeterAnswer, Port};
 use common::*;
+use published_patched::Branch;
 use tsorvenk_runs::case::{Bonds, Lent, Single};
 use tsorvenk_runs::model::Model;
 use tsorvenk_runs::port;
 
-use calls::Form::{Observe, Sw, Wolff};
+use calls::Form::{Grow, Observe, Sw, Wolff};
 use calls::Mode::{Cmr, Gperm, Houd, Jorg, Pair, Perm};
 
 #[test]
@@ -76,13 +77,24 @@ fn row_11_and_the_meter() {
     assert_eq!(meter(L1, &["-"], &[i32::MIN], 0), MeterAnswer::Refused(6));
 }
 
+/// The definitions' row, which the published Rust still shows. Since 10/14 such a move is refused, and can be observed.
 #[test]
 fn row_12_houd_of_four_changes_a_bond_sum() {
     let rows = ["++", "++", "-+", "--"];
     let sum = |spins: &[i8]| spins.chunks(2).map(|row| row[0] * row[1]).sum::<i8>();
     assert_eq!(sum(&spins(&rows)), 2);
-    let after = moved(&call(Houd, Wolff, L2, &rows), &["-+", "-+", "++", "+-"]);
-    assert_eq!(sum(&after.spins), -2);
+    for form in [Sw, Wolff, Grow] {
+        refused(&call(Houd, form, L2, &rows), 15);
+    }
+    let observed = call(Houd, Observe, L2, &rows);
+    labelled(&observed, &[0, 1], &[0, 1, 0], [1, 0, 0, 0]);
+    if published_patched::PRESENT {
+        let case = call(Houd, Wolff, L2, &rows);
+        let mut after = case.lent.clone();
+        published_patched::step(case.step(&mut after), Branch::UnionFind);
+        assert_eq!(after.spins, spins(&["-+", "-+", "++", "+-"]));
+        assert_eq!(sum(&after.spins), -2);
+    }
 }
 
 #[test]

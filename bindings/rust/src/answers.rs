@@ -29,13 +29,13 @@ pub struct Swept {
 
 /// Why a call is refused. Every buffer that it was lent is as it was.
 ///
-/// The numbers are tested in their order, each only on what the mode and form take: the call is refused with the first
-/// that fits. A draw tests 12 before the length of what it fills, 2; an edge list is tested for 13 between 4 and 6, and its
+/// The numbers are tested in their order, but for 15 of houd straight after 1, each only on what the mode and form take: the
+/// call is refused with the first that fits. A draw tests 12 before the length of what it fills, 2; an edge list is tested for 13 between 4 and 6, and its
 /// writer last of all for 2, room in `text`; 14 is the last test of a call that keeps totals and of a hand-over.
 /// [`refusal_words`] has words for each, which `Display` writes behind the number.
 #[derive(Clone, Copy, Debug, PartialEq, Eq, Hash)]
 pub struct Refusal {
-    /// 1 to 10, 12 of a draw, 13 of an edge list, or 14 of totals.
+    /// 1 to 10, 12 of a draw, 13 of an edge list, 14 of totals, or 15 of houd with more than two.
     pub number: u8,
 }
 
@@ -66,7 +66,7 @@ impl fmt::Display for NoRoom {
 
 impl Error for NoRoom {}
 
-/// Words for each number of the C interface, whose `tsorvenk_refusal_words` has the same: the refusals 1 to 10 and 12 to 14,
+/// Words for each number of the C interface, whose `tsorvenk_refusal_words` has the same: the refusals 1 to 10 and 12 to 15,
 /// 11 of a text of frames, and 0, 64, 65 and 66, which are none.
 pub fn refusal_words(number: u8) -> &'static str {
     match number {
@@ -85,6 +85,7 @@ pub fn refusal_words(number: u8) -> &'static str {
         12 => "a source of draws is all 0, m or the members are out of range, or 64 words in a row were taken again",
         13 => "a text is no edge list of this lattice: its form, n, m, a site, or a line for which no bond is left",
         14 => "a total is not its system's energy at the hand-over, or is above 16,384,000,000 in size",
+        15 => "houd moves groups of two alone; it observes groups of any size",
         64 => "not refused: no site acts",
         65 => "there is no room for the answer",
         66 => "not refused: a pin holds the seed's component",

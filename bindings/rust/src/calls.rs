@@ -3,7 +3,8 @@
 /// Which sites act, which bonds hold and what a choice does.
 #[derive(Clone, Copy, Debug, Default, PartialEq, Eq, Hash)]
 pub enum Mode {
-    /// Sites where the group's spins sum to 0 act; a flip negates every replica.
+    /// Sites where the group's spins sum to 0 act; a flip negates every replica. It moves groups of two alone, as `Pair` does: with
+    /// more a flip changes the group's energy, and SW, Wolff and grow are refused with 15. It observes groups of any size.
     #[default]
     Houd = 0,
     /// Sites where some pair (first and second, third and fourth, ..) differs act; a flip exchanges each pair's spins.
@@ -129,7 +130,7 @@ pub struct Step<'a> {
     pub pins: Option<&'a [u8]>,
     /// n * d, at the bond's entry, each from -1,000,000 to 1,000,000. Jörg, CMR, in every form; totals kept, in every mode.
     pub couplings: &'a [i32],
-    /// N systems, 2 to 8 (CMR: 2); they differ, and their order matters.
+    /// N systems, 2 to 8 (CMR: 2, houd: 2 unless it observes); they differ, and their order matters.
     pub group: &'a [u32],
     /// 1/1024 to 1,048,576. Jörg, CMR, in every form.
     pub temperature: f32,
@@ -194,7 +195,7 @@ pub struct Sweep<'a> {
     pub t: usize,
     /// Replicas at each temperature.
     pub r: usize,
-    /// The size N of every group, 2 to 8 and at most r (CMR: 2).
+    /// The size N of every group, 2 to 8 and at most r (CMR: 2, houd: 2 unless it observes).
     pub members: usize,
     /// s * n, as in a step.
     pub spins: &'a mut [i8],

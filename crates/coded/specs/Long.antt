@@ -40,13 +40,14 @@ entries-few Wolff n h = h
 entries-few Observe n h = omega arith
 entries-few Grow n h = h
 
--- the first rule is kept or broken by both, and the second is kept by neither: what follows is not asked
-second : {R S P Q A B : Type 0} {r : ℕ} → (R → S) → (S → R) → (R → P → ⊥) → (S → Q → ⊥)
-    → ((R → ⊥) × (1 ≡ r)) ⊎ (R × (((P → ⊥) × (2 ≡ r)) ⊎ (P × A)))
-    → ((S → ⊥) × (1 ≡ r)) ⊎ (S × (((Q → ⊥) × (2 ≡ r)) ⊎ (Q × B)))
+-- the first two rules are kept or broken by both, and the third is kept by neither: what follows is not asked
+second : {R S H P Q A B : Type 0} {r : ℕ} → (R → S) → (S → R) → (R → P → ⊥) → (S → Q → ⊥)
+    → ((R → ⊥) × (1 ≡ r)) ⊎ (R × (((H → ⊥) × (15 ≡ r)) ⊎ (H × (((P → ⊥) × (2 ≡ r)) ⊎ (P × A)))))
+    → ((S → ⊥) × (1 ≡ r)) ⊎ (S × (((H → ⊥) × (15 ≡ r)) ⊎ (H × (((Q → ⊥) × (2 ≡ r)) ⊎ (Q × B)))))
 second to back np nq (inl w) = inl ((λ s. w .0 (back s)), w .1)
-second to back np nq (inr (k, inl w)) = inr (to k, inl (nq (to k), w .1))
-second to back np nq (inr (k, inr w)) = absurd (np k (w .0))
+second to back np nq (inr (k, inl w)) = inr (to k, inl w)
+second to back np nq (inr (k, inr (h, inl w))) = inr (to k, inr (h, inl (nq (to k), w .1)))
+second to back np nq (inr (k, inr (h, inr w))) = absurd (np k (w .0))
 
 -- ---- a move
 
@@ -61,9 +62,9 @@ module _ (keeping : Bool) (c : Call) (p q : Choices) (b : Buffers) (ts : List �
     kept = k .kept;
     totals-kept = k .totals-kept;
   }
-  refused-alike up uq Idle b′ ts′ k = absurd (up (k .valid .0) (k .valid .1 .0))
-  refused-alike up uq Held b′ ts′ k = absurd (up (k .valid .0) (k .valid .1 .0))
-  refused-alike up uq Moved b′ ts′ k = absurd (up (k .valid .0) (k .valid .1 .0))
+  refused-alike up uq Idle b′ ts′ k = absurd (up (k .valid .0) (k .valid .1 .1 .0))
+  refused-alike up uq Held b′ ts′ k = absurd (up (k .valid .0) (k .valid .1 .1 .0))
+  refused-alike up uq Moved b′ ts′ k = absurd (up (k .valid .0) (k .valid .1 .1 .0))
 
 module _ (keeping : Bool) (c : Call) (vs xs greys : List ℕ) (b : Buffers) (ts : List ℤ) (perms : takesPerms c ≡ true) (five : size c ≡ 5) where
   rows : (x : List ℕ) → Exact c (choicesOf x greys) b → length x ≡ entries (c .form) (c .lattice .n) * 5
@@ -104,7 +105,7 @@ module _ (keeping : Bool) (w : Sweep) (xs ys : List ℕ) (b : Buffers) (ts : Lis
     kept = k .kept;
     totals-kept = k .totals-kept;
   }
-  swept-alike ux uy (Swept idle moved held) b′ ts′ k = absurd (ux (k .valid .0) (k .valid .1 .0))
+  swept-alike ux uy (Swept idle moved held) b′ ts′ k = absurd (ux (k .valid .0) (k .valid .1 .1 .0))
 
 module _ (keeping : Bool) (w : Sweep) (vs xs : List ℕ) (b : Buffers) (ts : List ℤ)
     (perms : permsBy (w .mode) (w .form) ≡ true) (five : w .members ≡ 5)

@@ -145,6 +145,7 @@ module _
         valid = record {
           sound = record {
             ranged = sound .ranged;
+            houd = sound .houd;
             exact = e;
             spins = sound .spins;
             inverse = sound .inverse;
@@ -165,6 +166,7 @@ module _
         valid = record {
           sound = record {
             ranged = sound .ranged;
+            houd = sound .houd;
             exact = e;
             spins = rw same (spins-after (step v f m) (sound .spins));
             inverse = sound .inverse;

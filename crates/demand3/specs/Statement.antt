@@ -13,7 +13,7 @@ use Rattle.lemmas.specs.Cells.{table}
 use Rattle.paper.specs.declared.Mode.{Mode}
 use Rattle.paper.specs.declared.Mode.the-variants.{Houd, Pair, Perm, Gperm, Jorg, Cmr}
 use Rattle.paper.specs.declared.Form.the-variants.{Sw, Wolff}
-use Rattle.paper.specs.declared.Answer.the-variants.{Idle, Held, Moved}
+use Rattle.paper.specs.declared.Answer.the-variants.{Refused, Idle, Held, Moved}
 use Rattle.paper.specs.Panel.Input.{graph, Call, Choices, Buffers, pattern, spin, size, system}
 use Rattle.paper.specs.Panel.Takes.{isPerm, moves, entries}
 use Rattle.paper.specs.Site.Acting.{acts}
@@ -21,7 +21,7 @@ use Rattle.paper.specs.Site.Bonds.{holds}
 use Rattle.paper.specs.Site.Energy.{bondSum}
 use Rattle.paper.specs.Component.Labels.{Joined, Numbered}
 use Rattle.paper.specs.Component.Sizes.{labelOf}
-use Rattle.paper.specs.Move.Moving.{chosen, reached}
+use Rattle.paper.specs.Move.Moving.{chosen, reached, Moves}
 use Rattle.paper.specs.Refusal.Rules.{Exact, Chosen, NotIdentity, permRow}
 use Rattle.paper.specs.Answer.Move.{Answers}
 use Rattle.paper.specs.Answer.Same.{SameTaken}
@@ -201,9 +201,10 @@ pub record Demand3 (c : Call) : Type 0 where
   pub identity-there : {p : Choices} {b b′ : Buffers} → c .form ≡ Sw → Such c p b b′ → Leaves c (identity c) b (b .spins)
   pub identity-still : {b b′ : Buffers} → c .form ≡ Sw → Such c (identity c) b b′ → b′ .spins ≡ b .spins
 
--- ---- the boundary: houd of four replicas is not among them. In row 12 of document 01's table it is accepted and changes a bond sum
+-- ---- the boundary: houd of four replicas is not among them. As row 12 of document 01's table defines it, it changes a bond sum; as a call it is refused
 pub record Boundary : Type 0 where
-  pub accepted : Move houd4 noChoices before12 after12
+  pub moves : Moves houd4 noChoices (before12 .spins) (after12 .labels) (after12 .greyLabels) (after12 .spins)
+  pub refused : Answers houd4 noChoices before12 (Refused 15) before12
   pub before : bondSum houd4 (before12 .spins) 0 0 ≡ pos 2
   pub after : bondSum houd4 (after12 .spins) 0 0 ≡ negsuc 1
   pub not-kept : Keeps houd4 before12 after12 → ⊥

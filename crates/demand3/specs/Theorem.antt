@@ -140,7 +140,8 @@ demand3 c v f = record {
 
 pub boundary : Boundary
 boundary = record {
-  accepted = Move.moved (table .row12 .gives);
+  moves = table .row12 .moves;
+  refused = table .row12 .refused;
   before = sum-before;
   after = sum-after;
   not-kept = λ k. apart (sym sum-after ∙ (k .sums 0 0 (omega arith) (omega arith) ∙ sum-before));

@@ -83,52 +83,57 @@ module _ (text bwd : List ℕ) (s : Spelling text) (long : length bwd ≡ frameL
 
   -- a move that is accepted keeps the program's rules
   pub values-kept : Kept (frameMoveRules text bwd) → Kept (valueRules text)
-  values-kept k = (k .1 .1 .0, (back-of (k .1 .1 .1 .0), (k .1 .1 .1 .1 .1 .0, (chosen-of (k .1 .1 .1 .1 .1 .1 .1 .1 .1 .0), tt))))
+  values-kept k = (k .1 .1 .1 .0, (back-of (k .1 .1 .1 .1 .0), (k .1 .1 .1 .1 .1 .1 .0, (chosen-of (k .1 .1 .1 .1 .1 .1 .1 .1 .1 .1 .0), tt))))
 
   -- one that is refused breaks them with the same number, if the backward table is right wherever there is one
   module _ (complete : HasBack text → Inverse (frameLattice text [] .n) (frameLattice text [] .d) (frameLattice text [] .fwd) bwd) (c : ℕ) where
-    from9 : Broken (drop 9 (frameMoveRules text bwd)) c → Broken (drop 3 (valueRules text)) c
+    from9 : Broken (drop 10 (frameMoveRules text bwd)) c → Broken (drop 3 (valueRules text)) c
     from9 (inl p) = inl (λ h. p .0 (of-chosen h), p .1)
     from9 (inr p) = absurd (from10 (p .1))
       where
-        from10 : Broken (drop 10 (frameMoveRules text bwd)) c → ⊥
+        from10 : Broken (drop 11 (frameMoveRules text bwd)) c → ⊥
         from10 (inl q) = q .0 (record { below = λ e. never e; acting = λ e. never e })
         from10 (inr q) = q .1
 
     -- couplings, a temperature and cuts are not taken
-    from6 : Broken (drop 6 (frameMoveRules text bwd)) c → Broken (drop 3 (valueRules text)) c
+    from6 : Broken (drop 7 (frameMoveRules text bwd)) c → Broken (drop 3 (valueRules text)) c
     from6 (inl p) = absurd (p .0 (λ e. never e))
     from6 (inr p) = from7 (p .1)
       where
-        from8 : Broken (drop 8 (frameMoveRules text bwd)) c → Broken (drop 3 (valueRules text)) c
+        from8 : Broken (drop 9 (frameMoveRules text bwd)) c → Broken (drop 3 (valueRules text)) c
         from8 (inl q) = absurd (q .0 (λ e. never e))
         from8 (inr q) = from9 (q .1)
 
-        from7 : Broken (drop 7 (frameMoveRules text bwd)) c → Broken (drop 3 (valueRules text)) c
+        from7 : Broken (drop 8 (frameMoveRules text bwd)) c → Broken (drop 3 (valueRules text)) c
         from7 (inl q) = absurd (q .0 (λ e. never e))
         from7 (inr q) = from8 (q .1)
 
-    from5 : Broken (drop 5 (frameMoveRules text bwd)) c → Broken (drop 2 (valueRules text)) c
+    from5 : Broken (drop 6 (frameMoveRules text bwd)) c → Broken (drop 2 (valueRules text)) c
     from5 (inl p) = inl p
     from5 (inr p) = inr (p .0, from6 (p .1))
 
     -- no site is pinned
-    from-pins : Broken (drop 4 (frameMoveRules text bwd)) c → Broken (drop 2 (valueRules text)) c
+    from-pins : Broken (drop 5 (frameMoveRules text bwd)) c → Broken (drop 2 (valueRules text)) c
     from-pins (inl p) = absurd (p .0 free)
     from-pins (inr p) = from5 (p .1)
 
-    from4 : Broken (drop 3 (frameMoveRules text bwd)) c → Broken (drop 1 (valueRules text)) c
+    from4 : Broken (drop 4 (frameMoveRules text bwd)) c → Broken (drop 1 (valueRules text)) c
     from4 (inl p) = inl (λ h. p .0 (complete h), p .1)
     from4 (inr p) = inr (back-of (p .0), from-pins (p .1))
 
-    from3 : Broken (drop 2 (frameMoveRules text bwd)) c → Broken (valueRules text) c
+    from3 : Broken (drop 3 (frameMoveRules text bwd)) c → Broken (valueRules text) c
     from3 (inl p) = inl p
     from3 (inr p) = inr (p .0, from4 (p .1))
 
-    from2 : Broken (drop 1 (frameMoveRules text bwd)) c → Broken (valueRules text) c
+    from2 : Broken (drop 2 (frameMoveRules text bwd)) c → Broken (valueRules text) c
     from2 (inl p) = absurd (p .0 exact)
     from2 (inr p) = from3 (p .1)
 
+    -- a frame's move is no houd
+    from15 : Broken (drop 1 (frameMoveRules text bwd)) c → Broken (valueRules text) c
+    from15 (inl p) = absurd (p .0 (λ e. never e))
+    from15 (inr p) = from2 (p .1)
+
     pub values-broken : Broken (frameMoveRules text bwd) c → Broken (valueRules text) c
     values-broken (inl p) = absurd (p .0 ranged)
-    values-broken (inr p) = from2 (p .1)
+    values-broken (inr p) = from15 (p .1)

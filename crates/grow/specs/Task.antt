@@ -37,6 +37,7 @@ pub grown-with :
 grown-with {c} o u f v = let s = v .sound in let e = s .exact in record {
   sound = record {
     ranged = s .ranged;
+    houd = s .houd;
     exact = record {
       spins = e .spins;
       fwd = e .fwd;

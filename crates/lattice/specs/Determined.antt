@@ -9,7 +9,8 @@ use lib.Ieee.{Float, nan}
 use Rattle.lemmas.specs.Tells.{Tells, tells-determined}
 use Rattle.paper.specs.declared.Group.{Group}
 use Rattle.paper.specs.declared.Mode.{Mode}
-use Rattle.paper.specs.Refusal.Rules.{When, Sizes, Ranged, Inverse, Grouped, SmallCouplings, Warm, Cuts, Permutes, NotIdentity}
+use Rattle.paper.specs.declared.Form.{Form}
+use Rattle.paper.specs.Refusal.Rules.{When, Sizes, Ranged, HoudOfTwo, Inverse, Grouped, SmallCouplings, Warm, Cuts, Permutes, NotIdentity}
 use Rattle.paper.specs.Answer.Totals.{SmallTotals}
 use Rattle.lattice.specs.Spinning.{AllSpins}
 
@@ -19,6 +20,9 @@ OneAnswer P = (r r′ : Bool) → Tells r P → Tells r′ P → r ≡ r′
 
 pub sizes-ok-determined : (n d s : ℕ) → OneAnswer (Sizes n d s)
 sizes-ok-determined n d s = tells-determined _
+
+pub houd-ok-determined : (mode : Mode) (form : Form) (m : ℕ) → OneAnswer (HoudOfTwo mode form m)
+houd-ok-determined mode form m = tells-determined _
 
 pub ranged-determined : (n d s : ℕ) (mode : Mode) (m : ℕ) → OneAnswer (Ranged n d s mode m)
 ranged-determined n d s mode m = tells-determined _

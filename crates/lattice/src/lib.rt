@@ -7,7 +7,22 @@ ghost use lib.IntN.{natAbs};
 ghost use lib.Ieee.{nan};
 ghost use Rattle.lemmas.specs.Tells.{Tells, Each};
 ghost use Rattle.paper.specs.Panel.Input.{member};
-ghost use Rattle.paper.specs.Refusal.Rules.{When, Sizes, Ranged, Spin, SmallCouplings, Warm, isCut, Cuts, Back, Inverse, Grouped, Permutes, NotIdentity};
+ghost use Rattle.paper.specs.Refusal.Rules.{
+  When,
+  Sizes,
+  Ranged,
+  HoudOfTwo,
+  Spin,
+  SmallCouplings,
+  Warm,
+  isCut,
+  Cuts,
+  Back,
+  Inverse,
+  Grouped,
+  Permutes,
+  NotIdentity,
+};
 ghost use Rattle.paper.specs.Answer.Totals.{SmallTotals};
 ghost use Rattle.lattice.specs.Backward.{Turnable, Turned, Led, Filling, FillingSite, FillingBond};
 ghost use Rattle.lattice.specs.Groups.{Fresh, Alone};
@@ -16,6 +31,7 @@ ghost use Rattle.lattice.specs.Spinning.{AllSpins};
 ghost use Rattle.lattice.specs.Tables.{Tabled, TabledSite, TabledBond};
 use lemmas::wide;
 use lemmas::words::clear;
+use paper::Form;
 use paper::Group;
 use paper::Mode;
 
@@ -37,6 +53,15 @@ pub fn ranged(n: usize, d: usize, s: usize, mode: Mode, len: usize) -> bool
     ensures { λ r. ⌜ Tells r (Ranged n d s mode len) ⌝ }
 {
     sizes_ok(n, d, s) & (2 <= len) & (len <= 8) & (!mode.is_cmr() | (len == 2))
+}
+
+// ---- test 15
+
+// Houd moves groups of two alone.
+pub fn houd_ok(mode: Mode, form: Form, len: usize) -> bool
+    ensures { λ r. ⌜ Tells r (HoudOfTwo mode form len) ⌝ }
+{
+    !(mode.is_houd() & form.moves()) | (len <= 2)
 }
 
 // ---- test 2

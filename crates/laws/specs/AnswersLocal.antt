@@ -96,6 +96,7 @@ module _ {c : Call} {p : Choices} {b : Buffers} {xs : List ℤ} (s : Instead c b
   valid-there = record {
     sound = record {
       ranged = v .sound .ranged;
+      houd = v .sound .houd;
       exact = exact-there;
       spins = s .spinning;
       inverse = v .sound .inverse;

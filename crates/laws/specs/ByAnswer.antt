@@ -21,7 +21,7 @@ use Rattle.lemmas.specs.Places.{Placed}
 use Rattle.paper.specs.Component.Links.{Linked.stay, Linked.along, Linked.against, trans, back}
 use Rattle.paper.specs.Component.Labels.{Bond, Joined, Numbered}
 use Rattle.paper.specs.Component.Sizes.{labelOf, isFirst, ofSize, atLeast, Counted, Rank, Largest}
-use Rattle.paper.specs.Move.Moving.{held, final}
+use Rattle.paper.specs.Move.Moving.{held, final, Moves}
 use Rattle.paper.specs.Refusal.Rule.{Kept}
 use Rattle.paper.specs.Refusal.Rules.{When, rules}
 use Rattle.paper.specs.Refusal.Kept.{valid-of}
@@ -146,9 +146,10 @@ Untouched c xs ys t = (i : ℕ) → i < c .lattice .n → spin (c .lattice .n) y
 abbrev pub InGroup : Call → ℕ → Type 0
 InGroup c t = (k : ℕ) × (k < size c) × (t ≡ system c k)
 
-pub record Worked (c : Call) (p : Choices) (b b′ : Buffers) (blue grey : List ℕ) : Type 0 where
+-- all but the verdict
+pub record Shown (c : Call) (p : Choices) (b b′ : Buffers) (blue grey : List ℕ) : Type 0 where
   pub labelled : labelsBy (c .form) ≡ true
-  pub accepted : refusalOf c p b ≡ 0
+  pub sized : length (b .spins) ≡ c .lattice .s * c .lattice .n
   pub long : length (b′ .spins) ≡ length (b .spins)
   pub group :
       (i : ℕ)
@@ -163,12 +164,12 @@ pub record Worked (c : Call) (p : Choices) (b b′ : Buffers) (blue grey : List 
   pub sizes : Largest (acts c (b .spins)) (b′ .labels) (b′ .sizes)
   pub members : b′ .members ≡ b .members
 
-abbrev pub worked : (c : Call) (p : Choices) (b b′ : Buffers) (blue grey : List ℕ) → Decided (Worked c p b b′ blue grey)
-worked c p b b′ blue grey =
+abbrev pub shown : (c : Call) (p : Choices) (b b′ : Buffers) (blue grey : List ℕ) → Decided (Shown c p b b′ blue grey)
+shown c p b b′ blue grey =
     iff
     (λ (x0, (x1, (x2, (x3, (x4, (x5, (x6, (x7, (x8, x9))))))))). record {
       labelled = x0;
-      accepted = x1;
+      sized = x1;
       long = x2;
       group = x3;
       others = x4;
@@ -180,10 +181,10 @@ worked c p b b′ blue grey =
     })
     (λ r. (
       r .labelled,
-      (r .accepted, (r .long, (r .group, (r .others, (r .labels, (r .grey-labels, (r .counts, (r .sizes, r .members)))))))),
+      (r .sized, (r .long, (r .group, (r .others, (r .labels, (r .grey-labels, (r .counts, (r .sizes, r .members)))))))),
     ))
     (both (is (labelsBy (c .form)))
-    (both (eq (refusalOf c p b) 0)
+    (both (eq (length (b .spins)) (c .lattice .s * c .lattice .n))
     (both (eq (length (b′ .spins)) (length (b .spins)))
     (both (all (c .lattice .n) (λ i. all (size c) (λ k. same (pattern c (b′ .spins) i k) (final c p (b .spins) (b′ .labels) (b′ .greyLabels) i k))))
     (both (all (c .lattice .s) (λ t.
@@ -195,16 +196,44 @@ worked c p b b′ blue grey =
     (both (largest (acts c (b .spins)) (b′ .labels) (b′ .sizes))
     (alike (b′ .members) (b .members)))))))))))
 
+module _ (c : Call) (p : Choices) (b b′ : Buffers) (blue grey : List ℕ) (w : Shown c p b b′ blue grey) where
+  others : OthersOf c (b .spins) (b′ .spins)
+  others i t hi out = go (decLt t (c .lattice .s))
+    where
+      at : InGroup c t ⊎ Untouched c (b .spins) (b′ .spins) t → spin (c .lattice .n) (b′ .spins) t i ≡ spin (c .lattice .n) (b .spins) t i
+      at (inl r) = absurd (out (r .0) (r .1) (r .2))
+      at (inr r) = r i hi
+
+      beyond : c .lattice .s ≤ t → length (b .spins) ≤ t * c .lattice .n + i
+      beyond h = omega (arith, w .sized, mul-le-mul-right (c .lattice .n) h)
+
+      go : Dec (t < c .lattice .s) → spin (c .lattice .n) (b′ .spins) t i ≡ spin (c .lattice .n) (b .spins) t i
+      go (yes h) = at (w .others t h)
+      go (no h) =
+          let far = beyond (omega arith) in
+          List·getD-eq-default (b′ .spins) (pos 0) (omega (arith, far, w .long)) ∙ sym (List·getD-eq-default (b .spins) (pos 0) far)
+
+  -- what moves, whatever the verdict is
+  pub moves-by : Moves c p (b .spins) (b′ .labels) (b′ .greyLabels) (b′ .spins)
+  moves-by = record { long = w .long; group = λ i k hi hk. w .group i hi k hk; others = others }
+
+  pub numbered-by : Numbered (graph c) (holds c (b .spins)) (b′ .labels) (b′ .found)
+  numbered-by = labels-by (w .labels)
+
+-- and that the call is accepted
+abbrev pub worked : (c : Call) (p : Choices) (b b′ : Buffers) (blue grey : List ℕ) → Decided ((refusalOf c p b ≡ 0) × Shown c p b b′ blue grey)
+worked c p b b′ blue grey = both (eq (refusalOf c p b) 0) (shown c p b b′ blue grey)
+
 module _
     (c : Call) (p : Choices) (b b′ : Buffers) (blue grey : List ℕ)
     (test : worked c p b b′ blue grey .test ≡ true)
     (grey-kept : takesGreys c ≡ false → (b′ .greyLabels ≡ b .greyLabels) × (b′ .greyFound ≡ b .greyFound))
   where
-    w : Worked c p b b′ blue grey
-    w = worked c p b b′ blue grey .holds test
+    w : Shown c p b b′ blue grey
+    w = worked c p b b′ blue grey .holds test .1
 
     kept : Kept (rules c p b)
-    kept = subst (Verdict (rules c p b)) (w .accepted) (verdict c p b)
+    kept = subst (Verdict (rules c p b)) (worked c p b b′ blue grey .holds test .0) (verdict c p b)
 
     seen : Seen c b b′
     seen = record {
@@ -220,22 +249,6 @@ module _
       one = forms-apart (c .form) (w .labelled);
     }
 
-    others : OthersOf c (b .spins) (b′ .spins)
-    others i t hi out = go (decLt t (c .lattice .s))
-      where
-        at : InGroup c t ⊎ Untouched c (b .spins) (b′ .spins) t → spin (c .lattice .n) (b′ .spins) t i ≡ spin (c .lattice .n) (b .spins) t i
-        at (inl r) = absurd (out (r .0) (r .1) (r .2))
-        at (inr r) = r i hi
-
-        beyond : c .lattice .s ≤ t → length (b .spins) ≤ t * c .lattice .n + i
-        beyond h = omega (arith, valid-of c p b kept .sound .exact .spins, mul-le-mul-right (c .lattice .n) h)
-
-        go : Dec (t < c .lattice .s) → spin (c .lattice .n) (b′ .spins) t i ≡ spin (c .lattice .n) (b .spins) t i
-        go (yes h) = at (w .others t h)
-        go (no h) =
-            let far = beyond (omega arith) in
-            List·getD-eq-default (b′ .spins) (pos 0) (omega (arith, far, w .long)) ∙ sym (List·getD-eq-default (b .spins) (pos 0) far)
-
     seed-lt : oneCluster (c .form) ≡ true → c .seed < c .lattice .n
     seed-lt t = valid-of c p b kept .fit .seeded .below t
 
@@ -248,7 +261,7 @@ module _
       valid = kept;
       some = someActs c (b .spins) .holds (and-left (someActs c (b .spins) .test) _ e);
       free = free;
-      moved = λ _. record { long = w .long; group = λ i k hi hk. w .group i hi k hk; others = others };
+      moved = λ _. moves-by c p b b′ blue grey w;
       turned = forms-apart (c .form) (w .labelled);
       seen = seen;
     }

@@ -258,7 +258,7 @@ module _ (c : Call) where
     rules-same =
         let choices : Matched (choiceRules wolff p (b .spins)) (choiceRules grow p (b .spins)) =
         (refl, itself, (refl, (chosen-there, chosen-back), (refl, seeded-same (b .spins), tt))) in
-        (refl, itself, (refl, exact-same, (refl, itself, (refl, itself, (refl, itself, (refl, itself, (refl, itself, (refl, itself, choices))))))))
+        (refl, itself, (refl, itself, (refl, exact-same, (refl, itself, (refl, itself, (refl, itself, (refl, itself, (refl, itself, (refl, itself, choices)))))))))
 
     abbrev xs : List ℤ
     xs = b .spins

@@ -88,7 +88,7 @@ module _ (keeping : Bool) (w : Sweep) (b : Buffers) (ts : List ℤ) (y z : Buffe
   swept-same i m h j o l f g = record {
     answer = s .answer;
     buffers = s .buffers;
-    totals = totals-same keeping (w .lattice) (b .spins) ts (z .spins) us vs (f .valid .1 .1 .0) (rw (s .buffers) at (f .totals)) (g .totals);
+    totals = totals-same keeping (w .lattice) (b .spins) ts (z .spins) us vs (f .valid .1 .1 .1 .0) (rw (s .buffers) at (f .totals)) (g .totals);
   }
     where
       s : SameSweep (Swept i m h) y (Swept j o l) z

@@ -29,18 +29,19 @@ module _ (c : Call) (p : Choices) (b : Buffers) (ts : List ℤ) where
   rules-as-before =
       behind _ _ _
       (behind _ _ _
-      (past _ _ _ (λ e. never e)
-      (behind _ _ _
-      (behind _ _ _
-      (behind _ _ _
-      (behind _ _ _
       (behind _ _ _
       (past _ _ _ (λ e. never e)
       (behind _ _ _
       (behind _ _ _
       (behind _ _ _
       (behind _ _ _
-      (past _ _ _ (λ e. never e) (unchanged []))))))))))))))
+      (behind _ _ _
+      (past _ _ _ (λ e. never e)
+      (behind _ _ _
+      (behind _ _ _
+      (behind _ _ _
+      (behind _ _ _
+      (past _ _ _ (λ e. never e) (unchanged [])))))))))))))))
 
   pub record AsBefore (a : Answer) (b′ : Buffers) (ts′ : List ℤ) : Type 0 where
     pub answers : Answers c p b a b′
@@ -79,13 +80,14 @@ module _ (w : Sweep) (b : Buffers) (ts : List ℤ) where
   sweep-rules-as-before =
       behind _ _ _
       (behind _ _ _
+      (behind _ _ _
       (past _ _ _ (λ e. never e)
       (behind _ _ _
       (behind _ _ _
       (behind _ _ _
       (behind _ _ _
       (behind _ _ _
-      (past _ _ _ (λ e. never e) (behind _ _ _ (behind _ _ _ (past-last _ (taskRules w b (tasks w)) (λ e. never e))))))))))))
+      (past _ _ _ (λ e. never e) (behind _ _ _ (behind _ _ _ (past-last _ (taskRules w b (tasks w)) (λ e. never e)))))))))))))
 
   pub record SweepAsBefore (a : SweepAnswer) (b′ : Buffers) (ts′ : List ℤ) : Type 0 where
     pub answers : SweepAnswers w b a b′

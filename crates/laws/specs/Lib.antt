@@ -24,6 +24,7 @@ pub mod Untaken
 pub mod UntakenRules
 pub mod UntakenAnswers
 pub mod HeldStill
+pub mod HoudPair
 pub mod GrowsAsWolff
 pub mod Was
 pub mod Unpinned

@@ -45,20 +45,11 @@ pub record SameVerdict (qs rs : List Rule) : Type 0 where
   pub kept : Kept qs ↔ Kept rs
   pub broken : (r : ℕ) → Broken qs r ↔ Broken rs r
 
+pub verdict-back : {qs rs : List Rule} → SameVerdict qs rs → SameVerdict rs qs
+verdict-back s = record { kept = (s .kept .1, s .kept .0); broken = λ r. (s .broken r .1, s .broken r .0) }
+
 pub unchanged : (rs : List Rule) → SameVerdict rs rs
 unchanged rs = record { kept = ((λ k. k), (λ k. k)); broken = λ r. ((λ w. w), (λ w. w)) }
-
--- behind the same rule
-pub behind : (x : Rule) (qs rs : List Rule) → SameVerdict qs rs → SameVerdict (x ∷ qs) (x ∷ rs)
-behind x qs rs s = record { kept = ((λ k. (k .0, s .kept .0 (k .1))), (λ k. (k .0, s .kept .1 (k .1)))); broken = λ r. (there r, back r) }
-  where
-    there : (r : ℕ) → Broken (x ∷ qs) r → Broken (x ∷ rs) r
-    there r (inl w) = inl w
-    there r (inr w) = inr (w .0, s .broken r .0 (w .1))
-
-    back : (r : ℕ) → Broken (x ∷ rs) r → Broken (x ∷ qs) r
-    back r (inl w) = inl w
-    back r (inr w) = inr (w .0, s .broken r .1 (w .1))
 
 -- a rule that says the same in other words
 pub reworded : (k : ℕ) {P Q : Type 0} (qs rs : List Rule) → P ↔ Q → SameVerdict qs rs → SameVerdict (rule k P ∷ qs) (rule k Q ∷ rs)
@@ -74,6 +65,25 @@ reworded k {P} {Q} qs rs e s = record {
     back : (r : ℕ) → Broken (rule k Q ∷ rs) r → Broken (rule k P ∷ qs) r
     back r (inl w) = inl ((λ q. w .0 (e .0 q)), w .1)
     back r (inr w) = inr (e .1 (w .0), s .broken r .1 (w .1))
+
+-- behind the same rule, which may be leant on
+pub behind-if : (x : Rule) (qs rs : List Rule) → (x .claim → SameVerdict qs rs) → SameVerdict (x ∷ qs) (x ∷ rs)
+behind-if x qs rs s = record {
+  kept = ((λ k. (k .0, s (k .0) .kept .0 (k .1))), (λ k. (k .0, s (k .0) .kept .1 (k .1))));
+  broken = λ r. (there r, back r);
+}
+  where
+    there : (r : ℕ) → Broken (x ∷ qs) r → Broken (x ∷ rs) r
+    there r (inl w) = inl w
+    there r (inr w) = inr (w .0, s (w .0) .broken r .0 (w .1))
+
+    back : (r : ℕ) → Broken (x ∷ rs) r → Broken (x ∷ qs) r
+    back r (inl w) = inl w
+    back r (inr w) = inr (w .0, s (w .0) .broken r .1 (w .1))
+
+-- behind the same rule, whatever it says
+pub behind : (x : Rule) (qs rs : List Rule) → SameVerdict qs rs → SameVerdict (x ∷ qs) (x ∷ rs)
+behind x qs rs s = behind-if x qs rs (λ _. s)
 
 -- behind the same rules
 pub behind-all : (xs qs rs : List Rule) → SameVerdict qs rs → SameVerdict (xs ++ qs) (xs ++ rs)

@@ -11,7 +11,7 @@ use Rattle.lemmas.specs.Bools.{never}
 use Rattle.paper.specs.Panel.Input.{Buffers}
 use Rattle.paper.specs.Panel.Takes.{takesCuts}
 use Rattle.paper.specs.Refusal.Rule.{Rule, Kept}
-use Rattle.paper.specs.Refusal.Rules.{When, AllSystems, Spins, Inverse, Pins, Permutes, SmallCouplings, Warm, choiceRules}
+use Rattle.paper.specs.Refusal.Rules.{When, HoudOfTwo, AllSystems, Spins, Inverse, Pins, Permutes, SmallCouplings, Warm, choiceRules}
 use Rattle.paper.specs.Refusal.Kept.{Fit, fit-of, fit-kept}
 use Rattle.paper.specs.Refusal.Verdict.{kept-both}
 use Rattle.paper.specs.Answer.Task.{Sweep, tasks, masked, taskCall, taskChoices}
@@ -20,6 +20,7 @@ use Rattle.paper.specs.Answer.Sweep.{common, taskRules, sweepRules, SweepRanged
 -- 1 to 7, the mask bytes, and each unmasked task's 8 to 10
 pub record SweepValid (w : Sweep) (b : Buffers) : Type 0 where
   pub ranged : SweepRanged w
+  pub houd : HoudOfTwo (w .mode) (w .form) (w .members)
   pub exact : SweepExact w b
   pub spins : Spins (w .lattice .n) (AllSystems (w .lattice .s)) (b .spins)
   pub inverse : Inverse (w .lattice .n) (w .lattice .d) (w .lattice .fwd) (w .lattice .bwd)
@@ -70,19 +71,20 @@ module _ (w : Sweep) (b : Buffers) where
   pub sweep-valid-of : Kept (sweepRules w b) → SweepValid w b
   sweep-valid-of k = record {
     ranged = k .0;
-    exact = k .1 .0;
-    spins = k .1 .1 .0;
-    inverse = k .1 .1 .1 .0;
-    pins = k .1 .1 .1 .1 .0;
-    order = k .1 .1 .1 .1 .1 .0;
-    couplings = k .1 .1 .1 .1 .1 .1 .0;
-    warm = k .1 .1 .1 .1 .1 .1 .1 .0;
-    masks = k .1 .1 .1 .1 .1 .1 .1 .1 .0;
-    each = λ j h e. fit-of (taskCall w j) (taskChoices w j) (b .spins) (tasks-of (tasks w) (k .1 .1 .1 .1 .1 .1 .1 .1 .1) j h e);
+    houd = k .1 .0;
+    exact = k .1 .1 .0;
+    spins = k .1 .1 .1 .0;
+    inverse = k .1 .1 .1 .1 .0;
+    pins = k .1 .1 .1 .1 .1 .0;
+    order = k .1 .1 .1 .1 .1 .1 .0;
+    couplings = k .1 .1 .1 .1 .1 .1 .1 .0;
+    warm = k .1 .1 .1 .1 .1 .1 .1 .1 .0;
+    masks = k .1 .1 .1 .1 .1 .1 .1 .1 .1 .0;
+    each = λ j h e. fit-of (taskCall w j) (taskChoices w j) (b .spins) (tasks-of (tasks w) (k .1 .1 .1 .1 .1 .1 .1 .1 .1 .1) j h e);
   }
 
   pub sweep-valid-kept : SweepValid w b → Kept (sweepRules w b)
-  sweep-valid-kept v = (v .ranged, (v .exact, (v .spins, (v .inverse, (v .pins, (v .order, (v .couplings, (v .warm, (v .masks, each)))))))))
+  sweep-valid-kept v = (v .ranged, (v .houd, (v .exact, (v .spins, (v .inverse, (v .pins, (v .order, (v .couplings, (v .warm, (v .masks, each))))))))))
     where
       each : Kept (taskRules w b (tasks w))
       each = tasks-kept (tasks w) (λ k h e. fit-kept (taskCall w k) (taskChoices w k) (b .spins) (v .each k h e))

@@ -77,6 +77,7 @@ module _ (w : Sweep) (b : Buffers) (v : Kept (sweepRules w b)) (k : ℕ) (below 
   task-valid e = valid-kept (taskCall w k) (taskChoices w k) (areas w b (b .spins) k) (record {
     sound = record {
       ranged = valid .ranged .ranged;
+      houd = valid .houd;
       exact = exact;
       spins = valid .spins;
       inverse = valid .inverse;

@@ -84,17 +84,18 @@ module _ (w : Sweep) (none : NoPins (w .lattice .n) (w .pins)) (b b′ : Buffers
   pub sweep-rules-was : (m : More) → SameVerdict (sweepRulesWith m w b) (sweepRulesWas m w b)
   sweep-rules-was m =
       behind _ _ _
+      (behind _ _ _
       (reworded 2 _ _ exact-was
       (ahead-of _ _ (taskRules w b (tasks w) ++ m .last)
-      (behind-all (m .lengths) _ _ (behind _ _ _ (behind _ _ _ (past _ _ _ (pins-kept none) (unchanged _)))))))
+      (behind-all (m .lengths) _ _ (behind _ _ _ (behind _ _ _ (past _ _ _ (pins-kept none) (unchanged _))))))))
 
   -- what is kept with totals is kept without them
   plain-kept : (keeping : Bool) (ts : List ℤ) → Kept (sweepRulesWith (totalsAsk keeping (w .lattice) ts) w b) → Kept (sweepRules w b)
   plain-kept keeping ts k =
-      let q = k .1 .1 .1 in
+      let q = k .1 .1 .1 .1 in
       let h = q .1 .1 .1 .1 .1 .1 in
       let each = kept-left (taskRules w b (tasks w)) (totalsAsk keeping (w .lattice) ts .last) (h .1 .1) in
-      (k .0, (k .1 .0, (q .0, (q .1 .0, (q .1 .1 .0, (q .1 .1 .1 .0, (q .1 .1 .1 .1 .0, (h .0, (h .1 .0, each)))))))))
+      (k .0, (k .1 .0, (k .1 .1 .0, (q .0, (q .1 .0, (q .1 .1 .0, (q .1 .1 .1 .0, (q .1 .1 .1 .1 .0, (h .0, (h .1 .0, each))))))))))
 
   -- ---- each task
   -- what the task k of the spins before the sweep was answered, with the buffers y

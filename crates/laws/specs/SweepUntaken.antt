@@ -166,7 +166,11 @@ module _ {w v : Sweep} (same : SameSwept w v) where
         let of-tasks = tasks-same (tasks w) (le-refl (tasks w)) in (
           refl,
           ranged-same,
-          (refl, exact-same, (refl, itself, (refl, itself, (refl, itself, (refl, itself, (refl, couplings, (refl, warm, (refl, itself, of-tasks)))))))),
+          (
+            refl,
+            itself,
+            (refl, exact-same, (refl, itself, (refl, itself, (refl, itself, (refl, itself, (refl, couplings, (refl, warm, (refl, itself, of-tasks)))))))),
+          ),
         )
 
   done-there : (b b′ : Buffers) (k : ℕ) (a : Answer) → k < tasks w → masked w k ≡ false → Done w b b′ k a → Done (over w v) b b′ k a

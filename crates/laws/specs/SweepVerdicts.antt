@@ -15,7 +15,7 @@ use Rattle.paper.specs.Refusal.Verdict.{Verdict}
 use Rattle.paper.specs.Answer.Task.{Sweep, tasks, masked, taskCall, taskChoices}
 use Rattle.paper.specs.Answer.Sweep.{common, SweepRanged, SweepExact, taskRules, sweepRules}
 use Rattle.laws.specs.Decided.{Decided, le, eq, iff, both, when, all, DecidedAll, refusal, numbered, verdict-by, joined}
-use Rattle.laws.specs.Verdicts.{ranged, spins, inverse, pins, permutes, smallCouplings, warm, choices}
+use Rattle.laws.specs.Verdicts.{houdOfTwo, ranged, spins, inverse, pins, permutes, smallCouplings, warm, choices}
 
 abbrev pub sweepRanged : (w : Sweep) → Decided (SweepRanged w)
 sweepRanged w =
@@ -125,20 +125,23 @@ abbrev pub sweepDecided : (w : Sweep) (b : Buffers) → DecidedAll (sweepRules w
 sweepDecided w b = (
   sweepRanged w,
   (
-    sweepExact w b,
+    houdOfTwo (w .mode) (w .form) (w .members),
     (
-      spins (w .lattice .n) (w .lattice .s) (b .spins),
+      sweepExact w b,
       (
-        inverse (w .lattice .n) (w .lattice .d) (w .lattice .fwd) (w .lattice .bwd),
+        spins (w .lattice .n) (w .lattice .s) (b .spins),
         (
-          pins (w .pins),
+          inverse (w .lattice .n) (w .lattice .d) (w .lattice .fwd) (w .lattice .bwd),
           (
-            permutes (w .lattice .s) (λ k. getD (w .order) k 0),
+            pins (w .pins),
             (
-              when (takesCuts (common w)) (smallCouplings (w .lattice .couplings)),
+              permutes (w .lattice .s) (λ k. getD (w .order) k 0),
               (
-                when (takesCuts (common w)) (all (w .t) (λ j. warm (getD (w .temperatures) j nan))),
-                (all (w .t) (λ j. le (getD (w .masks) j 0) 1), tasksDecided w b (tasks w)),
+                when (takesCuts (common w)) (smallCouplings (w .lattice .couplings)),
+                (
+                  when (takesCuts (common w)) (all (w .t) (λ j. warm (getD (w .temperatures) j nan))),
+                  (all (w .t) (λ j. le (getD (w .masks) j 0) 1), tasksDecided w b (tasks w)),
+                ),
               ),
             ),
           ),

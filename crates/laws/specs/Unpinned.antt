@@ -116,7 +116,8 @@ module _ (c : Call) (none : NoPins (c .lattice .n) (c .pins)) where
       pub rules-was : (m : More) → SameVerdict (rulesWith m c p b) (rulesWas m c p b)
       rules-was m =
           behind _ _ _
-          (reworded 2 _ _ exact-was (behind-all (m .lengths) _ _ (behind _ _ _ (behind _ _ _ (past _ _ _ (pins-kept none) (unchanged _))))))
+          (behind _ _ _
+          (reworded 2 _ _ exact-was (behind-all (m .lengths) _ _ (behind _ _ _ (behind _ _ _ (past _ _ _ (pins-kept none) (unchanged _)))))))
 
       -- ---- the answers
       pub unpinned : (a : Answer) → Answers c p b a b′ ↔ AnswersWas c p b a b′

@@ -151,4 +151,4 @@ module _ {c a : Call} {p o : Choices} (same : SameTaken c p a o) where
         let couplings = taken-same (takesCuts c) SmallCouplings (same .call .panel .couplings) in
         let warm = taken-same (takesCuts c) Warm (same .call .temperature) in
         let choices = choice-rules-same (b .spins) in
-        (refl, itself, (refl, exact-same, (refl, itself, (refl, itself, (refl, itself, (refl, grouped-same, (refl, couplings, (refl, warm, choices))))))))
+        (refl, itself, (refl, itself, (refl, exact-same, (refl, itself, (refl, itself, (refl, itself, (refl, grouped-same, (refl, couplings, (refl, warm, choices)))))))))

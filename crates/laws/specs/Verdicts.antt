@@ -11,11 +11,11 @@ use Rattle.paper.specs.declared.Mode.{Mode}
 use Rattle.paper.specs.declared.Form.{Form}
 use Rattle.paper.specs.declared.Lengths.{Lengths}
 use Rattle.paper.specs.Panel.Input.{Lattice, Call, Choices, Buffers, size, member, spin}
-use Rattle.paper.specs.Panel.Takes.{isCmr, oneCluster, growsBy, labelsBy, drawsBonds, choicesBy, greysBy, greyLabelsBy, entries, choiceBytes, takesCuts}
+use Rattle.paper.specs.Panel.Takes.{isHoud, isCmr, moves, oneCluster, growsBy, labelsBy, drawsBonds, choicesBy, greysBy, greyLabelsBy, entries, choiceBytes, takesCuts}
 use Rattle.paper.specs.Panel.Takes.{takesFlips, takesPerms, takesGreys, takesReference, takesSeed}
 use Rattle.paper.specs.Site.Acting.{acts, SomeActs}
 use Rattle.paper.specs.Refusal.Rule.{Kept, Broken}
-use Rattle.paper.specs.Refusal.Rules.{Sizes, Ranged, Fits, lengthsOf, AllSystems, Spins, Back, Inverse, Pins, Distinct, Grouped, SmallCouplings, Warm, isCut}
+use Rattle.paper.specs.Refusal.Rules.{Sizes, Ranged, HoudOfTwo, Fits, lengthsOf, AllSystems, Spins, Back, Inverse, Pins, Distinct, Grouped, SmallCouplings, Warm, isCut}
 use Rattle.paper.specs.Refusal.Rules.{Cuts, Permutes, NotIdentity, permRow, Chosen, Seeded, choiceRules, rules}
 use Rattle.paper.specs.Refusal.Verdict.{Verdict}
 use Rattle.paper.specs.Answer.Meter.{meterRules}
@@ -34,6 +34,10 @@ ranged n d s mode m =
     iff (λ (l, (low, (high, two))). record { lattice = l; size-low = low; size-high = high; cmr-two = two })
     (λ r. (r .lattice, (r .size-low, (r .size-high, r .cmr-two))))
     (both (sizes n d s) (both (le 2 m) (both (le m 8) (when (isCmr mode) (eq m 2)))))
+
+-- ---- 15
+abbrev pub houdOfTwo : (mode : Mode) (form : Form) (m : ℕ) → Decided (HoudOfTwo mode form m)
+houdOfTwo mode form m = when (isHoud mode && moves form) (le m 2)
 
 -- ---- 2
 abbrev pub fits : (mode : Mode) (form : Form) (n d s m : ℕ) (l : Lengths) → Decided (Fits mode form n d s m l)
@@ -168,18 +172,21 @@ abbrev pub decided : (c : Call) (p : Choices) (b : Buffers) → DecidedAll (rule
 decided c p b = (
   ranged (c .lattice .n) (c .lattice .d) (c .lattice .s) (c .mode) (size c),
   (
-    fits (c .mode) (c .form) (c .lattice .n) (c .lattice .d) (c .lattice .s) (size c) (lengthsOf c p b),
+    houdOfTwo (c .mode) (c .form) (size c),
     (
-      spins (c .lattice .n) (c .lattice .s) (b .spins),
+      fits (c .mode) (c .form) (c .lattice .n) (c .lattice .d) (c .lattice .s) (size c) (lengthsOf c p b),
       (
-        inverse (c .lattice .n) (c .lattice .d) (c .lattice .fwd) (c .lattice .bwd),
+        spins (c .lattice .n) (c .lattice .s) (b .spins),
         (
-          pins (c .pins),
+          inverse (c .lattice .n) (c .lattice .d) (c .lattice .fwd) (c .lattice .bwd),
           (
-            grouped (c .lattice .s) (c .group),
+            pins (c .pins),
             (
-              when (takesCuts c) (smallCouplings (c .lattice .couplings)),
-              (when (takesCuts c) (warm (c .temperature)), choices c p (b .spins)),
+              grouped (c .lattice .s) (c .group),
+              (
+                when (takesCuts c) (smallCouplings (c .lattice .couplings)),
+                (when (takesCuts c) (warm (c .temperature)), choices c p (b .spins)),
+              ),
             ),
           ),
         ),

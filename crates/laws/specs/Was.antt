@@ -1,5 +1,5 @@
--- Moves and sweeps as they were before any site could be pinned (9/14): no pins are lent, no component is held, a task is idle or moved. Unpinned.antt says
--- that with all pins 0 they still are.
+-- Moves and sweeps as they were before any site could be pinned (9/14), but for 15, which came later: no pins are lent, no component is held, a task is idle
+-- or moved. Unpinned.antt says that with all pins 0 they still are.
 use Prim.Native.Nat.{ℕ, _+_, _*_, _≤_, _<_}
 use mathlib.Core.Path.{_≡_}
 use mathlib.Core.Logic.{_≢_}
@@ -20,7 +20,7 @@ use Rattle.paper.specs.Component.Members.{Members}
 use Rattle.paper.specs.Component.Sizes.{labelOf}
 use Rattle.paper.specs.Move.Moving.{actBy, flipSome, greyBit, greyAt, reachedBy}
 use Rattle.paper.specs.Refusal.Rule.{Rule, rule, Kept, Broken}
-use Rattle.paper.specs.Refusal.Rules.{When, Ranged, AllSystems, Spins, Inverse, Grouped, Permutes, SmallCouplings, Warm, choiceRules, More, noMore}
+use Rattle.paper.specs.Refusal.Rules.{When, Ranged, HoudOfTwo, AllSystems, Spins, Inverse, Grouped, Permutes, SmallCouplings, Warm, choiceRules, More, noMore}
 use Rattle.paper.specs.Answer.Move.{Seen}
 use Rattle.paper.specs.Answer.Task.{Sweep, tasks, masked, taskCall, taskChoices, areas}
 use Rattle.paper.specs.Answer.Sweep.{common, SweepRanged, taskRules, Unmoved, SameLengths, Unwritten}
@@ -70,6 +70,7 @@ pub record ExactWas (c : Call) (p : Choices) (b : Buffers) : Type 0 where
 abbrev pub rulesWas : More → Call → Choices → Buffers → List Rule
 rulesWas m c p b =
     rule 1 (Ranged (c .lattice .n) (c .lattice .d) (c .lattice .s) (c .mode) (size c))
+    ∷ rule 15 (HoudOfTwo (c .mode) (c .form) (size c))
     ∷ rule 2 (ExactWas c p b)
     ∷ (m .lengths ++ (
     rule 3 (Spins (c .lattice .n) (AllSystems (c .lattice .s)) (b .spins))
@@ -146,6 +147,7 @@ pub record SweepExactWas (w : Sweep) (b : Buffers) : Type 0 where
 abbrev pub sweepRulesWas : More → Sweep → Buffers → List Rule
 sweepRulesWas m w b =
     rule 1 (SweepRanged w)
+    ∷ rule 15 (HoudOfTwo (w .mode) (w .form) (w .members))
     ∷ rule 2 (SweepExactWas w b)
     ∷ ((m .lengths ++ (
     rule 3 (Spins (w .lattice .n) (AllSystems (w .lattice .s)) (b .spins))

@@ -51,6 +51,7 @@ pub valid-with :
 valid-with {c} f v others = let s = v .sound in let e = s .exact in record {
   sound = record {
     ranged = s .ranged;
+    houd = s .houd;
     exact = record {
       spins = e .spins;
       fwd = e .fwd;

@@ -8,7 +8,7 @@ use Rattle.paper.specs.declared.Mode.{Mode}
 use Rattle.paper.specs.declared.Form.{Form}
 use Rattle.paper.specs.declared.Keeps.{Keeps}
 use Rattle.paper.specs.declared.Sampler.{Sampler}
-use Rattle.paper.specs.Panel.Takes.{isPerm, isGperm, isCmr, isDrawn, isSw, oneCluster, growsBy, labelsBy, moves, flipsBy, permsBy, choicesBy, greysBy}
+use Rattle.paper.specs.Panel.Takes.{isHoud, isPerm, isGperm, isCmr, isDrawn, isSw, oneCluster, growsBy, labelsBy, moves, flipsBy, permsBy, choicesBy, greysBy}
 use Rattle.paper.specs.Panel.Takes.{greyLabelsBy, keepsBy, entries, choiceWidth}
 use Rattle.paper.specs.Site.Bonds.{samplerOf}
 
@@ -17,6 +17,9 @@ new-determined t a b = one-value
 
 pub is-perm-determined : (m : Mode) (a b : Bool) → a ≡ isPerm m → b ≡ isPerm m → a ≡ b
 is-perm-determined m a b = one-value
+
+pub is-houd-determined : (m : Mode) (a b : Bool) → a ≡ isHoud m → b ≡ isHoud m → a ≡ b
+is-houd-determined m a b = one-value
 
 pub is-gperm-determined : (m : Mode) (a b : Bool) → a ≡ isGperm m → b ≡ isGperm m → a ≡ b
 is-gperm-determined m a b = one-value

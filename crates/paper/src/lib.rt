@@ -1,7 +1,7 @@
 // The types of document 01. Its definitions are in specs/, read in the order of specs/Lib.antt.
 ghost use mathlib.Core.Path.{_≡_};
 ghost use Rattle.paper.specs.Site.Bonds.{samplerOf};
-ghost use Rattle.paper.specs.Panel.Takes.{isPerm, isGperm, isCmr, isDrawn, isSw, oneCluster, growsBy, labelsBy, moves};
+ghost use Rattle.paper.specs.Panel.Takes.{isHoud, isPerm, isGperm, isCmr, isDrawn, isSw, oneCluster, growsBy, labelsBy, moves};
 ghost use Rattle.paper.specs.Panel.Takes.{flipsBy, permsBy, choicesBy, greysBy, greyLabelsBy, keepsBy, entries, choiceWidth};
 
 // A group: its size and up to eight system numbers.
@@ -36,6 +36,20 @@ impl Mode {
             Mode::Pair => false,
             Mode::Perm => true,
             Mode::Gperm => true,
+            Mode::Jorg => false,
+            Mode::Cmr => false,
+        }
+    }
+
+    // Negates both of two replicas; of more only observed.
+    pub fn is_houd(self) -> bool
+        ensures { λ r. ⌜ r ≡ isHoud self ⌝ }
+    {
+        match self {
+            Mode::Houd => true,
+            Mode::Pair => false,
+            Mode::Perm => false,
+            Mode::Gperm => false,
             Mode::Jorg => false,
             Mode::Cmr => false,
         }

@@ -57,8 +57,8 @@ gone-spins c p b b′ w = go (by-form (c .form))
 
 pub spins-after :
     (c : Call) (p : Choices) (b b′ : Buffers) (a : Answer) → Accepted a → Answers c p b a b′ → Spins (c .lattice .n) (AllSystems (c .lattice .s)) (b′ .spins)
-spins-after c p b b′ Idle idle w = rw (w .still) (w .valid .1 .1 .0)
-spins-after c p b b′ Held held w = rw (w .still) (w .valid .1 .1 .0)
+spins-after c p b b′ Idle idle w = rw (w .still) (w .valid .1 .1 .1 .0)
+spins-after c p b b′ Held held w = rw (w .still) (w .valid .1 .1 .1 .0)
 spins-after c p b b′ Moved moved w = gone-spins c p b b′ w
 
 pub length-after : (c : Call) (p : Choices) (b b′ : Buffers) (a : Answer) → Answers c p b a b′ → length (b′ .spins) ≡ length (b .spins)

@@ -14,11 +14,21 @@ use Rattle.paper.specs.Move.Moving.{other, hasOne, reached, final}
 use Rattle.paper.specs.Answer.Move.{Answers}
 use Rattle.paper.specs.Rows.Cases.{houd4, before12, after12, frame, noChoices, framePerms, allFlips, before13, after13, moved13}
 use Rattle.laws.specs.Decided.{any}
-use Rattle.laws.specs.ByAnswer.{goes-by}
+use Rattle.laws.specs.Verdicts.{refused-by}
+use Rattle.laws.specs.ByAnswer.{Shown, shown, moves-by, numbered-by, goes-by}
+use Rattle.rows.specs.Table.{HoudOfFour}
 
-pub answer12 : Answers houd4 noChoices before12 Moved after12
-unfolding every any holds acts sum sizeOf isFirst countWhere hasOne reached final table
-answer12 = goes-by houd4 noChoices before12 after12 [] [] refl (λ _. (refl, refl)) refl
+row12 : Shown houd4 noChoices before12 after12 [] []
+unfolding every any holds acts sum table hasOne sizeOf isFirst countWhere reached final
+row12 = shown houd4 noChoices before12 after12 [] [] .holds refl
+
+pub houd-of-four : HoudOfFour
+unfolding every any
+houd-of-four = record {
+  components = numbered-by houd4 noChoices before12 after12 [] [] row12;
+  moves = moves-by houd4 noChoices before12 after12 [] [] row12;
+  refused = record { why = refused-by houd4 noChoices before12 14 refl; kept = refl };
+}
 
 pub answer13 : Answers (frame Perm) framePerms before13 Moved (after13 moved13)
 unfolding every any holds acts differs sizeOf isFirst countWhere hasOne reached final table

@@ -58,9 +58,9 @@ module _ (t : Task) (c : Call) (p : Choices) (xs ts : List ℤ) (l : Lengths) wh
       → Tested t xs (p .choices) (p .greys)
   tested-of m k =
       let ranged = k .0 in
-      let fits = k .1 .0 in
-      let spins = k .1 .1 .1 .0 in
-      let grouped = k .1 .1 .1 .1 .1 .1 .0 in
+      let fits = k .1 .1 .0 in
+      let spins = k .1 .1 .1 .1 .0 in
+      let grouped = k .1 .1 .1 .1 .1 .1 .1 .0 in
       let long : length xs ≡ t .s * t .n = sym (m .spins-is) ∙ fits .spins in
       record {
         n-low = ranged .lattice .n-low;

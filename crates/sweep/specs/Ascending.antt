@@ -132,7 +132,7 @@ module _ (w : Sweep) (b : Buffers) (v : Kept (sweepRules w b)) where
     moveds = count-start _;
     helds = count-start _;
     lengths = same-lengths b;
-    spins = v .1 .1 .0;
+    spins = v .1 .1 .1 .0;
     each = λ k l e. absurd (omega arith);
     still = λ k l q. refl;
     others = λ i t l o. refl;
@@ -205,7 +205,7 @@ module _ (w : Sweep) (b : Buffers) (v : Kept (sweepRules w b)) where
 
       done-now : Done w b b″ K a
       done-now =
-          done w b b″ K a (b′ .spins) (b″ .spins) (v .1 .1 .0) (sym (h .lengths .spins)) (s .lengths .spins)
+          done w b b″ K a (b′ .spins) (b″ .spins) (v .1 .1 .1 .0) (sym (h .lengths .spins)) (s .lengths .spins)
           (λ i hi x hx. sym (own-rows i hi x hx)) accepted (rw own-areas at (s .answers)) (λ i x hi hx. refl)
 
       done-before : (k : ℕ) → k < K → masked w k ≡ false → Done w b b″ k (h .answered k)

@@ -27,22 +27,22 @@ module _ (keeping : Bool) (w : Sweep) (b : Buffers) (ts : List ℤ) where
   -- else the rules of a sweep that keeps no totals are kept, and those on the totals, and only then
   pub swept-kept : Kept (sweptRules keeping w b ts) → Kept (sweepRules w b)
   swept-kept k =
-      let q = k .1 .1 .1 in
+      let q = k .1 .1 .1 .1 in
       let h = q .1 .1 .1 .1 .1 in
       let rest = kept-left (taskRules w b (tasks w)) _ (h .1 .1 .1) in
-      (k .0, (k .1 .0, (q .0, (q .1 .0, (q .1 .1 .0, (q .1 .1 .1 .0, (q .1 .1 .1 .1 .0, (h .1 .0, (h .1 .1 .0, rest)))))))))
+      (k .0, (k .1 .0, (k .1 .1 .0, (q .0, (q .1 .0, (q .1 .1 .0, (q .1 .1 .1 .0, (q .1 .1 .1 .1 .0, (h .1 .0, (h .1 .1 .0, rest))))))))))
 
   pub swept-asked : Kept (sweptRules keeping w b ts) → TotalsAsked keeping (w .lattice) ts
   swept-asked k =
-      let h = k .1 .1 .1 .1 .1 .1 .1 .1 in
-      record { lengths = k .1 .1 .0; couplings = h .0; small = kept-last (taskRules w b (tasks w)) _ (h .1 .1 .1) .0 }
+      let h = k .1 .1 .1 .1 .1 .1 .1 .1 .1 in
+      record { lengths = k .1 .1 .1 .0; couplings = h .0; small = kept-last (taskRules w b (tasks w)) _ (h .1 .1 .1) .0 }
 
   pub asked-swept : Kept (sweepRules w b) → TotalsAsked keeping (w .lattice) ts → Kept (sweptRules keeping w b ts)
   asked-swept v a =
-      let q = v .1 .1 in
+      let q = v .1 .1 .1 in
       let h = q .1 .1 .1 .1 .1 in
       let rest = kept-both (taskRules w b (tasks w)) (totalsAsk keeping (w .lattice) ts .last) (h .1 .1) (a .small, tt) in
-      (v .0, (v .1 .0, (a .lengths, (q .0, (q .1 .0, (q .1 .1 .0, (q .1 .1 .1 .0, (q .1 .1 .1 .1 .0, (a .couplings, (h .0, (h .1 .0, rest)))))))))))
+      (v .0, (v .1 .0, (v .1 .1 .0, (a .lengths, (q .0, (q .1 .0, (q .1 .1 .0, (q .1 .1 .1 .0, (q .1 .1 .1 .1 .0, (a .couplings, (h .0, (h .1 .0, rest))))))))))))
 
   pub swept-answers :
       Kept (sweptRules keeping w b ts) → (a : SweepAnswer) (b′ : Buffers) (us : List ℤ) → SweepAnswers w b a b′

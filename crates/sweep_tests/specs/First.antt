@@ -8,7 +8,7 @@ use lib.Ieee.{Float, nan}
 use Rattle.paper.specs.Panel.Input.{Buffers}
 use Rattle.paper.specs.Panel.Takes.{drawsBonds, keepsBy}
 use Rattle.paper.specs.Refusal.Rule.{Rule, rule}
-use Rattle.paper.specs.Refusal.Rules.{When, AllSystems, Spins, Inverse, Pins, Permutes, SmallCouplings, Warm}
+use Rattle.paper.specs.Refusal.Rules.{When, HoudOfTwo, AllSystems, Spins, Inverse, Pins, Permutes, SmallCouplings, Warm}
 use Rattle.paper.specs.Refusal.Verdict.{Verdict, broken-first}
 use Rattle.paper.specs.Answer.Task.{Sweep}
 use Rattle.paper.specs.declared.Plan.{Plan}
@@ -30,10 +30,11 @@ pub record HeatLong (q : Plan) (temperatures : List Float) (masks : List ℕ) : 
   pub temperatures-long : When (drawsBonds (q .mode)) (length temperatures ≡ q .t)
   pub masks-long : length masks ≡ q .t
 
--- 1 and 2, by the numbers alone
+-- 1, 15 and 2, by the numbers alone
 abbrev pub lengthRules : Plan → Lengths → SweepLengths → List Rule
 lengthRules q l o =
     rule 1 (Planned q)
+    ∷ rule 15 (HoudOfTwo (q .mode) (q .form) (q .members))
     ∷ rule 2 (Fitting q l o)
     ∷ rule 2 (TotalsFit (keepsBy (q .keeps) (q .form)) (q .n) (q .d) (q .s) (l .couplings) (o .totals))
     ∷ []

@@ -13,7 +13,7 @@ use Rattle.paper.specs.Panel.Input.{Buffers}
 use Rattle.paper.specs.Panel.Made.{buffersOf}
 use Rattle.paper.specs.Panel.Takes.{drawsBonds, choicesBy, greysBy, keepsBy, entries, choiceBytes}
 use Rattle.paper.specs.Refusal.Rule.{Rule, rule, Kept, Broken}
-use Rattle.paper.specs.Refusal.Rules.{When}
+use Rattle.paper.specs.Refusal.Rules.{When, HoudOfTwo}
 use Rattle.paper.specs.Refusal.Verdict.{Verdict}
 use Rattle.paper.specs.Answer.Task.{Sweep, tasks}
 use Rattle.paper.specs.Answer.Sweep.{SweepRanged, SweepExact, taskRules}
@@ -108,10 +108,13 @@ module _ (keeps : Keeps) (w : Sweep) (b : Buffers) (ts : List ℤ) where
     grey-found = a .grey-found;
   }
 
-  -- where 1 and 2 are broken, so are the paper's, and past them the verdict is that on the other rules
+  abbrev Few : Type 0
+  Few = HoudOfTwo (w .mode) (w .form) (w .members)
+
+  -- where 1, 15 and 2 are broken, so are the paper's, and past them the verdict is that on the other rules
   behind : (r : ℕ) → Broken lengthsRules r → Broken (sweptRules keeping w b ts) r
   behind r (inl v) = inl ((λ h. v .0 (planned-of h)), v .1)
-  behind r (inr v) = inr (ranged-of (v .0), second (v .1))
+  behind r (inr v) = inr (ranged-of (v .0), houd (v .1))
     where
       third : Broken (rule 2 (Fit keeping (w .lattice) ts) ∷ []) r → Broken (rule 2 (When keeping (TotalLengths (w .lattice) ts)) ∷ valueRules) r
       third (inl x) = inl ((λ h. x .0 (lengths-fit keeping (w .lattice) ts h)), x .1)
@@ -122,14 +125,19 @@ module _ (keeps : Keeps) (w : Sweep) (b : Buffers) (ts : List ℤ) where
       second (inl x) = inl ((λ h. x .0 (fitting-of h)), x .1)
       second (inr x) = inr (exact-of (x .0), third (x .1))
 
+      houd : Broken (rule 15 Few ∷ rule 2 Fits ∷ rule 2 (Fit keeping (w .lattice) ts) ∷ []) r
+          → Broken (rule 15 Few ∷ rule 2 (SweepExact w b) ∷ rule 2 (When keeping (TotalLengths (w .lattice) ts)) ∷ valueRules) r
+      houd (inl x) = inl x
+      houd (inr x) = inr (x .0, second (x .1))
+
   pub broken-lengths : (r : ℕ) → (r ≡ 0 → ⊥) → Verdict lengthsRules r → Verdict (sweptRules keeping w b ts) r
   broken-lengths zero ne v = absurd (ne refl)
   broken-lengths (suc r) ne v = behind (suc r) v
 
   pub past-lengths : Kept lengthsRules → (r : ℕ) → Verdict valueRules r → Verdict (sweptRules keeping w b ts) r
-  past-lengths k zero v = (ranged-of (k .0), (exact-of (k .1 .0), (fit-lengths keeping (w .lattice) ts (k .1 .1 .0), v)))
+  past-lengths k zero v = (ranged-of (k .0), (k .1 .0, (exact-of (k .1 .1 .0), (fit-lengths keeping (w .lattice) ts (k .1 .1 .1 .0), v))))
   past-lengths k (suc r) v =
-      inr (ranged-of (k .0), inr (exact-of (k .1 .0), inr (fit-lengths keeping (w .lattice) ts (k .1 .1 .0), v)))
+      inr (ranged-of (k .0), inr (k .1 .0, inr (exact-of (k .1 .1 .0), inr (fit-lengths keeping (w .lattice) ts (k .1 .1 .1 .0), v))))
 
 -- what the tests on values lean on
 pub record Sized

@@ -65,17 +65,21 @@ fn lengths_ok(plan: Plan, l: Lengths, o: SweepLengths) -> bool
         & lattice::fits(form.one_cluster(), o.seeds, count)
 }
 
-// Tests 1 and 2.
+// Tests 1, 15 and 2.
 fn test_lengths(plan: Plan, l: Lengths, o: SweepLengths) -> u8
     ensures { λ r. ⌜ Verdict (lengthRules plan l o) r ⌝ }
 {
     if !plan_ok(plan) {
         return 1;
     }
+    let mode = plan.mode;
+    let form = plan.form;
+    if !lattice::houd_ok(mode, form, plan.members) {
+        return 15;
+    }
     if !lengths_ok(plan, l, o) {
         return 2;
     }
-    let form = plan.form;
     let keeps = plan.keeps;
     let keeping = keeps.totals(form);
     if !tests::panel::totals_lengths_ok(keeping, plan.n, plan.d, plan.s, l.couplings, o.totals) {

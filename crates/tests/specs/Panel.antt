@@ -13,7 +13,7 @@ use Rattle.paper.specs.Panel.Input.{Lattice}
 use Rattle.paper.specs.Panel.Made.{latticeOf}
 use Rattle.paper.specs.Panel.Takes.{drawsBonds, keepsBy}
 use Rattle.paper.specs.Refusal.Rule.{Rule, rule, Broken}
-use Rattle.paper.specs.Refusal.Rules.{When, Ranged, Fits, AllSystems, Spins, Inverse, Pins, Grouped, SmallCouplings, Warm}
+use Rattle.paper.specs.Refusal.Rules.{When, Ranged, HoudOfTwo, Fits, AllSystems, Spins, Inverse, Pins, Grouped, SmallCouplings, Warm}
 use Rattle.paper.specs.Answer.Totals.{TotalLengths}
 
 -- l has the lengths of these buffers
@@ -38,10 +38,11 @@ module _ (keeping : Bool) (g : Lattice) (ts : List ℤ) where
   pub lengths-fit : When keeping (TotalLengths g ts) → Fit
   lengths-fit h = record { couplings-is = λ e. h e .couplings; totals-is = λ e. h e .totals }
 
--- 1 and 2, by the numbers alone
+-- 1, 15 and 2, by the numbers alone
 abbrev pub shapeRules : Task → ℕ → Lengths → List Rule
 shapeRules t totals l =
     rule 1 (Ranged (t .n) (t .d) (t .s) (t .mode) (t .group .len))
+    ∷ rule 15 (HoudOfTwo (t .mode) (t .form) (t .group .len))
     ∷ rule 2 (Fits (t .mode) (t .form) (t .n) (t .d) (t .s) (t .group .len) l)
     ∷ rule 2 (TotalsFit (keepsBy (t .keeps) (t .form)) (t .n) (t .d) (t .s) (l .couplings) totals)
     ∷ []
@@ -62,6 +63,7 @@ contentRules t spins fwd bwd pins couplings =
 abbrev pub panelRules : Task → List ℤ → List ℤ → List ℕ → List ℕ → List ℕ → List ℤ → Lengths → List Rule
 panelRules t spins totals fwd bwd pins couplings l =
     rule 1 (Ranged (t .n) (t .d) (t .s) (t .mode) (t .group .len))
+    ∷ rule 15 (HoudOfTwo (t .mode) (t .form) (t .group .len))
     ∷ rule 2 (Fits (t .mode) (t .form) (t .n) (t .d) (t .s) (t .group .len) l)
     ∷ rule 2 (When (keepsBy (t .keeps) (t .form)) (TotalLengths (latticeOf (t .n) (t .d) (t .s) fwd bwd couplings) totals))
     ∷ contentRules t spins fwd bwd pins couplings

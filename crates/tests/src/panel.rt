@@ -64,7 +64,7 @@ pub fn totals_lengths_ok(
     lattice::fits(keeping, couplings, n * d) & lattice::fits(keeping, totals, s)
 }
 
-// Tests 1 and 2.
+// Tests 1, 15 and 2.
 fn test_shape(t: Task, totals: usize, l: Lengths) -> u8
     ensures { λ r. ⌜ Verdict (shapeRules t totals l) r ⌝ }
 {
@@ -75,6 +75,9 @@ fn test_shape(t: Task, totals: usize, l: Lengths) -> u8
     let m = group.len;
     if !lattice::ranged(t.n, t.d, t.s, mode, m) {
         return 1;
+    }
+    if !lattice::houd_ok(mode, form, m) {
+        return 15;
     }
     if !lengths_ok(mode, form, t.n, t.d, t.s, m, 1, l) {
         return 2;

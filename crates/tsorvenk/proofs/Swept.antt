@@ -44,7 +44,8 @@ module _ (k : Keeps) (coded : Bool) (w : Sweep) where
 
   roomless-at : (l : WithOutcomes) (r : ℕ) → (length (l .outcomes) ≡ 3 → ⊥) → Roomless coded (planOf k w) r → Uncounted coded w l r l
   roomless-at l r n (inl v) = record { why = inl ((λ h. v .0 (plan-fits h)), sym (v .1)); kept = refl }
-  roomless-at l r n (inr v) = record { why = inr (sweep-fits (v .0), inl (n, sym (v .1))); kept = refl }
+  roomless-at l r n (inr (v, inl h)) = record { why = inr (sweep-fits v, inl (h .0, sym (h .1))); kept = refl }
+  roomless-at l r n (inr (v, inr h)) = record { why = inr (sweep-fits v, inr (h .0, inl (n, sym (h .1)))); kept = refl }
 
 -- the mode and the form that were made of the lent numbers; what is kept is no part of a sweep
 module _ {n d s t r members : ℕ} {fwd bwd pins : List ℕ} {couplings : List ℤ} {order masks : List ℕ} {temperatures cuts : List Float}

@@ -30,7 +30,7 @@ use Rattle.tsorvenk.specs.Sweep.{WithOutcomes, outcomeRules, Counted, Un
 
 pub record Listed (r : ℕ) : Type 0 where
   pub low : 1 ≤ r
-  pub high : r ≤ 14
+  pub high : r ≤ 15
 
 abbrev AllListed : List Rule → Type 0
 AllListed [] = Unit {0}
@@ -41,7 +41,7 @@ broken-listed [] r l w = absurd w
 broken-listed (q ∷ rs) r l (inl w) = rw (w .1) at (l .0)
 broken-listed (q ∷ rs) r l (inr w) = broken-listed rs r (l .1) (w .1)
 
-listed : {k : ℕ} → 1 ≤ k → k ≤ 14 → Listed k
+listed : {k : ℕ} → 1 ≤ k → k ≤ 15 → Listed k
 listed l h = record { low = l; high = h }
 
 first-listed : {k : ℕ} → k ≡ 1 → Listed k

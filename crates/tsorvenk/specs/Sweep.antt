@@ -10,6 +10,7 @@ use Rattle.paper.specs.declared.SweepAnswer.{SweepAnswer}
 use Rattle.paper.specs.declared.SweepAnswer.the-variants.{Fault}
 use Rattle.paper.specs.Panel.Input.{Buffers}
 use Rattle.paper.specs.Refusal.Rule.{Rule, rule, Broken}
+use Rattle.paper.specs.Refusal.Rules.{HoudOfTwo}
 use Rattle.paper.specs.Answer.Number.{sweepNumber, sweepValues}
 use Rattle.paper.specs.Answer.Task.{Sweep}
 use Rattle.paper.specs.Answer.Sweep.{SweepRanged}
@@ -52,9 +53,13 @@ pub record Fits (coded : Bool) (w : Sweep) : Type 0 where
   pub ranged : SweepRanged w
   pub five : Five coded (w .members)
 
--- the buffer of three counts is one more of test 2
+-- the buffer of three counts is one more of test 2, behind 15
 abbrev pub outcomeRules : Bool → Sweep → WithOutcomes → List Rule
-outcomeRules coded w l = rule 1 (Fits coded w) ∷ rule 2 (length (l .outcomes) ≡ 3) ∷ []
+outcomeRules coded w l =
+    rule 1 (Fits coded w)
+    ∷ rule 15 (HoudOfTwo (w .mode) (w .form) (w .members))
+    ∷ rule 2 (length (l .outcomes) ≡ 3)
+    ∷ []
 
 -- with room for the counts: the sweep's answer a, and those of a sweep that was swept are written, idle tasks first and held ones last
 pub record Counted (coded keeping : Bool) (w : Sweep) (l : WithOutcomes) (a : SweepAnswer) (l′ : WithOutcomes) : Type 0 where
@@ -85,13 +90,18 @@ pub record SweepNumbers (mode form coding keeps : ℕ) (w : Sweep) (l : WithOutc
 
 -- ---- what the parts of `tsorvenk_sweep` say
 
--- without room for the counts test 1 decides
+-- without room for the counts tests 1 and 15 decide
 pub record FitsPlan (coded : Bool) (q : Plan) : Type 0 where
   pub planned : Planned q
   pub five : Five coded (q .members)
 
+abbrev pub FewHoud : Plan → Type 0
+FewHoud q = HoudOfTwo (q .mode) (q .form) (q .members)
+
 abbrev pub Roomless : Bool → Plan → ℕ → Type 0
-Roomless coded q r = ((FitsPlan coded q → ⊥) × (r ≡ 1)) ⊎ (FitsPlan coded q × (r ≡ 2))
+Roomless coded q r =
+    ((FitsPlan coded q → ⊥) × (r ≡ 1))
+    ⊎ (FitsPlan coded q × (((FewHoud q → ⊥) × (r ≡ 15)) ⊎ (FewHoud q × (r ≡ 2))))
 
 -- an answer as its number and its values
 pub record Told (a : SweepAnswer) (ts : List ℕ) (r : ℕ) (ts′ : List ℕ) : Type 0 where

@@ -19,14 +19,17 @@ ghost use Rattle.coded.specs.Takes.{numbersBy};
 ghost use Rattle.tsorvenk.specs.Number.{modeOf, formOf, keepsOf, takenOf};
 ghost use Rattle.tsorvenk.specs.Sweep.{planFor, Roomless, Told, withOutcomes, SweepNumbers};
 
-// What is refused for want of room for the three counts: test 1 comes first. By numbers it asks for groups of five.
+// What is refused for want of room for the three counts: tests 1 and 15 come first. By numbers 1 asks for groups of five.
 fn roomless(coding: Coding, plan: Plan) -> u8
     ensures { λ r. ⌜ Roomless (numbersBy coding (plan .mode) (plan .form)) plan r ⌝ }
 {
     let mode = plan.mode;
     let form = plan.form;
     if sweep_tests::plan_ok(plan) & (!coding.numbers(mode, form) | (plan.members == 5)) {
-        return 2;
+        if lattice::houd_ok(mode, form, plan.members) {
+            return 2;
+        }
+        return 15;
     }
     1
 }

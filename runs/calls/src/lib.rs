@@ -34,6 +34,15 @@ impl Mode {
     pub fn permutes(self) -> bool {
         matches!(self, Mode::Perm | Mode::Gperm)
     }
+
+    /// The largest group: CMR has two systems, and houd moves two and observes any (10/14).
+    pub fn most_members(self, form: Form) -> usize {
+        match self {
+            Mode::Cmr => 2,
+            Mode::Houd if form != Form::Observe => 2,
+            _ => 8,
+        }
+    }
 }
 
 #[derive(Clone, Copy, Debug, PartialEq, Eq)]

@@ -6,9 +6,11 @@
 //! to Wolff's call with the same seed, cuts and choices, damaged or not. Half of the calls keep totals, and all of the small
 //! shapes. A call of perm or gperm that moves a group of five is made again by numbers, damaged or not, and held to what the
 //! rows gave; with groups of other sizes it is refused. Half as many calls more are of groups of five, with faults among their
-//! numbers too. Two calls of three have pins, and the small shapes have all of them where there are not too many; the Rust, which
-//! knows none, is then held to the call without pins that must give the same, where there is one. Last come days that keep
-//! totals, a thousand calls each on one panel, with pins that change from call to call, one day for every 50 cases.
+//! numbers too. Houd moves groups of two alone, and every call of two is made again by pair, damaged or not; half as many calls
+//! more are moves of three to eight, which are refused with 15, and damaged ones of them. Two calls of three have pins, and the
+//! small shapes have all of them where there are not too many; the Rust, which knows none, is then held to the call without pins
+//! that must give the same, where there is one. Last come days that keep totals, a thousand calls each on one panel, with pins
+//! that change from call to call, one day for every 50 cases.
 use calls::{Coding, Form, Mode, Port};
 use std::process::ExitCode;
 use tsorvenk_runs::compare::{self, keep, Found, Line};
@@ -94,6 +96,25 @@ impl Run {
         }
     }
 
+    /// A move and a sweep of three to eight by houd, good but for that and then damaged: 1 comes before 15, and 15 before all others.
+    fn houd_of_more(&mut self, form: Form, number: u64, line: &mut Line) {
+        let mut rand = self.rand(Mode::Houd, form, 3, number);
+        let size = Size::mixed(&mut rand);
+        let members = rand.range(3, 8);
+        let mut case = make::single_of(&mut rand, Mode::Houd, form, size, members);
+        let found = compare::single_of_more(&case, self.port.as_mut(), line);
+        self.note(found);
+        damage::single(&mut rand, &mut case);
+        let found = compare::damaged_single(&case, self.port.as_mut(), line);
+        self.note(found);
+        let mut case = make::swept_of(&mut rand, Mode::Houd, form, size, members);
+        let found = compare::swept_of_more(&case, self.port.as_mut(), line);
+        self.note(found);
+        damage::swept(&mut rand, &mut case);
+        let found = compare::damaged_sweep(&case, self.port.as_mut(), line);
+        self.note(found);
+    }
+
     fn days(&mut self) -> days::Tally {
         let mut tally = days::Tally::default();
         for number in 0..self.cases.div_ceil(50) {
@@ -116,6 +137,9 @@ impl Run {
             if number % 2 == 0 && Coding::Numbers.numbers(mode, form) {
                 self.of_five(mode, form, number, &mut line);
             }
+            if number % 2 == 0 && mode == Mode::Houd && form != Form::Observe {
+                self.houd_of_more(form, number, &mut line);
+            }
         }
         line
     }
@@ -126,7 +150,7 @@ fn print(mode: Mode, form: Form, line: &Line) {
         "{:5} {:7} singles {:6} (all small: {:6}) sweeps {:6} | \
         Rust: labelled {:6} depth first {:6} acting sites {:6} | beside Wolff {:6} | odd N {:5} idle {:6} | \
         pinned {:6} released {:6} held {:6} | port {:6} | damaged {:6} refused {:?} | \
-        by number {:5} not of five {:6} | totals kept {:6} handed over {:?} | differences {}",
+        by number {:5} not of five {:6} | as pair {:6} houd of more {:5} | totals kept {:6} handed over {:?} | differences {}",
         mode.name(),
         form.name(),
         line.singles,
@@ -146,6 +170,8 @@ fn print(mode: Mode, form: Form, line: &Line) {
         &line.refused[1..],
         line.by_number,
         line.not_of_five,
+        line.as_pair,
+        line.houd_of_more,
         line.kept,
         line.handed,
         line.differences,

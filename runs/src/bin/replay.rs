@@ -215,12 +215,14 @@ fn random(rand: &mut Rand, mode: Mode, form: Form, single: bool) -> Entry {
     }
 }
 
-fn wanted(mode: Mode) -> Vec<u8> {
+/// A move of houd has two systems, so that none is odd (10/14).
+fn wanted(mode: Mode, form: Form) -> Vec<u8> {
     let mut marks = vec![ALONE, SELF_BOND, DOUBLE_BOND];
     if mode != Mode::Cmr {
         marks.push(IDLE);
     }
-    if matches!(mode, Mode::Houd | Mode::Pair | Mode::Jorg) {
+    let flips = matches!(mode, Mode::Houd | Mode::Pair | Mode::Jorg);
+    if flips && mode.most_members(form) > 2 {
         marks.push(ODD);
     }
     marks
@@ -229,7 +231,7 @@ fn wanted(mode: Mode) -> Vec<u8> {
 /// One case for each mark, the rest with something moved where the form moves anything, and in SW by choices that have to be
 /// found by number.
 fn sample(rand: &mut Rand, mode: Mode, form: Form, single: bool, count: usize) -> Vec<Entry> {
-    let marks = wanted(mode);
+    let marks = wanted(mode, form);
     (0..count)
         .map(|number| loop {
             let entry = random(rand, mode, form, single);

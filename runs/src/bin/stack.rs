@@ -40,7 +40,7 @@ fn line<T>(name: &str, call: impl FnOnce() -> T) {
 fn run(port: &mut dyn Port) {
     let mut rand = Rand::new(1);
     let mut most = |mode: Mode, form: Form| {
-        let members = if mode == Mode::Cmr { 2 } else { 8 };
+        let members = mode.most_members(form);
         let panel = timing::panel(&mut rand, mode, form, 4, 64);
         let case = timing::single(&mut rand, panel, members);
         let mut lent = case.lent.clone();

@@ -5,13 +5,16 @@ use crate::model::Model;
 use calls::{Answer, Coding, Port, SweepAnswer};
 use std::fmt::Debug;
 
+const WHAT: &str = "rows against numbers";
+
 /// Whether the call takes permutations, and by rows.
 fn takes_rows(panel: &Panel) -> bool {
     panel.coding == Coding::Rows && Coding::Numbers.numbers(panel.mode, panel.form)
 }
 
 /// What model and port answer and leave, beside what is expected.
-fn hold<C: Debug, A: PartialEq + Debug>(
+pub fn hold<C: Debug, A: PartialEq + Debug>(
+    what: &str,
     case: &C,
     expected: (A, &Lent),
     port: Option<&mut Box<dyn Port>>,
@@ -24,11 +27,7 @@ fn hold<C: Debug, A: PartialEq + Debug>(
         differ_lent(&mut text, expected.1, &lent);
         match text.is_empty() {
             true => text,
-            false => report(
-                &format!("{}, rows against numbers", side.name()),
-                case,
-                &text,
-            ),
+            false => report(&format!("{}, {what}", side.name()), case, &text),
         }
     };
     side(&mut Model) + &port.map_or(String::new(), |port| side(port.as_mut()))
@@ -59,7 +58,7 @@ pub fn single(
         5 => by_rows,
         _ => (Answer::Refused(1), &case.lent),
     };
-    hold(&case.by_number(), expected, port, Single::run)
+    hold(WHAT, &case.by_number(), expected, port, Single::run)
 }
 
 /// The same of a sweep, masked tasks or not.
@@ -77,5 +76,5 @@ pub fn swept(
         5 => by_rows,
         _ => (SweepAnswer::Refused(1), &case.lent),
     };
-    hold(&case.by_number(), expected, port, Swept::run)
+    hold(WHAT, &case.by_number(), expected, port, Swept::run)
 }

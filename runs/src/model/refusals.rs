@@ -1,4 +1,4 @@
-//! The refusal tests, each by itself; the calls ask them in the order of their numbers.
+//! The refusal tests, each by itself; the calls ask them in the order of their numbers, but for 15, which stands behind 1.
 use super::bonds::acts;
 use super::{Panel, Task};
 use calls::{Coding, Form, Mode};
@@ -9,6 +9,12 @@ pub fn sizes_refused(n: usize, d: usize, s: usize) -> bool {
 
 pub fn members_refused(mode: Mode, members: usize) -> bool {
     !(2..=8).contains(&members) || (mode == Mode::Cmr && members != 2)
+}
+
+/// Request 10/14: a move of more than two by houd changes the group's energy. To observe moves nothing.
+pub fn houd_refused(mode: Mode, form: Form, members: usize) -> bool {
+    let moves = matches!(form, Form::Sw | Form::Wolff | Form::Grow);
+    mode == Mode::Houd && moves && members > 2
 }
 
 /// Numbers are those of the permutations of five.

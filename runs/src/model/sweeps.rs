@@ -88,6 +88,9 @@ pub fn sweep_refusal(call: &Sweep) -> Option<u8> {
     {
         return Some(1);
     }
+    if houd_refused(call.mode, call.form, call.members) {
+        return Some(15);
+    }
     if sweep_length_refused(call) || totals_length_refused(keeping, panel, call.totals) {
         return Some(2);
     }

@@ -14,7 +14,7 @@ use Rattle.paper.specs.Panel.Input.{Call, Buffers, spin, pattern, system
 use Rattle.paper.specs.Panel.Takes.{growsBy, labelsBy, takesCuts, takesChoices, takesGreys, takesGreyLabels, takesReference, takesSeed}
 use Rattle.paper.specs.Panel.Takes.{entries, choiceBytes}
 use Rattle.paper.specs.Refusal.Rule.{Rule, rule, Broken}
-use Rattle.paper.specs.Refusal.Rules.{When, Ranged, AllSystems, Spins, Inverse, Pins, Permutes, SmallCouplings, Warm, choiceRules, More, noMore}
+use Rattle.paper.specs.Refusal.Rules.{When, Ranged, HoudOfTwo, AllSystems, Spins, Inverse, Pins, Permutes, SmallCouplings, Warm, choiceRules, More, noMore}
 use Rattle.paper.specs.Refusal.Verdict.{Verdict}
 use Rattle.paper.specs.Answer.Number.{sweepNumber, sweepValues}
 use Rattle.paper.specs.Answer.Move.{Answers}
@@ -60,6 +60,7 @@ taskRules w b (suc k) = taskRules w b k ++ cond (masked w k) [] (choiceRules (ta
 abbrev pub sharedRules : More → Sweep → Buffers → List Rule
 sharedRules m w b =
     rule 1 (SweepRanged w)
+    ∷ rule 15 (HoudOfTwo (w .mode) (w .form) (w .members))
     ∷ rule 2 (SweepExact w b)
     ∷ (m .lengths ++ (
     rule 3 (Spins (w .lattice .n) (AllSystems (w .lattice .s)) (b .spins))

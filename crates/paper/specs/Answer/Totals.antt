@@ -13,7 +13,8 @@ use Rattle.paper.specs.declared.SweepAnswer.the-variants.{Fault, Swept}
 use Rattle.paper.specs.Panel.Input.{Lattice, Call, Choices, Buffers, member}
 use Rattle.paper.specs.Site.Energy.{energy}
 use Rattle.paper.specs.Refusal.Rule.{Rule, rule, Broken, Kept}
-use Rattle.paper.specs.Refusal.Rules.{When, Sizes, AllSystems, Spins, Inverse, SmallCouplings, choiceRules, More, rulesWith}
+use Rattle.paper.specs.Panel.Takes.{takesCuts}
+use Rattle.paper.specs.Refusal.Rules.{When, Sizes, AllSystems, Spins, Inverse, SmallCouplings, Warm, choiceRules, More, rulesWith}
 use Rattle.paper.specs.Refusal.Kept.{Valid, valid-of}
 use Rattle.paper.specs.Answer.Number.{number, sweepNumber}
 use Rattle.paper.specs.Answer.Meter.{MeterExact}
@@ -65,15 +66,16 @@ pub record TotalsReady (keeping : Bool) (g : Lattice) (o : Group) (ts : List ℤ
 module _ (keeping : Bool) (c : Call) (p : Choices) (b : Buffers) (ts : List ℤ) where
   pub kept-valid : Kept (keptRules keeping c p b ts) → Valid c p b
   kept-valid k =
-      let q = k .1 .1 .1 in
+      let q = k .1 .1 .1 .1 in
       let h = q .1 .1 .1 .1 .1 .1 in
-      valid-of c p b
-      (k .0, (k .1 .0, (q .0, (q .1 .0, (q .1 .1 .0, (q .1 .1 .1 .0, (q .1 .1 .1 .1 .0, (h .0, (h .1 .0, (h .1 .1 .0, (h .1 .1 .1 .0, tt)))))))))))
+      let last : Kept (rule 7 (When (takesCuts c) (Warm (c .temperature))) ∷ choiceRules c p (b .spins)) =
+      (h .0, (h .1 .0, (h .1 .1 .0, (h .1 .1 .1 .0, tt)))) in
+      valid-of c p b (k .0, (k .1 .0, (k .1 .1 .0, (q .0, (q .1 .0, (q .1 .1 .0, (q .1 .1 .1 .0, (q .1 .1 .1 .1 .0, last))))))))
 
   pub kept-asked : Kept (keptRules keeping c p b ts) → TotalsAsked keeping (c .lattice) ts
   kept-asked k =
-      let h = k .1 .1 .1 .1 .1 .1 .1 .1 in
-      record { lengths = k .1 .1 .0; couplings = h .0; small = h .1 .1 .1 .1 .1 .0 }
+      let h = k .1 .1 .1 .1 .1 .1 .1 .1 .1 in
+      record { lengths = k .1 .1 .1 .0; couplings = h .0; small = h .1 .1 .1 .1 .1 .0 }
 
   last-kept : Valid c p b → TotalsAsked keeping (c .lattice) ts → Kept (choiceRules c p (b .spins) ++ totalsAsk keeping (c .lattice) ts .last)
   last-kept v a = let f = v .fit in (f .cuts, (f .chosen, (f .seeded, (a .small, tt))))
@@ -81,7 +83,7 @@ module _ (keeping : Bool) (c : Call) (p : Choices) (b : Buffers) (ts : List ℤ)
   pub asked-kept : Valid c p b → TotalsAsked keeping (c .lattice) ts → Kept (keptRules keeping c p b ts)
   asked-kept v a =
       let s = v .sound in
-      (s .ranged, (s .exact, (a .lengths, (s .spins, (s .inverse, (s .pins, (s .grouped, (s .couplings, (a .couplings, (s .warm, last-kept v a))))))))))
+      (s .ranged, (s .houd, (s .exact, (a .lengths, (s .spins, (s .inverse, (s .pins, (s .grouped, (s .couplings, (a .couplings, (s .warm, last-kept v a)))))))))))
 
 -- ---- what becomes of the totals
 

@@ -17,6 +17,14 @@ isPerm Gperm = true
 isPerm Jorg = false
 isPerm Cmr = false
 
+abbrev pub isHoud : Mode → Bool
+isHoud Houd = true
+isHoud Pair = false
+isHoud Perm = false
+isHoud Gperm = false
+isHoud Jorg = false
+isHoud Cmr = false
+
 abbrev pub isGperm : Mode → Bool
 isGperm Houd = false
 isGperm Pair = false

@@ -4,12 +4,13 @@ use lib.IntN.{ℤ}
 use Rattle.paper.specs.Panel.Input.{Call, Choices, Buffers, size}
 use Rattle.paper.specs.Panel.Takes.{takesCuts}
 use Rattle.paper.specs.Refusal.Rule.{Kept}
-use Rattle.paper.specs.Refusal.Rules.{When, Ranged, Exact, AllSystems, Spins, Inverse, Pins, Grouped, SmallCouplings, Warm, Cuts}
+use Rattle.paper.specs.Refusal.Rules.{When, Ranged, HoudOfTwo, Exact, AllSystems, Spins, Inverse, Pins, Grouped, SmallCouplings, Warm, Cuts}
 use Rattle.paper.specs.Refusal.Rules.{Chosen, Seeded, choiceRules, rules}
 
--- 1 to 7
+-- 1 to 7, and 15
 pub record Sound (c : Call) (p : Choices) (b : Buffers) : Type 0 where
   pub ranged : Ranged (c .lattice .n) (c .lattice .d) (c .lattice .s) (c .mode) (size c)
+  pub houd : HoudOfTwo (c .mode) (c .form) (size c)
   pub exact : Exact c p b
   pub spins : Spins (c .lattice .n) (AllSystems (c .lattice .s)) (b .spins)
   pub inverse : Inverse (c .lattice .n) (c .lattice .d) (c .lattice .fwd) (c .lattice .bwd)
@@ -39,18 +40,19 @@ pub valid-of : (c : Call) (p : Choices) (b : Buffers) → Kept (rules c p b) →
 valid-of c p b k = record {
   sound = record {
     ranged = k .0;
-    exact = k .1 .0;
-    spins = k .1 .1 .0;
-    inverse = k .1 .1 .1 .0;
-    pins = k .1 .1 .1 .1 .0;
-    grouped = k .1 .1 .1 .1 .1 .0;
-    couplings = k .1 .1 .1 .1 .1 .1 .0;
-    warm = k .1 .1 .1 .1 .1 .1 .1 .0;
+    houd = k .1 .0;
+    exact = k .1 .1 .0;
+    spins = k .1 .1 .1 .0;
+    inverse = k .1 .1 .1 .1 .0;
+    pins = k .1 .1 .1 .1 .1 .0;
+    grouped = k .1 .1 .1 .1 .1 .1 .0;
+    couplings = k .1 .1 .1 .1 .1 .1 .1 .0;
+    warm = k .1 .1 .1 .1 .1 .1 .1 .1 .0;
   };
-  fit = fit-of c p (b .spins) (k .1 .1 .1 .1 .1 .1 .1 .1);
+  fit = fit-of c p (b .spins) (k .1 .1 .1 .1 .1 .1 .1 .1 .1);
 }
 
 pub valid-kept : (c : Call) (p : Choices) (b : Buffers) → Valid c p b → Kept (rules c p b)
 valid-kept c p b v =
     let s = v .sound in
-    (s .ranged, (s .exact, (s .spins, (s .inverse, (s .pins, (s .grouped, (s .couplings, (s .warm, fit-kept c p (b .spins) (v .fit)))))))))
+    (s .ranged, (s .houd, (s .exact, (s .spins, (s .inverse, (s .pins, (s .grouped, (s .couplings, (s .warm, fit-kept c p (b .spins) (v .fit))))))))))

@@ -1,4 +1,4 @@
--- The refusals 1 to 10, as the rules that an accepted input keeps, in their order. A rule asks only of what the mode and form take.
+-- The refusals 1 to 10 and 15, as the rules that an accepted input keeps, in their order. A rule asks only of what the mode and form take.
 use Prim.Native.Nat.{ℕ, _+_, _*_, _≤_, _<_}
 use mathlib.Core.Path.{_≡_}
 use mathlib.Core.Logic.{_⊎_}
@@ -13,7 +13,7 @@ use Rattle.paper.specs.declared.Mode.{Mode}
 use Rattle.paper.specs.declared.Form.{Form}
 use Rattle.paper.specs.declared.Lengths.{Lengths}
 use Rattle.paper.specs.Panel.Input.{Call, Choices, Buffers, size, member, spin}
-use Rattle.paper.specs.Panel.Takes.{isCmr, oneCluster, growsBy, labelsBy, drawsBonds, choicesBy, greysBy, greyLabelsBy, entries, choiceBytes}
+use Rattle.paper.specs.Panel.Takes.{isHoud, isCmr, moves, oneCluster, growsBy, labelsBy, drawsBonds, choicesBy, greysBy, greyLabelsBy, entries, choiceBytes}
 use Rattle.paper.specs.Panel.Takes.{takesCuts, takesFlips, takesPerms, takesGreys, takesReference, takesSeed}
 use Rattle.paper.specs.Site.Acting.{acts, SomeActs}
 use Rattle.paper.specs.Site.Bonds.{whole}
@@ -38,6 +38,10 @@ pub record Ranged (n d s : ℕ) (mode : Mode) (m : ℕ) : Type 0 where
   pub size-low : 2 ≤ m
   pub size-high : m ≤ 8
   pub cmr-two : When (isCmr mode) (m ≡ 2)
+
+-- houd moves groups of two alone: with more it changes the group's energy. To observe any number goes
+abbrev pub HoudOfTwo : Mode → Form → ℕ → Type 0
+HoudOfTwo mode form m = When (isHoud mode && moves form) (m ≤ 2)
 
 -- the exact lengths, for n sites, d directions, s systems and a group of m
 pub record Fits (mode : Mode) (form : Form) (n d s m : ℕ) (l : Lengths) : Type 0 where
@@ -174,6 +178,7 @@ noMore = record { lengths = []; couplings = []; last = [] }
 abbrev pub rulesWith : More → Call → Choices → Buffers → List Rule
 rulesWith m c p b =
     rule 1 (Ranged (c .lattice .n) (c .lattice .d) (c .lattice .s) (c .mode) (size c))
+    ∷ rule 15 (HoudOfTwo (c .mode) (c .form) (size c))
     ∷ rule 2 (Exact c p b)
     ∷ (m .lengths ++ (
     rule 3 (Spins (c .lattice .n) (AllSystems (c .lattice .s)) (b .spins))

@@ -14,11 +14,11 @@ use Rattle.paper.specs.declared.BondKind.the-variants.{Red}
 use Rattle.paper.specs.Site.Bonds.{whole, samplerOf, jorgHolds, greyHolds, holds, holdsGrey}
 use Rattle.paper.specs.Site.Energy.{energy}
 use Rattle.paper.specs.Move.Moving.{other, partner, permute, reachedBy, hasOne, reached, after, afterGrey, final}
-use Rattle.paper.specs.Refusal.Rules.{Warm, isCut, rules}
+use Rattle.paper.specs.Refusal.Rules.{HoudOfTwo, Warm, isCut, rules}
 use Rattle.paper.specs.Rows.Cases.{+, -, of, row, line, first}
 use Rattle.paper.specs.declared.Mode.{Mode}
-use Rattle.paper.specs.declared.Mode.the-variants.{Pair, Perm, Cmr}
-use Rattle.paper.specs.declared.Form.the-variants.{Sw, Grow}
+use Rattle.paper.specs.declared.Mode.the-variants.{Houd, Pair, Perm, Cmr}
+use Rattle.paper.specs.declared.Form.the-variants.{Sw, Wolff, Observe, Grow}
 use Rattle.paper.specs.declared.Answer.the-variants.{Idle, Held, Moved}
 use Rattle.paper.specs.declared.SweepAnswer.the-variants.{Swept}
 use Rattle.paper.specs.declared.MeterAnswer.the-variants.{Energy}
@@ -294,13 +294,32 @@ inOrder [] = []
 inOrder (r ∷ rs) = r .number ∷ inOrder rs
 
 pub record Orders : Type 0 where
-  pub move : (c : Call) (p : Choices) (b : Buffers) → inOrder (rules c p b) ≡ 1 ∷ 2 ∷ 3 ∷ 4 ∷ 4 ∷ 5 ∷ 6 ∷ 7 ∷ 8 ∷ 9 ∷ 10 ∷ []
+  pub move : (c : Call) (p : Choices) (b : Buffers) → inOrder (rules c p b) ≡ 1 ∷ 15 ∷ 2 ∷ 3 ∷ 4 ∷ 4 ∷ 5 ∷ 6 ∷ 7 ∷ 8 ∷ 9 ∷ 10 ∷ []
   pub sweep :
       (w : Sweep) (b : Buffers)
-      → inOrder (sweepRules w b) ≡ 1 ∷ 2 ∷ 3 ∷ 4 ∷ 4 ∷ 5 ∷ 6 ∷ 7 ∷ 9 ∷ inOrder (taskRules w b (tasks w))
+      → inOrder (sweepRules w b) ≡ 1 ∷ 15 ∷ 2 ∷ 3 ∷ 4 ∷ 4 ∷ 5 ∷ 6 ∷ 7 ∷ 9 ∷ inOrder (taskRules w b (tasks w))
 
 pub orders : Orders
 orders = record { move = λ c p b. refl; sweep = λ w b. refl }
+
+-- houd of three is refused where it moves, in every such form; of two it is not, nor where it observes, nor pair of any number
+pub record HoudGoes : Type 0 where
+  pub sw : HoudOfTwo Houd Sw 3 → ⊥
+  pub wolff : HoudOfTwo Houd Wolff 3 → ⊥
+  pub grow : HoudOfTwo Houd Grow 3 → ⊥
+  pub two : HoudOfTwo Houd Sw 2
+  pub observed : HoudOfTwo Houd Observe 8
+  pub pair : HoudOfTwo Pair Sw 8
+
+pub houd-goes : HoudGoes
+houd-goes = record {
+  sw = λ h. absurd (omega (arith, h refl));
+  wolff = λ h. absurd (omega (arith, h refl));
+  grow = λ h. absurd (omega (arith, h refl));
+  two = λ _. omega arith;
+  observed = λ e. never e;
+  pair = λ e. never e;
+}
 
 -- a mask byte 1 masks, and 0 does not
 pub record Masks (w : Sweep) (k : ℕ) : Type 0 where

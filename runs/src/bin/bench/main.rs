@@ -31,9 +31,9 @@ struct Bench {
     ratios: Ratios,
 }
 
-fn sizes(mode: Mode) -> &'static [usize] {
-    match mode {
-        Mode::Cmr => &[2],
+fn sizes(mode: Mode, form: Form) -> &'static [usize] {
+    match mode.most_members(form) {
+        2 => &[2],
         _ => &[2, 4, 8],
     }
 }
@@ -99,7 +99,8 @@ fn by_size(
     for mode in Mode::ALL {
         for &d in directions(mode) {
             for form in Form::LABELLED {
-                let cells = sizes(mode).iter().map(|&m| cell(bench, mode, form, d, m));
+                let sizes = sizes(mode, form).iter();
+                let cells = sizes.map(|&m| cell(bench, mode, form, d, m));
                 let name = format!("{} {}, D = {d}", mode.name(), form.name());
                 row(&name, cells.collect(), 3);
             }
@@ -116,7 +117,7 @@ fn grown_sweeps(bench: &mut Bench) {
     head(title, "Mode", &["N = 2", "N = 4", "N = 8"]);
     for mode in Mode::ALL {
         for d in [2, 3] {
-            let cells = sizes(mode)
+            let cells = sizes(mode, Form::Grow)
                 .iter()
                 .map(|&m| bench.grown_sweep_cell(mode, d, m));
             row(&format!("{}, D = {d}", mode.name()), cells.collect(), 3);

@@ -66,7 +66,7 @@ impl Bench {
         head(&title, "Mode", &["N = 2", "N = 4", "N = 8"]);
         for mode in Mode::ALL {
             for d in [2, 3] {
-                let cells = sizes(mode)
+                let cells = sizes(mode, form)
                     .iter()
                     .map(|&members| self.totals_cell(mode, form, d, members, share));
                 row(&format!("{}, D = {d}", mode.name()), cells.collect(), 3);
@@ -88,7 +88,7 @@ fn as_many_sites_move_as_are_said_to() {
     let mut rand = tsorvenk_runs::rand::Rand::new(1);
     for mode in Mode::ALL {
         for (d, share) in [2, 3].into_iter().flat_map(|d| Share::ALL.map(|s| (d, s))) {
-            for &members in sizes(mode) {
+            for &members in sizes(mode, Form::Sw) {
                 let case = piece(&mut rand, (mode, Form::Sw), d, members, share);
                 let (answer, after) = case.run(&mut Model);
                 assert_eq!(answer, Answer::Moved);

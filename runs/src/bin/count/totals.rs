@@ -74,7 +74,10 @@ pub fn all() {
     println!("what keeping totals takes, tests aside, S = N");
     for (form, share) in [(Form::Sw, 1), (Form::Sw, 2), (Form::Grow, 0)] {
         for mode in Mode::ALL {
-            let sizes: &[usize] = if mode == Mode::Cmr { &[2] } else { &[2, 8] };
+            let sizes: &[usize] = match mode.most_members(form) {
+                2 => &[2],
+                _ => &[2, 8],
+            };
             for &members in sizes {
                 line([mode as usize, form as usize, 2, members, share]);
             }

@@ -84,7 +84,7 @@ step-requires c κs =
     let s = S (C l) in
     let h = z .inv .ran in
     record {
-      placing = record { task = record { planned = planned s; below = below l }; long = s .pre .0 .1 .0 .order };
+      placing = record { task = record { planned = planned s; below = below l }; long = s .pre .0 .1 .1 .0 .order };
       room = room-of (W s) (B s) (z .k) (z .outcomes) (now-at l) (few-tasks (s .args .plan) (planned s)) h;
       valid = ran-valid (W s) (B s) (s .pre .0) (z .k) (z .outcomes .idle) (z .outcomes .moved) (z .outcomes .held) (now-at l) (below l) h;
       ready =

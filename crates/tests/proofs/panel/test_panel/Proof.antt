@@ -44,7 +44,7 @@ rows-tell : (e : tie.After-spins-ok) → let a = S1 (e .before) .args in
     Tells (e .spins-ok .result) (Spins (a .t .n) (AllSystems (a .t .s)) (now (a .spins)))
 rows-tell e =
     let s = S1 (e .before) in
-    let long = sym (s .pre .spins-is) ∙ k1 (e .before) .1 .0 .spins in
+    let long = sym (s .pre .spins-is) ∙ k1 (e .before) .1 .1 .0 .spins in
     all-rows (s .args .t .n) (s .args .t .s) (now (s .args .spins)) long (e .spins-ok .result) (e .spins-ok .ensures)
 
 k3 : (e : tie.Else2) → let a = S1 (E1 e) .args in Spins (a .t .n) (AllSystems (a .t .s)) (now (a .spins))
@@ -131,12 +131,12 @@ returns-2 : tie.Need-returns-2
 returns-2 c =
     let t = c .before in
     let e = t .before in
-    inr (k1 e .0, inr (k1 e .1 .0, inr (k2 e, inl (refused (t .spins-ok .result) (c .if2 .taken) (rows-tell t), refl))))
+    inr (k1 e .0, inr (k1 e .1 .0, inr (k1 e .1 .1 .0, inr (k2 e, inl (refused (t .spins-ok .result) (c .if2 .taken) (rows-tell t), refl)))))
 
 tables-ok-requires : tie.Need-tables-ok-requires
 tables-ok-requires c κs =
     let s = S1 (E1 c) in
-    let f = k1 (E1 c) .1 .0 in
+    let f = k1 (E1 c) .1 .1 .0 in
     record { fwd-long = sym (s .pre .fwd-is) ∙ f .fwd; bwd-long = sym (s .pre .bwd-is) ∙ f .bwd }
 
 returns-3 : tie.Need-returns-3
@@ -144,7 +144,7 @@ returns-3 c =
     let t = c .before in
     let f = t .before in
     let e = E1 f in
-    inr (k1 e .0, inr (k1 e .1 .0, inr (k2 e, inr (k3 f, inl (refused (t .tables-ok .result) (c .if3 .taken) (t .tables-ok .ensures), refl)))))
+    inr (k1 e .0, inr (k1 e .1 .0, inr (k1 e .1 .1 .0, inr (k2 e, inr (k3 f, inl (refused (t .tables-ok .result) (c .if3 .taken) (t .tables-ok .ensures), refl))))))
 
 bytes-at-most-requires : tie.Need-bytes-at-most-requires
 bytes-at-most-requires c κs = search needs
@@ -156,7 +156,7 @@ returns-4 c =
     let f = E2 i in
     let e = E1 f in
     let no = refused (t .bytes-at-most .result) (c .if4 .taken) (t .bytes-at-most .ensures) in
-    inr (k1 e .0, inr (k1 e .1 .0, inr (k2 e, inr (k3 f, inr (k4 i, inl (no, refl))))))
+    inr (k1 e .0, inr (k1 e .1 .0, inr (k1 e .1 .1 .0, inr (k2 e, inr (k3 f, inr (k4 i, inl (no, refl)))))))
 
 group-ok-requires : tie.Need-group-ok-requires
 group-ok-requires c κs = k1 (E1 (E2 (E3 (c .before)))) .0 .size-high
@@ -169,7 +169,7 @@ returns-5 c =
     let f = E2 i in
     let e = E1 f in
     let no = refused (t .group-ok .result) (c .if5 .taken) (t .group-ok .ensures) in
-    inr (k1 e .0, inr (k1 e .1 .0, inr (k2 e, inr (k3 f, inr (k4 i, inr (k4-pins p, inl (no, refl)))))))
+    inr (k1 e .0, inr (k1 e .1 .0, inr (k1 e .1 .1 .0, inr (k2 e, inr (k3 f, inr (k4 i, inr (k4-pins p, inl (no, refl))))))))
 
 is-drawn-requires : tie.Need-is-drawn-requires
 is-drawn-requires c κs = search needs
@@ -195,17 +195,20 @@ returns-6 c =
       inr (
         k1 e .1 .0,
         inr (
-          k2 e,
+          k1 e .1 .1 .0,
           inr (
-            k3 f,
+            k2 e,
             inr (
-              k4 i,
+              k3 f,
               inr (
-                k4-pins p,
+                k4 i,
                 inr (
-                  k5 g,
-                  either-broken (drawsBonds (a .t .mode)) (keepsBy (a .t .keeps) (a .t .form)) (SmallCouplings (now (a .couplings))) 6
-                      (rule 7 (When (drawsBonds (a .t .mode)) (Warm (a .t .temperature))) ∷ []) no,
+                  k4-pins p,
+                  inr (
+                    k5 g,
+                    either-broken (drawsBonds (a .t .mode)) (keepsBy (a .t .keeps) (a .t .form)) (SmallCouplings (now (a .couplings))) 6
+                        (rule 7 (When (drawsBonds (a .t .mode)) (Warm (a .t .temperature))) ∷ []) no,
+                  ),
                 ),
               ),
             ),
@@ -233,20 +236,23 @@ returns-7 c =
       inr (
         k1 e .1 .0,
         inr (
-          k2 e,
+          k1 e .1 .1 .0,
           inr (
-            k3 f,
+            k2 e,
             inr (
-              k4 i,
+              k3 f,
               inr (
-                k4-pins p,
+                k4 i,
                 inr (
-                  k5 g,
+                  k4-pins p,
                   inr (
-                    k6-drawn j,
+                    k5 g,
                     inr (
-                      k6-kept j,
-                      inl ((λ w. cold (λ q. w (sym (d .is-drawn .ensures) ∙ q))), refl),
+                      k6-drawn j,
+                      inr (
+                        k6-kept j,
+                        inl ((λ w. cold (λ q. w (sym (d .is-drawn .ensures) ∙ q))), refl),
+                      ),
                     ),
                   ),
                 ),
@@ -265,7 +271,7 @@ returns-8 c =
     let i = E3 p in
     let f = E2 i in
     let e = E1 f in
-    (k1 e .0, (k1 e .1 .0, (k2 e, (k3 f, (k4 i, (k4-pins p, (k5 g, (k6-drawn j, (k6-kept j, (k7 c, tt))))))))))
+    (k1 e .0, (k1 e .1 .0, (k1 e .1 .1 .0, (k2 e, (k3 f, (k4 i, (k4-pins p, (k5 g, (k6-drawn j, (k6-kept j, (k7 c, tt)))))))))))
 
 pub test-panel-spec : {M : Type 1} → statement M
 test-panel-spec =

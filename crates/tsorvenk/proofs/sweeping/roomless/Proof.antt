@@ -27,11 +27,21 @@ fits c =
     (λ h. record { planned = h .0; five = λ e. h .1 (n .ensures ∙ e) }) (λ k. (k .planned, λ e. k .five (sym (n .ensures) ∙ e)))
     (both (said (c .before .plan-ok .result) (Planned (a .plan)) (c .before .plan-ok .ensures)) (implies (test-is (n .result)) (test-eq (a .plan .members) 5)))
 
+houd-ok-requires : tie.Need-houd-ok-requires
+houd-ok-requires c κs = search needs
+
 returns : tie.Need-returns
-returns c = inr (told (c .if1 .taken) (fits (c .before .before) .says), refl)
+returns c =
+    let h = c .before in
+    inr (told (h .before .if1 .taken) (fits (h .before .before .before) .says), inr (told (c .if2 .taken) (h .houd-ok .ensures), refl))
 
 returns-2 : tie.Need-returns-2
-returns-2 c = inl (denied (c .if1 .left) (fits (c .before .before) .says), refl)
+returns-2 c =
+    let h = c .before in
+    inr (told (h .before .if1 .taken) (fits (h .before .before .before) .says), inl (denied (c .if2 .left) (h .houd-ok .ensures), refl))
+
+returns-3 : tie.Need-returns-3
+returns-3 c = inl (denied (c .if1 .left) (fits (c .before .before) .says), refl)
 
 pub roomless-spec : {M : Type 1} → statement M
-roomless-spec = tie.close (tie.spec plan-ok-requires numbers-requires returns returns-2)
+roomless-spec = tie.close (tie.spec plan-ok-requires numbers-requires houd-ok-requires returns returns-2 returns-3)

@@ -1,0 +1,48 @@
+//! What is counted, and a difference.
+
+/// How much was compared for one mode and form.
+#[derive(Default)]
+pub struct Line {
+    pub all_small: usize,
+    pub singles: usize,
+    pub sweeps: usize,
+    pub union_find: usize,
+    pub depth_first: usize,
+    /// Calls that grow, held to Wolff's.
+    pub wolff: usize,
+    pub acting: usize,
+    pub odd: usize,
+    pub idle: usize,
+    /// Calls with pins, those of them that the Rust is held to without pins, and held tasks.
+    pub pinned: usize,
+    pub released: usize,
+    pub held: usize,
+    pub port: usize,
+    pub damaged: usize,
+    /// Damaged calls by the model's refusal number; entry 0 those that are accepted all the same.
+    pub refused: [usize; 16],
+    /// Calls by rows of five that are made again by numbers, and calls by numbers whose group is not of five.
+    pub by_number: usize,
+    pub not_of_five: usize,
+    /// Calls of two by houd that are made again by pair, and moves of more than two by houd, which are refused.
+    pub as_pair: usize,
+    pub houd_of_more: usize,
+    /// Calls that keep totals.
+    pub kept: usize,
+    /// What the model answers to a hand-over of the panel, good or damaged, by number.
+    pub handed: [usize; 15],
+    pub differences: usize,
+}
+
+/// A difference, with a measure of its case's size.
+pub struct Found {
+    pub weight: usize,
+    pub text: String,
+}
+
+/// Keeps the smallest.
+pub fn keep(smallest: &mut Option<Found>, found: Found) {
+    if smallest.as_ref().is_none_or(|s| found.weight < s.weight) {
+        *smallest = Some(found);
+    }
+}
