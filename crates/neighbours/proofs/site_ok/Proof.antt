@@ -3,8 +3,8 @@ use Prim.Native.Nat.{_-_}
 use borrow.Author.Needs.{needs}
 use Rattle.lemmas.specs.Tells.{Flagged, said, flag-start, flag-more, flag-end}
 use Rattle.paper.specs.Refusal.Rules.{Back}
-use Rattle.lattice.proofs.site_ok.Statement.{statement}
-use Rattle.lattice.proofs.site_ok.Tie as tie
+use Rattle.neighbours.proofs.site_ok.Statement.{statement}
+use Rattle.neighbours.proofs.site_ok.Tie as tie
 
 abbrev Inv-loop : tie.InvT-loop
 Inv-loop n d a b i ok₀ e₀ ok e = Flagged d (λ e. Back n d a b i e) e ok

@@ -3,9 +3,9 @@ use Prim.Native.Nat.{_-_}
 use borrow.Author.Needs.{needs}
 use Rattle.lemmas.specs.Tells.{Each, Flagged, same, said, flag-start, flag-more, flag-end}
 use Rattle.paper.specs.Refusal.Rules.{Back, Inverse}
-use Rattle.lattice.specs.Tables.{inverse-of}
-use Rattle.lattice.proofs.tables_ok.Statement.{statement}
-use Rattle.lattice.proofs.tables_ok.Tie as tie
+use Rattle.neighbours.specs.Tables.{inverse-of}
+use Rattle.neighbours.proofs.tables_ok.Statement.{statement}
+use Rattle.neighbours.proofs.tables_ok.Tie as tie
 
 abbrev Inv-loop : tie.InvT-loop
 Inv-loop n d fwd bwd ok₀ i₀ ok i = Flagged n (λ i. Each d (λ e. Back n d fwd bwd i e)) i ok

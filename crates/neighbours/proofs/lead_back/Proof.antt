@@ -3,9 +3,9 @@ use Prim.Native.Nat.{_+_, _*_, _<_}
 use native.Mathlib.Omega.{arith}
 use borrow.Author.Needs.{needs}
 use Rattle.lemmas.specs.Cells.{cell-lt}
-use Rattle.lattice.specs.Backward.{led-past, led-more}
-use Rattle.lattice.proofs.lead_back.Statement.{statement}
-use Rattle.lattice.proofs.lead_back.Tie as tie
+use Rattle.neighbours.specs.Backward.{led-past, led-more}
+use Rattle.neighbours.proofs.lead_back.Statement.{statement}
+use Rattle.neighbours.proofs.lead_back.Tie as tie
 
 -- the place that is read, and the one that is written
 at1 : (c : tie.Start) → c .args .i * c .args .d + c .args .e < c .args .n * c .args .d

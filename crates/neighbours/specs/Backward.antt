@@ -10,7 +10,7 @@ use lib.ListN.{length, getD, set, length-set}
 use lib.Seq.{ext-getD, getD-set-same, getD-set-other}
 use Rattle.lemmas.specs.Cells.{cell-lt}
 use Rattle.paper.specs.Refusal.Rules.{Inverse}
-use Rattle.lattice.specs.Tables.{inverse-of}
+use Rattle.neighbours.specs.Tables.{inverse-of}
 
 -- what is lent: a table to read and one to fill
 pub record Turnable (n d : ℕ) (fwd bwd : List ℕ) : Type 0 where

@@ -3,9 +3,9 @@ use Prim.Native.Nat.{_+_, _*_, _<_}
 use native.Mathlib.Omega.{arith}
 use borrow.Author.Needs.{needs}
 use Rattle.lemmas.specs.Cells.{cell-lt}
-use Rattle.lattice.specs.Tables.{back-test, back-none}
-use Rattle.lattice.proofs.back_ok.Statement.{statement}
-use Rattle.lattice.proofs.back_ok.Tie as tie
+use Rattle.neighbours.specs.Tables.{back-test, back-none}
+use Rattle.neighbours.proofs.back_ok.Statement.{statement}
+use Rattle.neighbours.proofs.back_ok.Tie as tie
 
 -- the first read's place, and the second's
 at1 : (c : tie.Start) → c .args .i * c .args .d + c .args .e < c .args .n * c .args .d

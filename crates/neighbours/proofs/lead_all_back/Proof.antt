@@ -6,9 +6,9 @@ use native.Mathlib.Nat.{le-antisymm, suc-mul}
 use native.Mathlib.Numerals.{add-one}
 use native.Mathlib.Omega.{arith}
 use borrow.Author.Needs.{needs}
-use Rattle.lattice.specs.Backward.{Led, led-to}
-use Rattle.lattice.proofs.lead_all_back.Statement.{statement}
-use Rattle.lattice.proofs.lead_all_back.Tie as tie
+use Rattle.neighbours.specs.Backward.{Led, led-to}
+use Rattle.neighbours.proofs.lead_all_back.Statement.{statement}
+use Rattle.neighbours.proofs.lead_all_back.Tie as tie
 
 record Leading (n d : ℕ) (fwd bwd : List ℕ) (i : ℕ) : Type 0 where
   reached : i ≤ n

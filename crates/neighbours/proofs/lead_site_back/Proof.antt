@@ -3,9 +3,9 @@ use Prim.Native.Nat.{ℕ, _+_, _-_, _*_, _≤_}
 use mathlib.Core.List.{List}
 use native.Mathlib.Omega.{arith}
 use borrow.Author.Needs.{needs}
-use Rattle.lattice.specs.Backward.{Led, led-to}
-use Rattle.lattice.proofs.lead_site_back.Statement.{statement}
-use Rattle.lattice.proofs.lead_site_back.Tie as tie
+use Rattle.neighbours.specs.Backward.{Led, led-to}
+use Rattle.neighbours.proofs.lead_site_back.Statement.{statement}
+use Rattle.neighbours.proofs.lead_site_back.Tie as tie
 
 record Leading (n d : ℕ) (fwd : List ℕ) (i : ℕ) (bwd : List ℕ) (e : ℕ) : Type 0 where
   reached : e ≤ d

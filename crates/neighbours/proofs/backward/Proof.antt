@@ -4,9 +4,9 @@ use native.Mathlib.Omega.{arith}
 use borrow.Author.Needs.{needs}
 use Rattle.lemmas.specs.Tells.{told, denied}
 use Rattle.lemmas.specs.Stores.{cleared-all}
-use Rattle.lattice.specs.Backward.{led-inverse}
-use Rattle.lattice.proofs.backward.Statement.{statement}
-use Rattle.lattice.proofs.backward.Tie as tie
+use Rattle.neighbours.specs.Backward.{led-inverse}
+use Rattle.neighbours.proofs.backward.Statement.{statement}
+use Rattle.neighbours.proofs.backward.Tie as tie
 
 lead-all-back-requires : tie.Need-lead-all-back-requires
 lead-all-back-requires c κs = search needs
