@@ -1,0 +1,3 @@
+-- The way from a verdict to an answer, and that there is one answer.
+pub mod Step
+pub mod Determined
