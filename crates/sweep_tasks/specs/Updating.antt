@@ -41,8 +41,8 @@ module _ (keeping : Bool) (w : Sweep) (b : Buffers) (ts : List ℤ) where
   asked-swept v a =
       let q = v .1 .1 .1 in
       let h = q .1 .1 .1 .1 .1 in
-      let rest = kept-both (taskRules w b (tasks w)) (totalsAsk keeping (w .lattice) ts .last) (h .1 .1) (a .small, tt) in
-      (v .0, (v .1 .0, (v .1 .1 .0, (a .lengths, (q .0, (q .1 .0, (q .1 .1 .0, (q .1 .1 .1 .0, (q .1 .1 .1 .1 .0, (a .couplings, (h .0, (h .1 .0, rest))))))))))))
+      let r = kept-both (taskRules w b (tasks w)) (totalsAsk keeping (w .lattice) ts .last) (h .1 .1) (a .small, tt) in
+      (v .0, (v .1 .0, (v .1 .1 .0, (a .lengths, (q .0, (q .1 .0, (q .1 .1 .0, (q .1 .1 .1 .0, (q .1 .1 .1 .1 .0, (a .couplings, (h .0, (h .1 .0, r))))))))))))
 
   pub swept-answers :
       Kept (sweptRules keeping w b ts) → (a : SweepAnswer) (b′ : Buffers) (us : List ℤ) → SweepAnswers w b a b′

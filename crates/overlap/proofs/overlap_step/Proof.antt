@@ -9,7 +9,7 @@ use Rattle.paper.specs.Panel.Takes.{keepsBy}
 use Rattle.paper.specs.Refusal.Rule.{Rule, Kept}
 use Rattle.paper.specs.Refusal.Verdict.{verdict-kept}
 use Rattle.paper.specs.Answer.Totals.{keptRules, kept-valid}
-use Rattle.overlap.specs.Step.{verdict-broken, refused-by, ready-of, accepted-by}
+use Rattle.perform.specs.Verdicts.{verdict-broken, refused-by, ready-of, accepted-by}
 use Rattle.overlap.proofs.overlap_step.Statement.{statement}
 use Rattle.overlap.proofs.overlap_step.Tie as tie
 

@@ -1,4 +1,4 @@
--- From the verdict of the tests to a move's answer.
+-- From the verdict of the tests, and what a task leaves, to a call's answer.
 use Prim.Native.Nat.{ℕ, zero, suc, _<_, _≤_}
 use mathlib.Core.Path.{_≡_, refl, sym}
 use mathlib.Core.Bool.{Bool}
