@@ -20,7 +20,7 @@
  *      above r
  *  15  straight after 1: houd with a group of more than 2 in SW, Wolff or grow; a sweep is refused whole
  *   2  a buffer's length is not the exact one
- *   3  a spin of any system is not +1 or -1
+ *   3  a spin of any system is not +1 or -1; a byte of packed columns has a bit from N upwards
  *   4  a neighbour is n or more, or fwd and bwd are not inverse; after the tables, a pin byte is not 0 or 1
  *   5  a system of the group, or the meter's, is s or more; one stands twice in the group; the order is no permutation
  *   6  a coupling's size is above 1,000,000
@@ -67,7 +67,7 @@
  * and grow answer TSORVENK_HELD: what the form writes is written, and spins and totals stay. In CMR, where only its grey one is
  * held, the blue flip stands, and the answer is 0. SW is never held, even if every component is, and to observe neither: there
  * pins are tested and change nothing. Answers come in this order: a refusal, idle, held, moved. The meter, the hand-over, the
- * labelling and the edge list know no pins, and frames pin nothing.
+ * labelling, packing and the edge list know no pins, and frames pin nothing.
  */
 #ifndef TSORVENK_H
 #define TSORVENK_H
@@ -194,6 +194,44 @@ uint8_t tsorvenk_sweep(uint8_t mode, uint8_t form, uint8_t coding, uint8_t keeps
     uint8_t *member_sites, size_t member_sites_len,
     uint32_t *found, size_t found_len, uint32_t *grey_found, size_t grey_found_len,
     uint32_t *outcomes, size_t outcomes_len);
+
+/* One byte for a site's whole group: N = members systems, of which none has a number.
+ *
+ *   columns      n: bit k of the byte of site i is set where member k is +1 there. Bits from N upwards are 0
+ *   rows         N * n: the spin of member k at site i is at k * n + i, +1 or -1
+ *
+ * Packing and unpacking undo each other. The bytes are the spins themselves, in every mode: gperm's reference site is never
+ * worked into them.
+ *
+ *   tsorvenk_pack      writes columns, from rows
+ *   tsorvenk_unpack    writes rows, from columns
+ *
+ * Each returns 0, or a refusal in this order: 1 (n not 1 to 4096, members not 2 to 8), 2 (rows not N * n, columns not n), 3 (a
+ * spin is not +1 or -1; a byte has a bit from N upwards). With 8 members no bit is too high. */
+uint8_t tsorvenk_pack(size_t n, size_t members, const int8_t *rows, size_t rows_len, uint8_t *columns, size_t columns_len);
+uint8_t tsorvenk_unpack(size_t n, size_t members, const uint8_t *columns, size_t columns_len, int8_t *rows, size_t rows_len);
+
+/* A step on such columns, of every mode and form: what tsorvenk_step does with the unpacked rows, with s = N and the group 0, 1
+ * .. N - 1. It answers the same, writes the same and refuses the same, and its columns are those rows packed.
+ *
+ *   columns      n, as above: read, and written after the move. Idle, held and observe leave them as they are
+ *   totals       N, in the members' order                          SW, Wolff, grow where keeps is 1
+ *   all others                                                     as in a step
+ *
+ * There is no s, no group, and no row of any other system: what a move's group is, its caller packs.
+ *
+ * Returns TSORVENK_IDLE, TSORVENK_HELD or 0 as a step does, else the refusal 1 (n, d, members and the codes), 15, 2, 3 (a bit
+ * from N upwards), 4 (the tables, then the pins), 6, 7, 8, 9, 10 or 14, in this order; 5 does not occur. */
+uint8_t tsorvenk_packed_step(uint8_t mode, uint8_t form, uint8_t coding, uint8_t keeps, size_t n, size_t d, size_t members,
+    uint8_t *columns, size_t columns_len, int64_t *totals, size_t totals_len,
+    const uint32_t *fwd, size_t fwd_len, const uint32_t *bwd, size_t bwd_len, const uint8_t *pins, size_t pins_len,
+    const int32_t *couplings, size_t couplings_len,
+    float temperature, const float *cuts, size_t cuts_len, size_t reference, size_t seed,
+    const uint8_t *flips, size_t flips_len, const uint8_t *perms, size_t perms_len, const uint8_t *greys, size_t greys_len,
+    uint32_t *labels, size_t labels_len, uint32_t *grey_labels, size_t grey_labels_len,
+    uint32_t *counts, size_t counts_len, uint32_t *sizes, size_t sizes_len,
+    uint8_t *member_sites, size_t member_sites_len,
+    uint32_t *found, size_t found_len, uint32_t *grey_found, size_t grey_found_len);
 
 /* The energy of one system: minus the sum over all n * d bonds of the coupling times both spins.
  *
@@ -455,6 +493,63 @@ struct tsorvenk_sweep_args {
     size_t outcomes_len;
 };
 
+struct tsorvenk_pack_args {
+    size_t n, members;
+    const int8_t *rows;
+    size_t rows_len;
+    uint8_t *columns;
+    size_t columns_len;
+};
+
+struct tsorvenk_unpack_args {
+    size_t n, members;
+    const uint8_t *columns;
+    size_t columns_len;
+    int8_t *rows;
+    size_t rows_len;
+};
+
+struct tsorvenk_packed_step_args {
+    uint8_t mode, form, coding, keeps;
+    size_t n, d, members;
+    uint8_t *columns;
+    size_t columns_len;
+    int64_t *totals;
+    size_t totals_len;
+    const uint32_t *fwd;
+    size_t fwd_len;
+    const uint32_t *bwd;
+    size_t bwd_len;
+    const uint8_t *pins;
+    size_t pins_len;
+    const int32_t *couplings;
+    size_t couplings_len;
+    float temperature;
+    const float *cuts;
+    size_t cuts_len;
+    size_t reference, seed;
+    const uint8_t *flips;
+    size_t flips_len;
+    const uint8_t *perms;
+    size_t perms_len;
+    const uint8_t *greys;
+    size_t greys_len;
+    uint32_t *labels;
+    size_t labels_len;
+    uint32_t *grey_labels;
+    size_t grey_labels_len;
+    uint32_t *counts;
+    size_t counts_len;
+    uint32_t *sizes;
+    size_t sizes_len;
+    uint8_t *member_sites;
+    size_t member_sites_len;
+    uint32_t *found;
+    size_t found_len;
+    uint32_t *grey_found;
+    size_t grey_found_len;
+};
+
 struct tsorvenk_energy_args {
     size_t n, d, s;
     const int8_t *spins;
@@ -604,6 +699,33 @@ static inline uint8_t tsorvenk_sweep_with(const struct tsorvenk_sweep_args *args
         TSORVENK_LENT(found, no_u32), TSORVENK_LENT(grey_found, no_u32), TSORVENK_LENT(outcomes, no_u32));
 }
 
+static inline uint8_t tsorvenk_pack_with(const struct tsorvenk_pack_args *args) {
+    int8_t no_i8 = 0;
+    uint8_t no_u8 = 0;
+    return tsorvenk_pack(args->n, args->members, TSORVENK_LENT(rows, no_i8), TSORVENK_LENT(columns, no_u8));
+}
+
+static inline uint8_t tsorvenk_unpack_with(const struct tsorvenk_unpack_args *args) {
+    int8_t no_i8 = 0;
+    uint8_t no_u8 = 0;
+    return tsorvenk_unpack(args->n, args->members, TSORVENK_LENT(columns, no_u8), TSORVENK_LENT(rows, no_i8));
+}
+
+static inline uint8_t tsorvenk_packed_step_with(const struct tsorvenk_packed_step_args *args) {
+    uint8_t no_u8 = 0;
+    int32_t no_i32 = 0;
+    uint32_t no_u32 = 0;
+    int64_t no_i64 = 0;
+    float no_f32 = 0;
+    return tsorvenk_packed_step(args->mode, args->form, args->coding, args->keeps, args->n, args->d, args->members,
+        TSORVENK_LENT(columns, no_u8), TSORVENK_LENT(totals, no_i64), TSORVENK_LENT(fwd, no_u32), TSORVENK_LENT(bwd, no_u32),
+        TSORVENK_PINS, TSORVENK_LENT(couplings, no_i32), args->temperature, TSORVENK_LENT(cuts, no_f32),
+        args->reference, args->seed, TSORVENK_LENT(flips, no_u8), TSORVENK_LENT(perms, no_u8), TSORVENK_LENT(greys, no_u8),
+        TSORVENK_LENT(labels, no_u32), TSORVENK_LENT(grey_labels, no_u32), TSORVENK_LENT(counts, no_u32),
+        TSORVENK_LENT(sizes, no_u32), TSORVENK_LENT(member_sites, no_u8), TSORVENK_LENT(found, no_u32),
+        TSORVENK_LENT(grey_found, no_u32));
+}
+
 static inline uint8_t tsorvenk_energy_with(const struct tsorvenk_energy_args *args) {
     int8_t no_i8 = 0;
     int32_t no_i32 = 0;
@@ -727,7 +849,7 @@ static inline const char *tsorvenk_refusal_words(int number) {
     case 0: return "not refused";
     case 1: return "a size, a group's size, the mode, the form, the coding or what is kept is out of its range";
     case 2: return "a buffer's length is not the exact one";
-    case 3: return "a spin is not +1 or -1";
+    case 3: return "a spin is not +1 or -1, or a packed byte has a bit from N upwards";
     case 4: return "a neighbour is n or more, the forward and backward tables are not inverse, or a pin byte is not 0 or 1";
     case 5: return "a system is s or more or stands twice, or the order is no permutation of the systems";
     case 6: return "a coupling's size is above 1,000,000";

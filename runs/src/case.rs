@@ -1,13 +1,15 @@
 //! Calls with buffers of their own.
 use crate::model::Lengths;
 use calls::{
-    Answer, Coding, Form, HandOver, Keeps, Label, Meter, Mode, Port, Step, Sweep, SweepAnswer,
+    Answer, Coding, Form, HandOver, Keeps, Label, Meter, Mode, PackedStep, Port, Step, Sweep,
+    SweepAnswer,
 };
 
-/// The buffers that a call may write.
+/// The buffers that a call may write. Columns are those of a packed call (11/14), which has no spins.
 #[derive(Clone, Debug, Default, PartialEq, Eq)]
 pub struct Lent {
     pub spins: Vec<i8>,
+    pub columns: Vec<u8>,
     pub totals: Vec<i64>,
     pub labels: Vec<u32>,
     pub grey_labels: Vec<u32>,
@@ -24,6 +26,7 @@ impl Lent {
         let output = |length: Option<usize>| vec![number; length.unwrap_or(0)];
         Lent {
             spins,
+            columns: Vec::new(),
             totals: Vec::new(),
             labels: output(exact.labels),
             grey_labels: output(exact.grey_labels),
@@ -114,6 +117,18 @@ pub struct Single {
     pub lent: Lent,
 }
 
+/// A move of a group of so many members, which are columns of what is lent.
+#[derive(Clone, Debug)]
+pub struct Packed {
+    pub panel: Panel,
+    pub members: usize,
+    pub temperature: f32,
+    pub reference: usize,
+    pub seed: usize,
+    pub choices: Choices,
+    pub lent: Lent,
+}
+
 #[derive(Clone, Debug)]
 pub struct Swept {
     pub panel: Panel,
@@ -158,7 +173,7 @@ impl Bonds {
     }
 }
 
-/// A call of a case with buffers lent to it: what a move and a sweep share, and the fields of its own.
+/// A call of a case with buffers lent to it: what moves, packed ones and sweeps share, and the fields of its own.
 macro_rules! call_of {
     ($call:ident, $case:expr, $lent:expr, { $($field:ident: $value:expr,)* }) => {
         $call {
@@ -168,8 +183,6 @@ macro_rules! call_of {
             keeps: $case.panel.keeps,
             n: $case.panel.n,
             d: $case.panel.d,
-            s: $case.panel.s,
-            spins: &mut $lent.spins,
             totals: &mut $lent.totals,
             fwd: &$case.panel.fwd,
             bwd: &$case.panel.bwd,
@@ -194,6 +207,8 @@ macro_rules! call_of {
 impl Single {
     pub fn step<'a>(&'a self, lent: &'a mut Lent) -> Step<'a> {
         call_of!(Step, self, lent, {
+            s: self.panel.s,
+            spins: &mut lent.spins,
             group: &self.group,
             temperature: self.temperature,
             reference: self.reference,
@@ -211,9 +226,28 @@ impl Single {
     }
 }
 
+impl Packed {
+    pub fn step<'a>(&'a self, lent: &'a mut Lent) -> PackedStep<'a> {
+        call_of!(PackedStep, self, lent, {
+            members: self.members,
+            columns: &mut lent.columns,
+            temperature: self.temperature,
+            reference: self.reference,
+            seed: self.seed,
+        })
+    }
+
+    pub fn run(&self, side: &mut dyn Port) -> (Answer, Lent) {
+        let mut lent = self.lent.clone();
+        (side.packed_step(self.step(&mut lent)), lent)
+    }
+}
+
 impl Swept {
     pub fn sweep<'a>(&'a self, lent: &'a mut Lent) -> Sweep<'a> {
         call_of!(Sweep, self, lent, {
+            s: self.panel.s,
+            spins: &mut lent.spins,
             t: self.t,
             r: self.r,
             members: self.members,

@@ -12,11 +12,13 @@ mod coded;
 mod houd;
 mod labelling;
 mod line;
+mod packed;
 mod pinned;
 
 pub use houd::{single_of_more, swept_of_more};
 pub use labelling::{damaged_labelling, labelling};
 pub use line::{keep, Found, Line};
+pub use packed::{damaged_layout, damaged_packed};
 
 pub fn differ<T: PartialEq + Debug>(text: &mut String, what: &str, one: T, other: T) {
     if one != other {
@@ -32,6 +34,7 @@ pub fn differ_lent(text: &mut String, model: &Lent, other: &Lent) {
 /// The Rust keeps no totals.
 fn differ_untotalled(text: &mut String, model: &Lent, other: &Lent) {
     differ(text, "spins", &model.spins, &other.spins);
+    differ(text, "columns", &model.columns, &other.columns);
     differ(text, "labels", &model.labels, &other.labels);
     differ(text, "grey", &model.grey_labels, &other.grey_labels);
     differ(text, "counts", &model.counts, &other.counts);
@@ -196,6 +199,7 @@ pub fn single(case: &Single, port: Option<&mut Box<dyn Port>>, line: &mut Line) 
     }
     text += &coded::single(case, (answer, &lent), port.as_deref_mut(), line);
     text += &houd::single(case, (answer, &lent), port.as_deref_mut(), line);
+    text += &packed::single(case, (answer, &lent), port.as_deref_mut(), line);
     if case.panel.form == Form::Grow {
         let found = beside_wolff(port, line, |side| grown::single(case, side));
         if !found.is_empty() {
@@ -323,6 +327,7 @@ pub fn damaged_single(
     }
     text += &coded::single(case, (answer, &lent), port.as_deref_mut(), line);
     text += &houd::single(case, (answer, &lent), port.as_deref_mut(), line);
+    text += &packed::single(case, (answer, &lent), port.as_deref_mut(), line);
     if case.panel.form == Form::Grow {
         text += &beside_wolff(port, line, |side| grown::single(case, side));
     }

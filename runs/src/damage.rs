@@ -1,6 +1,7 @@
 //! Damaged copies of good calls: one to three faults each, so that the first number in the table's order must win.
-use crate::case::{Bonds, Choices, Lent, Panel, Single, Swept};
+use crate::case::{Bonds, Choices, Lent, Packed, Panel, Single, Swept};
 use crate::model::LARGEST;
+use crate::packed::Layout;
 use crate::rand::Rand;
 use calls::Coding;
 
@@ -92,6 +93,8 @@ fn outputs(rand: &mut Rand, lent: &mut Lent) {
     match rand.range(0, 11) {
         6 => longer_or_shorter(rand, &mut lent.totals),
         7..=9 => totals(rand, &mut lent.totals),
+        // a packed call has columns in place of spins
+        0 if lent.spins.is_empty() => longer_or_shorter(rand, &mut lent.columns),
         0 => longer_or_shorter(rand, &mut lent.spins),
         1 => longer_or_shorter(rand, &mut lent.labels),
         2 => longer_or_shorter(rand, &mut lent.grey_labels),
@@ -146,6 +149,15 @@ fn systems(rand: &mut Rand, systems: &mut [u32], s: usize) {
     set(rand, systems, &[s as u32, u32::MAX, other, other]);
 }
 
+fn reference(rand: &mut Rand, n: usize) -> usize {
+    rand.pick(&[n, usize::MAX, 0, 1 << 32])
+}
+
+fn seed(rand: &mut Rand, n: usize) -> usize {
+    let site = rand.range(0, n.clamp(1, 4096) - 1);
+    rand.pick(&[n, usize::MAX, 1 << 32, site, site])
+}
+
 pub fn single(rand: &mut Rand, case: &mut Single) {
     for _ in 0..rand.pick(&[1, 1, 2, 3]) {
         let n = case.panel.n;
@@ -159,11 +171,49 @@ pub fn single(rand: &mut Rand, case: &mut Single) {
                 _ => systems(rand, &mut case.group, case.panel.s),
             },
             7 => case.temperature = rand.pick(&temperatures()),
-            8 => case.reference = rand.pick(&[n, usize::MAX, 0, 1 << 32]),
-            _ => {
-                let site = rand.range(0, n.clamp(1, 4096) - 1);
-                case.seed = rand.pick(&[n, usize::MAX, 1 << 32, site, site]);
-            }
+            8 => case.reference = reference(rand, n),
+            _ => case.seed = seed(rand, n),
+        }
+    }
+}
+
+/// One column too many or too few, a bit from `members` upwards in one of them, which with eight is none, or any byte.
+fn columns(rand: &mut Rand, columns: &mut Vec<u8>, members: usize) {
+    match rand.range(0, 3) {
+        0 => longer_or_shorter(rand, columns),
+        1 => set(rand, columns, &[0, 0xff, 0xaa, 0x55, 0x80]),
+        _ if columns.is_empty() => {}
+        _ => {
+            let at = rand.range(0, columns.len() - 1);
+            columns[at] |= (1u16 << rand.range(members.min(8), 8)) as u8;
+        }
+    }
+}
+
+pub fn packed(rand: &mut Rand, case: &mut Packed) {
+    for _ in 0..rand.pick(&[1, 1, 2, 3]) {
+        let n = case.panel.n;
+        match rand.range(0, 10) {
+            0 | 1 => panel(rand, &mut case.panel, &mut case.lent),
+            2 => outputs(rand, &mut case.lent),
+            3 | 4 => choices(rand, &mut case.choices, case.panel.numbers()),
+            5 => size(rand, &mut case.members, 8),
+            6 | 7 => columns(rand, &mut case.lent.columns, case.members),
+            8 => case.temperature = rand.pick(&temperatures()),
+            9 => case.reference = reference(rand, n),
+            _ => case.seed = seed(rand, n),
+        }
+    }
+}
+
+pub fn layout(rand: &mut Rand, case: &mut Layout) {
+    for _ in 0..rand.pick(&[1, 1, 2, 3]) {
+        match rand.range(0, 5) {
+            0 => size(rand, &mut case.n, 4096),
+            1 => size(rand, &mut case.members, 8),
+            2 => longer_or_shorter(rand, &mut case.rows),
+            3 => set(rand, &mut case.rows, &[0, 2, -2, 127, -128, 3, 1, -1]),
+            _ => columns(rand, &mut case.columns, case.members),
         }
     }
 }

@@ -24,6 +24,8 @@ pub struct Tally {
     pub held_tasks: usize,
     /// Calls whose permutations are numbers, refused ones too.
     pub by_number: usize,
+    /// Moves that are made on their group's bytes (11/14).
+    pub packed: usize,
     /// By number.
     pub refused: [usize; 16],
     pub differences: usize,
@@ -149,7 +151,8 @@ fn both<C, A: PartialEq + Debug>(
     (answer, port_lent)
 }
 
-/// One call of three is damaged; of those that are damaged only the refused ones are made, since others may have other tables or couplings.
+/// One call of three is damaged; of those that are damaged only the refused ones are made, since others may have other tables or couplings. Of the
+/// others a third are made on their group's bytes.
 fn single(
     day: &mut Day,
     rand: &mut Rand,
@@ -157,14 +160,22 @@ fn single(
     tally: &mut Tally,
 ) -> String {
     let (mut case, mut text) = (day.single(rand), String::new());
-    if rand.once_in(3) {
+    let damaged = rand.once_in(3);
+    if damaged {
         damage::single(rand, &mut case);
         if !matches!(case.run(&mut Model).0, Answer::Refused(_)) {
             return text;
         }
     }
+    let packed = !damaged && rand.aside().once_in(3);
     tally.by_number += usize::from(case.panel.numbers());
-    let (answer, lent) = both(&mut text, &case, port, Single::run);
+    tally.packed += usize::from(packed);
+    let run = if packed {
+        Single::run_packed
+    } else {
+        Single::run
+    };
+    let (answer, lent) = both(&mut text, &case, port, run);
     match answer {
         Answer::Refused(number) => {
             tally.refused[usize::from(number)] += 1;

@@ -12,6 +12,7 @@ pub mod idle;
 pub mod lattices;
 pub mod make;
 pub mod model;
+pub mod packed;
 pub mod port;
 pub mod rand;
 pub mod raw;

@@ -154,6 +154,7 @@ fn outputs(rand: &mut Rand, exact: Lengths, n: usize, spins: Vec<i8>) -> Lent {
     let rand = &mut rand.aside();
     Lent {
         spins,
+        columns: Vec::new(),
         totals: Vec::new(),
         labels: output(rand, exact.labels, n, UNTOUCHED),
         grey_labels,

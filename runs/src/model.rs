@@ -1,9 +1,10 @@
 //! Document 01 in plain Rust, written from its text and not from overlap.rs: every sentence once, no speed. Counts and sizes are those of
 //! request 4/14, the form that grows is that of request 5/14, the totals are those of 6/14, the components are numbered as in 7/14,
-//! permutations may be numbers as in 8/14, sites may be pinned as in 9/14, and houd moves groups of two alone as in 10/14.
+//! permutations may be numbers as in 8/14, sites may be pinned as in 9/14, houd moves groups of two alone as in 10/14, and a group may be
+//! one byte for each site as in 11/14.
 use crate::case;
 use calls::{Answer, HandOver, Label, Meter, MeterAnswer, Port, Step, Sweep, SweepAnswer};
-use calls::{Coding, Form, Mode};
+use calls::{Coding, Form, Mode, Pack, PackedStep, Unpack};
 
 /// What a call of any kind lends of the panel.
 macro_rules! panel_of {
@@ -20,12 +21,36 @@ macro_rules! panel_of {
     };
 }
 
+/// The task of a call that has one, of this group.
+macro_rules! task_of {
+    ($call:expr, $group:expr) => {
+        $crate::model::Task {
+            mode: $call.mode,
+            form: $call.form,
+            coding: $call.coding,
+            pins: $call.pins,
+            group: $group,
+            temperature: $call.temperature,
+            cuts: $call.cuts,
+            reference: $call.reference,
+            seed: $call.seed,
+            flips: $call.flips,
+            perms: $call.perms,
+            greys: $call.greys,
+        }
+    };
+}
+
+#[macro_use]
+mod refusals;
+
 mod bonds;
 mod components;
 mod grow;
 mod moves;
 mod orders;
-mod refusals;
+mod packed;
+mod single;
 mod sweeps;
 mod totals;
 
@@ -34,11 +59,12 @@ use components::Components;
 use grow::{grown, Grown};
 use moves::{outcome, Outcome};
 pub use orders::{number_of, orders, row_of};
-use refusals::*;
+use refusals::sizes_refused;
 pub use refusals::{lengths, Lengths};
+use single::{single_refusal, single_task};
 use sweeps::{sweep_refusal, sweep_task, unmasked};
 pub use totals::LARGEST;
-use totals::{bring, handed_over, meter, metered, totals_length_refused, totals_refusal};
+use totals::{bring, handed_over, meter, metered};
 
 /// What every call lends: the lattice and all spins. Couplings are there where the call takes them.
 #[derive(Clone, Copy)]
@@ -109,79 +135,11 @@ pub fn active_in_task(call: &Sweep, number: usize) -> Vec<bool> {
     (0..call.n).map(|i| acts(panel, &task, i)).collect()
 }
 
-// --- One move ---
+// --- The calls ---
 
 fn systems(numbers: &[u32]) -> Vec<usize> {
     numbers.iter().map(|&system| system as usize).collect()
 }
-
-fn single_task<'a>(call: &'a Step) -> Task<'a> {
-    Task {
-        mode: call.mode,
-        form: call.form,
-        coding: call.coding,
-        pins: call.pins,
-        group: systems(call.group),
-        temperature: call.temperature,
-        cuts: call.cuts,
-        reference: call.reference,
-        seed: call.seed,
-        flips: call.flips,
-        perms: call.perms,
-        greys: call.greys,
-    }
-}
-
-fn single_length_refused(call: &Step) -> bool {
-    let members = call.group.len();
-    let exact =
-        lengths(call.mode, call.form, call.n, call.d, members, 1).spelt(call.coding, members);
-    panel_length_refused(panel_of!(call))
-        || call.pins.len() != call.n
-        || differs(exact.couplings, call.couplings.len())
-        || differs(exact.cuts, call.cuts.len())
-        || differs(exact.flips, call.flips.len())
-        || differs(exact.perms, call.perms.len())
-        || differs(exact.greys, call.greys.len())
-        || differs(exact.labels, call.labels.len())
-        || differs(exact.grey_labels, call.grey_labels.len())
-        || differs(exact.counts, call.counts.len())
-        || differs(exact.sizes, call.sizes.len())
-        || differs(exact.member_sites, call.member_sites.len())
-        || differs(exact.found, call.found.len())
-        || differs(exact.grey_found, call.grey_found.len())
-}
-
-fn single_refusal(call: &Step) -> Option<u8> {
-    let (draws, keeping) = (call.mode.draws(), call.keeps.totals(call.form));
-    let panel = panel_of!(call);
-    let members = call.group.len();
-    if sizes_refused(call.n, call.d, call.s)
-        || members_refused(call.mode, members)
-        || coding_refused(call.coding.numbers(call.mode, call.form), members)
-    {
-        return Some(1);
-    }
-    if houd_refused(call.mode, call.form, members) {
-        return Some(15);
-    }
-    if single_length_refused(call) || totals_length_refused(keeping, panel, call.totals) {
-        return Some(2);
-    }
-    let temperature = [call.temperature];
-    let drawn: &[f32] = if draws { &temperature } else { &[] };
-    panel_refusal(
-        panel,
-        call.pins,
-        &systems(call.group),
-        draws || keeping,
-        drawn,
-    )
-    .or_else(|| task_refusal(panel, &single_task(call)))
-    .or_else(|| totals_refusal(keeping, call.totals))
-}
-
-// --- The five calls ---
 
 /// A task's areas of the lent buffers.
 struct Areas<'a> {
@@ -377,5 +335,17 @@ impl Port for Model {
         write_numbers(call.labels, call.found, &all);
         write_sizes(call.counts, call.sizes, &all, &ones(call.counted));
         0
+    }
+
+    fn packed_step(&mut self, call: PackedStep) -> Answer {
+        packed::step(call)
+    }
+
+    fn pack(&mut self, call: Pack) -> u8 {
+        packed::pack(call)
+    }
+
+    fn unpack(&mut self, call: Unpack) -> u8 {
+        packed::unpack(call)
     }
 }

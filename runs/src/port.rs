@@ -13,7 +13,7 @@ pub fn linked() -> Option<Box<dyn Port>> {
 #[cfg(port)]
 mod linked {
     use calls::{Answer, Coding, Form, HandOver, Keeps, Label, Meter, MeterAnswer, Mode, Port};
-    use calls::{Step, Sweep, SweepAnswer};
+    use calls::{Pack, PackedStep, Step, Sweep, SweepAnswer, Unpack};
 
     pub struct Linked;
 
@@ -51,7 +51,7 @@ mod linked {
         }
     }
 
-    /// The crate's call of the same name: what a move and a sweep share, and the fields of its own.
+    /// The crate's call of the same name: what moves, packed ones and sweeps share, and the fields of its own.
     macro_rules! call_of {
         ($call:ident, $from:expr, { $($field:ident,)* }) => {
             tsorvenk::$call {
@@ -61,8 +61,6 @@ mod linked {
                 keeps: keeps($from.keeps),
                 n: $from.n,
                 d: $from.d,
-                s: $from.s,
-                spins: $from.spins,
                 totals: $from.totals,
                 fwd: $from.fwd,
                 bwd: $from.bwd,
@@ -89,27 +87,35 @@ mod linked {
         answer.err().map_or(0, |refusal| refusal.number)
     }
 
+    fn answer(stepped: Result<tsorvenk::Stepped, tsorvenk::Refusal>) -> Answer {
+        match stepped {
+            Ok(tsorvenk::Stepped::Moved) => Answer::Moved,
+            Ok(tsorvenk::Stepped::Idle) => Answer::Idle,
+            Ok(tsorvenk::Stepped::Held) => Answer::Held,
+            Err(refusal) => Answer::Refused(refusal.number),
+        }
+    }
+
     impl Port for Linked {
         fn name(&self) -> &'static str {
             "port"
         }
 
         fn step(&mut self, call: Step) -> Answer {
-            match tsorvenk::step(call_of!(Step, call, {
+            answer(tsorvenk::step(call_of!(Step, call, {
+                s,
+                spins,
                 group,
                 temperature,
                 reference,
                 seed,
-            })) {
-                Ok(tsorvenk::Stepped::Moved) => Answer::Moved,
-                Ok(tsorvenk::Stepped::Idle) => Answer::Idle,
-                Ok(tsorvenk::Stepped::Held) => Answer::Held,
-                Err(refusal) => Answer::Refused(refusal.number),
-            }
+            })))
         }
 
         fn sweep(&mut self, call: Sweep) -> SweepAnswer {
             match tsorvenk::sweep(call_of!(Sweep, call, {
+                s,
+                spins,
                 t,
                 r,
                 members,
@@ -168,6 +174,34 @@ mod linked {
                 counts: call.counts,
                 sizes: call.sizes,
                 found: call.found,
+            }))
+        }
+
+        fn packed_step(&mut self, call: PackedStep) -> Answer {
+            answer(tsorvenk::packed_step(call_of!(PackedStep, call, {
+                members,
+                columns,
+                temperature,
+                reference,
+                seed,
+            })))
+        }
+
+        fn pack(&mut self, call: Pack) -> u8 {
+            number(tsorvenk::pack(tsorvenk::Pack {
+                n: call.n,
+                members: call.members,
+                rows: call.rows,
+                columns: call.columns,
+            }))
+        }
+
+        fn unpack(&mut self, call: Unpack) -> u8 {
+            number(tsorvenk::unpack(tsorvenk::Unpack {
+                n: call.n,
+                members: call.members,
+                columns: call.columns,
+                rows: call.rows,
             }))
         }
     }

@@ -1,6 +1,6 @@
 //! Exported functions as C calls them, with what the crate `tsorvenk` cannot say: numbers that are no mode, form, coding or keeps, and rows and
 //! outputs of any length. None where the library was not there at build time.
-use calls::{Step, Sweep};
+use calls::{PackedStep, Step, Sweep};
 
 /// Mode, form, coding and keeps as numbers.
 pub type Numbers = [u8; 4];
@@ -9,6 +9,17 @@ pub type Numbers = [u8; 4];
 pub fn step(numbers: Numbers, call: Step) -> Option<u8> {
     #[cfg(port)]
     return Some(linked::step(numbers, call));
+    #[cfg(not(port))]
+    {
+        let _ = (numbers, call);
+        None
+    }
+}
+
+/// The same of a move on bytes.
+pub fn packed_step(numbers: Numbers, call: PackedStep) -> Option<u8> {
+    #[cfg(port)]
+    return Some(linked::packed_step(numbers, call));
     #[cfg(not(port))]
     {
         let _ = (numbers, call);
@@ -52,7 +63,7 @@ pub fn number_of(row: &[u8], number: &mut [u8]) -> Option<u8> {
 #[rustfmt::skip]
 mod linked {
     use super::Numbers;
-    use calls::{Step, Sweep};
+    use calls::{PackedStep, Step, Sweep};
 
     extern "C" {
         fn tsorvenk_step(
@@ -60,6 +71,18 @@ mod linked {
             spins: *mut i8, spins_len: usize, totals: *mut i64, totals_len: usize,
             fwd: *const u32, fwd_len: usize, bwd: *const u32, bwd_len: usize, pins: *const u8, pins_len: usize,
             couplings: *const i32, couplings_len: usize, group: *const u32, group_len: usize,
+            temperature: f32, cuts: *const f32, cuts_len: usize, reference: usize, seed: usize,
+            flips: *const u8, flips_len: usize, perms: *const u8, perms_len: usize, greys: *const u8, greys_len: usize,
+            labels: *mut u32, labels_len: usize, grey_labels: *mut u32, grey_labels_len: usize,
+            counts: *mut u32, counts_len: usize, sizes: *mut u32, sizes_len: usize,
+            member_sites: *mut u8, member_sites_len: usize,
+            found: *mut u32, found_len: usize, grey_found: *mut u32, grey_found_len: usize,
+        ) -> u8;
+        fn tsorvenk_packed_step(
+            mode: u8, form: u8, coding: u8, keeps: u8, n: usize, d: usize, members: usize,
+            columns: *mut u8, columns_len: usize, totals: *mut i64, totals_len: usize,
+            fwd: *const u32, fwd_len: usize, bwd: *const u32, bwd_len: usize, pins: *const u8, pins_len: usize,
+            couplings: *const i32, couplings_len: usize,
             temperature: f32, cuts: *const f32, cuts_len: usize, reference: usize, seed: usize,
             flips: *const u8, flips_len: usize, perms: *const u8, perms_len: usize, greys: *const u8, greys_len: usize,
             labels: *mut u32, labels_len: usize, grey_labels: *mut u32, grey_labels_len: usize,
@@ -93,6 +116,24 @@ mod linked {
                 call.spins.as_mut_ptr(), call.spins.len(), call.totals.as_mut_ptr(), call.totals.len(),
                 call.fwd.as_ptr(), call.fwd.len(), call.bwd.as_ptr(), call.bwd.len(), call.pins.as_ptr(), call.pins.len(),
                 call.couplings.as_ptr(), call.couplings.len(), call.group.as_ptr(), call.group.len(),
+                call.temperature, call.cuts.as_ptr(), call.cuts.len(), call.reference, call.seed,
+                call.flips.as_ptr(), call.flips.len(), call.perms.as_ptr(), call.perms.len(),
+                call.greys.as_ptr(), call.greys.len(),
+                call.labels.as_mut_ptr(), call.labels.len(), call.grey_labels.as_mut_ptr(), call.grey_labels.len(),
+                call.counts.as_mut_ptr(), call.counts.len(), call.sizes.as_mut_ptr(), call.sizes.len(),
+                call.member_sites.as_mut_ptr(), call.member_sites.len(),
+                call.found.as_mut_ptr(), call.found.len(), call.grey_found.as_mut_ptr(), call.grey_found.len(),
+            )
+        }
+    }
+
+    pub fn packed_step([mode, form, coding, keeps]: Numbers, call: PackedStep) -> u8 {
+        unsafe {
+            tsorvenk_packed_step(
+                mode, form, coding, keeps, call.n, call.d, call.members,
+                call.columns.as_mut_ptr(), call.columns.len(), call.totals.as_mut_ptr(), call.totals.len(),
+                call.fwd.as_ptr(), call.fwd.len(), call.bwd.as_ptr(), call.bwd.len(), call.pins.as_ptr(), call.pins.len(),
+                call.couplings.as_ptr(), call.couplings.len(),
                 call.temperature, call.cuts.as_ptr(), call.cuts.len(), call.reference, call.seed,
                 call.flips.as_ptr(), call.flips.len(), call.perms.as_ptr(), call.perms.len(),
                 call.greys.as_ptr(), call.greys.len(),

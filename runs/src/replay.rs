@@ -228,6 +228,7 @@ impl<'a> Reader<'a> {
         let exact = lengths(mode, form, n, d, members, tasks);
         Lent {
             spins: self.spins(spins),
+            columns: Vec::new(),
             totals: Vec::new(),
             labels: self.numbers(exact.labels.unwrap_or(0), 2),
             grey_labels: self.numbers(exact.grey_labels.unwrap_or(0), 2),

@@ -9,6 +9,36 @@ use std::time::Instant;
 pub mod pieces;
 pub mod pinned;
 
+/// What a run takes.
+pub fn microseconds(run: impl FnOnce()) -> f64 {
+    let start = Instant::now();
+    run();
+    start.elapsed().as_secs_f64() * 1e6
+}
+
+fn middle(mut times: Vec<f64>) -> f64 {
+    times.sort_by(f64::total_cmp);
+    times[times.len() / 2]
+}
+
+/// The medians of K sides that are run in turn, so that what else the machine does meets all of them; `timed` is told which, and what it took comes back.
+pub fn in_turn<const K: usize>(
+    repetitions: usize,
+    mut timed: impl FnMut(usize) -> f64,
+) -> [f64; K] {
+    let mut times = [(); K].map(|()| Vec::new());
+    for repetition in 0..repetitions + 2 {
+        for (side, times) in times.iter_mut().enumerate() {
+            let time = timed(side);
+            // the first ones fill the caches
+            if repetition >= 2 {
+                times.push(time);
+            }
+        }
+    }
+    times.map(middle)
+}
+
 /// The median of single runs, in microseconds. `ready` is not timed.
 pub fn median<S>(
     repetitions: usize,
@@ -16,17 +46,14 @@ pub fn median<S>(
     ready: impl Fn(&mut S),
     mut run: impl FnMut(&mut S),
 ) -> f64 {
-    let mut times: Vec<f64> = (0..repetitions + 2)
+    let times = (0..repetitions + 2)
         .map(|_| {
             ready(state);
-            let start = Instant::now();
-            run(state);
-            start.elapsed().as_secs_f64() * 1e6
+            microseconds(|| run(state))
         })
         .skip(2) // The first ones fill the caches and the Rust's pools.
         .collect();
-    times.sort_by(f64::total_cmp);
-    times[times.len() / 2]
+    middle(times)
 }
 
 /// The same of a call that is too short for the clock: `batch` runs are timed together, each with its `ready`.

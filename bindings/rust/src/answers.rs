@@ -73,7 +73,7 @@ pub fn refusal_words(number: u8) -> &'static str {
         0 => "not refused",
         1 => "a size, a group's size, the mode, the form, the coding or what is kept is out of its range",
         2 => "a buffer's length is not the exact one",
-        3 => "a spin is not +1 or -1",
+        3 => "a spin is not +1 or -1, or a packed byte has a bit from N upwards",
         4 => "a neighbour is n or more, the forward and backward tables are not inverse, or a pin byte is not 0 or 1",
         5 => "a system is s or more or stands twice, or the order is no permutation of the systems",
         6 => "a coupling's size is above 1,000,000",

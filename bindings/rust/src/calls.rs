@@ -1,4 +1,7 @@
 //! What a call is lent.
+mod packed;
+
+pub use packed::{Pack, PackedStep, Unpack};
 
 /// Which sites act, which bonds hold and what a choice does.
 #[derive(Clone, Copy, Debug, Default, PartialEq, Eq, Hash)]

@@ -28,6 +28,24 @@ extern "C" {
         found: *mut u32, found_len: usize, grey_found: *mut u32, grey_found_len: usize,
         outcomes: *mut u32, outcomes_len: usize,
     ) -> u8;
+    pub fn tsorvenk_pack(
+        n: usize, members: usize, rows: *const i8, rows_len: usize, columns: *mut u8, columns_len: usize,
+    ) -> u8;
+    pub fn tsorvenk_unpack(
+        n: usize, members: usize, columns: *const u8, columns_len: usize, rows: *mut i8, rows_len: usize,
+    ) -> u8;
+    pub fn tsorvenk_packed_step(
+        mode: u8, form: u8, coding: u8, keeps: u8, n: usize, d: usize, members: usize,
+        columns: *mut u8, columns_len: usize, totals: *mut i64, totals_len: usize,
+        fwd: *const u32, fwd_len: usize, bwd: *const u32, bwd_len: usize, pins: *const u8, pins_len: usize,
+        couplings: *const i32, couplings_len: usize,
+        temperature: f32, cuts: *const f32, cuts_len: usize, reference: usize, seed: usize,
+        flips: *const u8, flips_len: usize, perms: *const u8, perms_len: usize, greys: *const u8, greys_len: usize,
+        labels: *mut u32, labels_len: usize, grey_labels: *mut u32, grey_labels_len: usize,
+        counts: *mut u32, counts_len: usize, sizes: *mut u32, sizes_len: usize,
+        member_sites: *mut u8, member_sites_len: usize,
+        found: *mut u32, found_len: usize, grey_found: *mut u32, grey_found_len: usize,
+    ) -> u8;
     pub fn tsorvenk_energy(
         n: usize, d: usize, s: usize,
         spins: *const i8, spins_len: usize, fwd: *const u32, fwd_len: usize, bwd: *const u32, bwd_len: usize,

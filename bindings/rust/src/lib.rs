@@ -10,7 +10,8 @@
 //! calls, so calls on different buffers may run at the same time. A `Source` draws such choices, all but the cuts, from a
 //! seed of four words, so that a day can be repeated. A move or sweep may keep each system's energy current beside the
 //! spins ([`Keeps::Totals`]). A permutation of five may be lent as one byte, its number ([`Coding::Numbers`]). Sites may be
-//! pinned ([`Step::pins`]): what hangs together with one does not move.
+//! pinned ([`Step::pins`]): what hangs together with one does not move. A group may be lent as one byte for each site
+//! ([`PackedStep`]) instead of a row for each system.
 //!
 //! ```
 //! use tsorvenk::{step, Form, Mode, Refusal, Step, Stepped};
@@ -58,16 +59,20 @@ mod foreign;
 #[cfg(linked)]
 mod orders;
 #[cfg(linked)]
+mod packed;
+#[cfg(linked)]
 mod safe;
 
 pub use answers::{refusal_words, NoRoom, Refusal, Stepped, Swept};
 pub use calls::{
-    Coding, Energy, Form, Frames, HandOver, Keeps, Label, MeterAll, Mode, ReadEdges, Step, Sweep,
-    WriteEdges, EDGES_ROOM, FRAMES_ROOM,
+    Coding, Energy, Form, Frames, HandOver, Keeps, Label, MeterAll, Mode, Pack, PackedStep,
+    ReadEdges, Step, Sweep, Unpack, WriteEdges, EDGES_ROOM, FRAMES_ROOM,
 };
 #[cfg(linked)]
 pub use draws::Source;
 #[cfg(linked)]
 pub use orders::{number_of, row_of};
+#[cfg(linked)]
+pub use packed::{pack, packed_step, unpack};
 #[cfg(linked)]
 pub use safe::{energy, frames, hand_over, label, meter_all, read_edges, step, sweep, write_edges};

@@ -8,7 +8,7 @@ use crate::foreign::*;
 /// length of the pins is.
 static UNPINNED: [u8; 4096] = [0; 4096];
 
-fn pins_or_none(pins: Option<&[u8]>, n: usize) -> &[u8] {
+pub(crate) fn pins_or_none(pins: Option<&[u8]>, n: usize) -> &[u8] {
     pins.unwrap_or(&UNPINNED[..n.min(UNPINNED.len())])
 }
 
@@ -58,6 +58,12 @@ pub fn step(call: Step) -> Result<Stepped, Refusal> {
             call.found.as_mut_ptr(), call.found.len(), call.grey_found.as_mut_ptr(), call.grey_found.len(),
         )
     };
+    stepped(number)
+}
+
+/// What the number of a step says, in either layout.
+#[inline]
+pub(crate) fn stepped(number: u8) -> Result<Stepped, Refusal> {
     match number {
         0 => Ok(Stepped::Moved),
         64 => Ok(Stepped::Idle),

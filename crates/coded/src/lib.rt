@@ -1,4 +1,5 @@
 // Moves and sweeps whose permutations may be numbers into the table of the orders of five. Below this crate there are rows alone.
+mod bytes;
 mod numbers;
 
 use paper::Answer;
@@ -11,8 +12,10 @@ ghost use mathlib.Core.Path.{_≡_};
 ghost use Rattle.paper.specs.Panel.Made.{callOf, choicesOf, buffersOf};
 ghost use Rattle.paper.specs.Panel.Takes.{keepsBy};
 ghost use Rattle.paper.specs.Answer.Made.{sweepOf};
+ghost use Rattle.packed.specs.Packed.{ownTask, lentOf};
 ghost use Rattle.coded.specs.Takes.{numbersBy};
 ghost use Rattle.coded.specs.Answer.{CodedAnswers};
+ghost use Rattle.coded.specs.Packed.{PackedCoded};
 ghost use Rattle.coded.specs.Sweep.{SweepCodedAnswers};
 
 // How choices spell a permutation: byte by byte, or as its number.
@@ -92,6 +95,85 @@ pub fn overlap_step_by(
     steps::overlap_step(
         t,
         spins,
+        totals,
+        fwd,
+        bwd,
+        pins,
+        couplings,
+        cuts,
+        choices,
+        greys,
+        labels,
+        grey_labels,
+        counts,
+        sizes,
+        members,
+        found,
+        grey_found,
+    )
+}
+
+// One move or observation on the bytes of a group, as by `packed::packed_step`. By numbers, a group of another size than five is refused with 1.
+pub fn packed_step_by(
+    coding: Coding,
+    t: Task,
+    columns: &mut [u8],
+    totals: &mut [i64],
+    fwd: &[u32],
+    bwd: &[u32],
+    pins: &[u8],
+    couplings: &[i32],
+    cuts: &[f32],
+    choices: &[u8],
+    greys: &[u8],
+    labels: &mut [u32],
+    grey_labels: &mut [u32],
+    counts: &mut [u32],
+    sizes: &mut [u32],
+    members: &mut [u8],
+    found: &mut [u32],
+    grey_found: &mut [u32],
+) -> Answer
+    ensures { λ r. ⌜ PackedCoded (numbersBy coding (t .mode) (t .form))
+        (keepsBy (t .keeps) (t .form))
+        (callOf (ownTask t) (now (fwd .entry)) (now (bwd .entry)) (now (pins .entry)) (now (couplings .entry)) (now (cuts .entry)))
+        (choicesOf (now (choices .entry)) (now (greys .entry)))
+        (now (columns .entry))
+        (lentOf (now (labels .entry)) (now («grey_labels» .entry)) (now (counts .entry)) (now (sizes .entry))
+        (now (members .entry)) (now (found .entry)) (now («grey_found» .entry)))
+        (now (totals .entry))
+        r
+        (now (columns .exit))
+        (lentOf (now (labels .exit)) (now («grey_labels» .exit)) (now (counts .exit)) (now (sizes .exit))
+        (now (members .exit)) (now (found .exit)) (now («grey_found» .exit)))
+        (now (totals .exit)) ⌝ }
+{
+    let mode = t.mode;
+    let form = t.form;
+    if coding.numbers(mode, form) {
+        return bytes::packed_by_numbers(
+            t,
+            columns,
+            totals,
+            fwd,
+            bwd,
+            pins,
+            couplings,
+            cuts,
+            choices,
+            greys,
+            labels,
+            grey_labels,
+            counts,
+            sizes,
+            members,
+            found,
+            grey_found,
+        );
+    }
+    packed::packed_step(
+        t,
+        columns,
         totals,
         fwd,
         bwd,

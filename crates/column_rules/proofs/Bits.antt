@@ -9,7 +9,7 @@ use native.Mathlib.Numerals.{add-one}
 use lib.Dec.{eqb}
 use lib.Count.{ones, onesIn, ones-cat}
 use lib.IntN.{ℤ, pos, natAbs, _+ℤ_, _-ℤ_, +ℤ-idl, +ℤ-invr, +ℤ-negℤ-cancel, pos-+ℤ-pos}
-use lib.Pow.{mod-pow-add, pow-pos}
+use lib.Pow.{pow-pos}
 use borrow.Author.Tests.{eq-eqb, ne-eqb}
 use Rattle.lemmas.specs.Bools.{never}
 use Rattle.lemmas.specs.Ints.{eqZ, same-is, eqZ-no}
@@ -19,21 +19,8 @@ use Rattle.paper.specs.Site.Acting.{differs, pairDiffers}
 use Rattle.paper.specs.Move.Moving.{other}
 use Rattle.laws.specs.Patterns.{differs-no, no-differs, other-first}
 use Rattle.laws.specs.Partners.{pairs-fit, partner-in, partner-same}
-use Rattle.columns.specs.Column.{code, code-ext, bitOf, sign, shown, columnOf, shown-column, shown-spin, column-ext}
-use Rattle.columns.specs.Bits.{bit-value, sign-up}
-
--- one bit more
-pub low-more : (x m : ℕ) → x % 2 ^ suc m ≡ x / 2 ^ m % 2 * 2 ^ m + x % 2 ^ m
-low-more x m = ap (λ (e : ℕ). x % 2 ^ e) (omega arith) ∙ mod-pow-add x 1 m
-
-pub bits-low : (m x : ℕ) → code m (bitOf x) ≡ x % 2 ^ m
-unfolding code
-bits-low zero x = sym (mod-one x)
-bits-low (suc m) x = rw (bits-low m x, bit-value x m) (omega (arith, low-more x m))
-
--- the column of what a byte shows is its first bits
-pub column-low : (m x : ℕ) → columnOf m (shown x) ≡ x % 2 ^ m
-column-low m x = code-ext m _ (bitOf x) (λ k h. sign-up (bitOf x k)) ∙ bits-low m x
+use Rattle.columns.specs.Column.{bitOf, sign, shown, columnOf, shown-column, shown-spin, column-ext}
+use Rattle.columns.specs.Bits.{low-more, column-low}
 
 -- so these are equal just where the bytes show the same
 module _ (m x y : ℕ) where

@@ -16,7 +16,8 @@ use Rattle.paper.specs.declared.Mode.the-variants.{Houd, Pair, Cmr}
 use Rattle.paper.specs.Move.Moving.{other}
 use Rattle.columns.specs.Column.{code, bit-code, bitOf, sign, isUp, shown, columnOf, column-ext, flipped}
 use Rattle.columns.specs.Bits.{bit-value, sign-up}
-use Rattle.column_rules.proofs.Bits.{low-more, bits-low, column-low, seen}
+use Rattle.columns.specs.Bits.{low-more, bits-low, column-low}
+use Rattle.column_rules.proofs.Bits.{seen}
 
 -- ---- each pair exchanged, seen of every byte in turn
 abbrev exchanged : ℕ → ℕ

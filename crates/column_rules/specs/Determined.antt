@@ -1,6 +1,6 @@
 -- For one input each public function's promise allows one result, and one content of the buffer that it was lent.
 use Prim.Native.Nat.{ℕ, _/_, _^_, _<_}
-use mathlib.Core.Path.{_≡_, sym, _∙_}
+use mathlib.Core.Path.{_≡_, refl, sym, _∙_}
 use mathlib.Core.Bool.{Bool}
 use mathlib.Core.List.{List}
 use native.Mathlib.Omega.{arith}
@@ -13,11 +13,12 @@ use Rattle.paper.specs.declared.Group.{Group}
 use Rattle.paper.specs.declared.Mode.{Mode}
 use Rattle.paper.specs.Site.Acting.{pairDiffers, testBy}
 use Rattle.paper.specs.Component.Marks.{Flags}
-use Rattle.columns.specs.Column.{shown}
+use Rattle.columns.specs.Column.{shown, shown-spin}
+use Rattle.columns.specs.Bits.{column-same}
 use Rattle.columns.specs.Determined.{columns-unique}
 use Rattle.column_rules.specs.Tables.{Table, actsEntry, flipEntry, SomeMarked, Looked}
 use Rattle.column_rules.specs.Laws.{SomeSite}
-use Rattle.column_rules.specs.Sight.{actsAt, Sights}
+use Rattle.column_rules.specs.Sight.{actsAt, Shows, Lookable, Looks, Sights}
 
 module _ (g : Group) (x : ℕ) (r s : Bool) where
   pub any-pair-differs-determined : r ≡ pairDiffers (g .len / 2) (shown x) → s ≡ pairDiffers (g .len / 2) (shown x) → r ≡ s
@@ -67,6 +68,23 @@ pub record SameSights (cols flags : List ℕ) (r : Bool) (cols′ flags′ : Lis
 
 flags-unique : (n : ℕ) (f : ℕ → Bool) (xs ys : List ℕ) → Flags n f xs → Flags n f ys → xs ≡ ys
 flags-unique n f xs ys p q = ext-getD 0 xs ys (p .long ∙ sym (q .long)) (λ i h. let l = rw (p .long) at h in p .at i l ∙ sym (q .at i l))
+
+-- columns of m members are those of what they show
+own-shows : (m : ℕ) (cols : List ℕ) → ((i : ℕ) → i < length cols → getD cols i 0 < 2 ^ m) → Shows m cols (λ i. shown (getD cols i 0))
+own-shows m cols narrow = record {
+  columns = record { long = refl; at = λ i h. sym (column-same m (getD cols i 0) (narrow i h)) };
+  spins = λ i k h l. shown-spin (getD cols i 0) k;
+}
+
+pub look-columns-determined :
+    (mode : Mode) (g : Group) (q : ℕ) (cols lent flags flags′ : List ℕ) (r r′ : Bool) → Lookable mode g q cols lent
+    → Looks mode (g .len) q cols flags r → Looks mode (g .len) q cols flags′ r′ → SameLooked flags r flags′ r′
+look-columns-determined mode g q cols lent flags flags′ r r′ p a b =
+    let w = own-shows (g .len) cols (p .narrow) in
+    record {
+      bytes = flags-unique (length cols) _ flags flags′ (a .flagged _ w) (b .flagged _ w);
+      result = tells-determined _ r r′ (a .some _ w) (b .some _ w);
+    }
 
 module _ (mode : Mode) (n : ℕ) (g : Group) (q : ℕ) (xs : List ℤ) where
   pub look-determined :

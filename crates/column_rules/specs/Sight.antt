@@ -1,6 +1,6 @@
 -- A look at a panel: what the mode sees of the group at each site, and which sites act.
-use Prim.Native.Nat.{ℕ, _≤_, _<_}
-use mathlib.Core.Path.{_≡_, refl, ap, _∙_}
+use Prim.Native.Nat.{ℕ, _^_, _≤_, _<_}
+use mathlib.Core.Path.{_≡_, refl, sym, ap, subst, _∙_}
 use mathlib.Core.Bool.{Bool, true, false}
 use mathlib.Core.List.{List}
 use lib.Dec.{eqb}
@@ -16,7 +16,7 @@ use Rattle.paper.specs.Panel.Takes.{isGperm}
 use Rattle.paper.specs.Site.Acting.{gauge, testBy, acts, SomeActs, NoneActs}
 use Rattle.paper.specs.Component.Marks.{Flags}
 use Rattle.paper.specs.Refusal.Rules.{Spin}
-use Rattle.columns.specs.Column.{shown, columnOf, Inside, Spinning, Columns}
+use Rattle.columns.specs.Column.{shown, columnOf, column-lt, Inside, Spinning, Columns}
 use Rattle.columns.specs.Gauge.{gaugeOf, gauge-column}
 use Rattle.column_rules.specs.Laws.{SomeSite, none-passes, gauge-spin, test-column}
 
@@ -27,9 +27,35 @@ seenBy mode n g q xs i = gauge mode (patternOf n g xs q) (patternOf n g xs i)
 abbrev pub seenAt : Call → List ℤ → ℕ → Pattern
 seenAt c = seenBy (c .mode) (c .lattice .n) (c .group) (c .reference)
 
--- and whether it acts
+-- whether a site acts where the site i has the pattern f i
+abbrev pub actsBy : Mode → ℕ → ℕ → (ℕ → Pattern) → ℕ → Bool
+actsBy mode m q f i = testBy mode m (gauge mode (f q) (f i))
+
+-- and on the group's rows
 abbrev pub actsAt : Mode → ℕ → Group → ℕ → List ℤ → ℕ → Bool
-actsAt mode n g q xs i = testBy mode (g .len) (seenBy mode n g q xs i)
+actsAt mode n g q xs = actsBy mode (g .len) q (patternOf n g xs)
+
+-- ---- a look at columns
+
+-- the sites have the patterns f of m spins, of which these are the columns
+pub record Shows (m : ℕ) (cols : List ℕ) (f : ℕ → Pattern) : Type 0 where
+  pub columns : Columns (length cols) m f cols
+  pub spins : (i k : ℕ) → i < length cols → k < m → Spin (f i k)
+
+-- what it asks: columns of the group's size, a mark for each, and a reference site where one is taken
+pub record Lookable (mode : Mode) (g : Group) (q : ℕ) (cols flags : List ℕ) : Type 0 where
+  pub size-low : 1 ≤ g .len
+  pub size-high : g .len ≤ 8
+  pub narrow : (i : ℕ) → i < length cols → getD cols i 0 < 2 ^ g .len
+  pub reference : isGperm mode ≡ true → q < length cols
+  pub flags-long : length flags ≡ length cols
+
+-- what it leaves, for the patterns that the columns show
+pub record Looks (mode : Mode) (m q : ℕ) (cols flags : List ℕ) (r : Bool) : Type 0 where
+  pub flagged : (f : ℕ → Pattern) → Shows m cols f → Flags (length cols) (actsBy mode m q f) flags
+  pub some : (f : ℕ → Pattern) → Shows m cols f → Tells r (SomeSite (length cols) (actsBy mode m q f))
+
+-- ---- a look at rows
 
 -- what a look asks: the group's rows of spins, and a reference site where one is taken
 pub record Sighted (mode : Mode) (n : ℕ) (g : Group) (q : ℕ) (xs : List ℤ) : Type 0 where
@@ -56,6 +82,33 @@ pub record Sights (mode : Mode) (n : ℕ) (g : Group) (q : ℕ) (xs : List ℤ) 
   pub columns : Columns n (g .len) (patternOf n g xs) cols
   pub flagged : Flags n (actsAt mode n g q xs) flags
   pub some : Tells r (SomeSite n (actsAt mode n g q xs))
+
+-- a look at the columns of rows is a look at the rows
+module _
+    {mode : Mode} {n : ℕ} {g : Group} {q : ℕ} {xs : List ℤ} {cols : List ℕ} (p : Sighted mode n g q xs)
+    (w : Columns n (g .len) (patternOf n g xs) cols)
+  where
+    rows-show : Shows (g .len) cols (patternOf n g xs)
+    rows-show = record {
+      columns = record { long = refl; at = λ i h. w .at i (rw (w .long) at h) };
+      spins = λ i k h l. p .spins i k (rw (w .long) at h) l;
+    }
+
+    pub rows-look : {flags : List ℕ} → length flags ≡ n → Lookable mode g q cols flags
+    rows-look long = record {
+      size-low = p .size-low;
+      size-high = p .size-high;
+      narrow = λ i h. rw (w .at i (rw (w .long) at h)) (column-lt (g .len) (patternOf n g xs i));
+      reference = λ e. rw (w .long) (p .reference e);
+      flags-long = long ∙ sym (w .long);
+    }
+
+    pub look-sights : {flags : List ℕ} {r : Bool} → Looks mode (g .len) q cols flags r → Sights mode n g q xs cols flags r
+    look-sights {flags} {r} l = record {
+      columns = w;
+      flagged = subst (λ (x : ℕ). Flags x (actsAt mode n g q xs) flags) (w .long) (l .flagged _ rows-show);
+      some = subst (λ (x : ℕ). Tells r (SomeSite x (actsAt mode n g q xs))) (w .long) (l .some _ rows-show);
+    }
 
 module _ (mode : Mode) (n : ℕ) (g : Group) (q : ℕ) (xs : List ℤ) (spins : Spinning n g xs) (reference : isGperm mode ≡ true → q < n) where
   pub seen-spin : (i k : ℕ) → i < n → k < g .len → Spin (seenBy mode n g q xs i k)

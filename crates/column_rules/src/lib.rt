@@ -15,7 +15,7 @@ ghost use Rattle.lemmas.specs.Tells.{Tells};
 ghost use Rattle.columns.specs.Column.{shown, columnOf};
 ghost use Rattle.column_rules.specs.Tables.{Sized, Table, actsEntry, flipEntry, Looked};
 ghost use Rattle.column_rules.specs.Laws.{SomeSite};
-ghost use Rattle.column_rules.specs.Sight.{actsAt, Sighted, SightedAt, Seeable, Sights};
+ghost use Rattle.column_rules.specs.Sight.{actsAt, Lookable, Looks, Sighted, SightedAt, Seeable, Sights};
 
 // The first len bits of a column.
 fn low(column: u8, len: usize) -> u8
@@ -164,7 +164,22 @@ pub fn mark_active(table: [u8; 256], gauge: u8, cols: &[u8], acts: &mut [u8]) ->
     found
 }
 
-// The group's columns, and which sites act. True where some site does.
+// Which sites act, on the group's columns. True where some site does.
+pub fn look_columns(
+    mode: Mode,
+    group: Group,
+    reference: usize,
+    cols: &[u8],
+    acts: &mut [u8],
+) -> bool
+    requires { ⌜ Lookable mode group reference (now cols) (now acts) ⌝ }
+    ensures { λ r. ⌜ Looks mode (group .len) reference (now (cols .entry)) (now (acts .exit)) r ⌝ }
+{
+    let gauge = columns::gauge(mode, group, reference, cols);
+    mark_active(acts_table(mode, group), gauge, cols, acts)
+}
+
+// The columns of the group's rows, and which sites act. True where some site does.
 pub fn look(
     mode: Mode,
     n: usize,
@@ -178,8 +193,7 @@ pub fn look(
     ensures { λ r. ⌜ Sights mode n group reference (now (spins .entry)) (now (cols .exit)) (now (acts .exit)) r ⌝ }
 {
     columns::pack(spins, n, group, cols);
-    let gauge = columns::gauge(mode, group, reference, cols);
-    mark_active(acts_table(mode, group), gauge, cols, acts)
+    look_columns(mode, group, reference, cols, acts)
 }
 
 // Whether some site acts.

@@ -1,15 +1,15 @@
 -- The bits of columns: one place more, what a shift reads, and the number that holds all of them.
 use Prim.Native.Nat.{ℕ, zero, suc, _+_, _-_, _*_, _/_, _%_, _^_, _≤_, _<_}
-use mathlib.Core.Path.{_≡_, refl, _∙_, ap}
+use mathlib.Core.Path.{_≡_, refl, sym, _∙_, ap}
 use mathlib.Core.Bool.{Bool, true, false}
 use native.Mathlib.Omega.{arith}
 use native.Mathlib.Numerals.{add-one}
-use native.Mathlib.Nat.{mod-lt, lt-of-lt-of-le}
+use native.Mathlib.Nat.{mod-one, mod-lt, mod-eq-of-lt, lt-of-lt-of-le}
 use lib.Dec.{eqb}
 use lib.IntN.{negℤ}
-use lib.Pow.{pow-mono, shl-exact}
+use lib.Pow.{mod-pow-add, pow-mono, shl-exact}
 use Rattle.lemmas.specs.Counts.{bit}
-use Rattle.columns.specs.Column.{code, code-lt, bitOf, sign, shown, isUp}
+use Rattle.columns.specs.Column.{code, code-lt, code-ext, bitOf, sign, shown, isUp, columnOf}
 
 -- a code with one place more
 pub code-none : (f : ℕ → Bool) → code 0 f ≡ 0
@@ -59,3 +59,22 @@ code-step k f x b h e eb = rw (shl-exact {a = b} 1 k 8 (rw eb (bit-lt (f k))) (o
     bit-lt : (t : Bool) → bit t < 2
     bit-lt true = omega arith
     bit-lt false = omega arith
+
+-- ---- the first bits of a byte
+
+-- one bit more
+pub low-more : (x m : ℕ) → x % 2 ^ suc m ≡ x / 2 ^ m % 2 * 2 ^ m + x % 2 ^ m
+low-more x m = ap (λ (e : ℕ). x % 2 ^ e) (omega arith) ∙ mod-pow-add x 1 m
+
+pub bits-low : (m x : ℕ) → code m (bitOf x) ≡ x % 2 ^ m
+unfolding code
+bits-low zero x = sym (mod-one x)
+bits-low (suc m) x = rw (bits-low m x, bit-value x m) (omega (arith, low-more x m))
+
+-- the column of what a byte shows is its first bits
+pub column-low : (m x : ℕ) → columnOf m (shown x) ≡ x % 2 ^ m
+column-low m x = code-ext m _ (bitOf x) (λ k h. sign-up (bitOf x k)) ∙ bits-low m x
+
+-- so a column of m members is the column of what it shows
+pub column-same : (m x : ℕ) → x < 2 ^ m → columnOf m (shown x) ≡ x
+column-same m x h = column-low m x ∙ mod-eq-of-lt h

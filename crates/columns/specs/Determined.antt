@@ -24,6 +24,9 @@ pub permute-group-site-determined :
     → r ≡ r′
 permute-group-site-determined column g perm r r′ e e′ = e ∙ sym e′
 
+pub copy-determined : (cols to to′ : List ℕ) → to ≡ cols → to′ ≡ cols → to ≡ to′
+copy-determined cols to to′ e e′ = e ∙ sym e′
+
 pub columns-unique : (n m : ℕ) (f : ℕ → Pattern) (cols cols′ : List ℕ) → Columns n m f cols → Columns n m f cols′ → cols ≡ cols′
 columns-unique n m f cols cols′ c c′ = ext-getD 0 cols cols′ (c .long ∙ sym (c′ .long)) at
   where

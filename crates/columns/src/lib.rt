@@ -1,7 +1,7 @@
 // A site's whole group as one byte, its column.
 ghost use mathlib.Core.Path.{_≡_};
 ghost use Prim.Native.Nat.{_*_, _≤_, _<_};
-ghost use lib.ListN.{getD};
+ghost use lib.ListN.{length, getD};
 ghost use lib.IntN.{pos, negℤ};
 ghost use Rattle.lemmas.specs.Counts.{bit};
 ghost use Rattle.paper.specs.Panel.Input.{spin, patternOf};
@@ -45,6 +45,19 @@ fn pack_row(row: &[i8], weight: u8, cols: &mut [u8])
     let mut i: usize = 0;
     while i < n {
         cols[i] = cols[i] + weigh(row[i], weight);
+        i += 1;
+    }
+}
+
+// Copies columns.
+pub fn copy(cols: &[u8], to: &mut [u8])
+    requires { ⌜ length (now cols) ≡ length (now to) ⌝ }
+    ensures { λ _. ⌜ now (to .exit) ≡ now (cols .entry) ⌝ }
+{
+    let n = to.len();
+    let mut i: usize = 0;
+    while i < n {
+        to[i] = cols[i];
         i += 1;
     }
 }

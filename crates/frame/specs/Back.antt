@@ -4,7 +4,7 @@ use mathlib.Core.Bool.{Bool, true, false}
 use mathlib.Core.List.{List, []}
 use Rattle.paper.specs.Refusal.Rules.{Inverse}
 use Rattle.paper.specs.Answer.Frame.{frameLattice, HasBack}
-use Rattle.lattice.specs.Backward.{Turned}
+use Rattle.neighbours.specs.Backward.{Turned}
 
 -- where there is a backward table, bwd is one
 pub record Reversed (n d : ℕ) (fwd bwd : List ℕ) : Type 0 where

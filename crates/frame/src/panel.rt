@@ -9,7 +9,7 @@ use paper::Mode;
 use paper::Task;
 ghost use mathlib.Core.List.{List, [], _∷_};
 ghost use Prim.Native.Nat.{ℕ, _*_};
-ghost use Rattle.lattice.specs.Backward.{Turnable};
+ghost use Rattle.neighbours.specs.Backward.{Turnable};
 ghost use Rattle.paper.specs.Panel.Made.{buffersOf};
 ghost use Rattle.frame_lines.specs.Reading.{Held, Readout};
 ghost use Rattle.frame_lines.specs.Writing.{WrittenAs};
@@ -35,7 +35,7 @@ fn perm_move(
         (buffersOf (now (spins .entry)) (now (labels .entry)) [] (now (counts .entry)) (now (sizes .entry)) [] (0 ∷ []) [])
         r (now (bwd .exit)) (now (spins .exit)) (now (labels .exit)) (now (counts .exit)) (now (sizes .exit)) ⌝ }
 {
-    lattice::backward(n, d, fwd, bwd);
+    neighbours::backward(n, d, fwd, bwd);
     let mut totals = [0i64; 1];
     let pins = [0u8; 4096];
     let couplings = [0i32; 1];

@@ -1,38 +1,15 @@
--- How tight the promises are: what each allows for one input is one answer and one content of every lent buffer.
+-- How tight the promise is: what it allows for one input is one answer and one content of every lent buffer.
 use Prim.Native.Nat.{ℕ}
 use mathlib.Core.Path.{_≡_, refl, sym, _∙_, ap}
-use mathlib.Core.Bool.{Bool}
 use mathlib.Core.List.{List}
-use lib.Seq.{ext-getD}
 use Rattle.paper.specs.Component.Marks.{marked}
-use Rattle.paper.specs.Component.Sizes.{Sized}
 use Rattle.paper.specs.Refusal.Rule.{Kept, Broken, broken-unique, broken-not-kept}
-use Rattle.laws.specs.Unique.{labels-unique, found-unique, numbered-unique, counts-unique, sizes-unique}
+use Rattle.laws.specs.Unique.{numbered-unique}
+use Rattle.sizes.specs.Determined.{SameSizes, count-determined}
 use Rattle.label.specs.declared.Labelling.{Labelling}
 use Rattle.label.specs.declared.Labelling.the-variants.{Unlabelled, Written}
-use Rattle.label.specs.Contract.{graphOf, Labelled, Reported}
+use Rattle.label.specs.Contract.{graphOf}
 use Rattle.label.specs.Entry.{Request, Lent, rules, Accepts, Answers}
-
--- two lists and two others
-pub record SameTwo (a a′ b b′ : List ℕ) : Type 0 where
-  pub first : a ≡ a′
-  pub second : b ≡ b′
-
-tally-unique : (l t t′ : List ℕ) → Sized l t → Sized l t′ → t ≡ t′
-tally-unique l t t′ h h′ = ext-getD 0 t t′ (h .long ∙ sym (h′ .long)) (λ i il. h .each i (rw (h .long) at il) ∙ sym (h′ .each i (rw (h .long) at il)))
-
-pub label-determined : (n d : ℕ) (fwd holds l l′ t t′ : List ℕ) (m m′ : ℕ) → Labelled n d fwd holds l t m → Labelled n d fwd holds l′ t′ m′
-    → SameTwo l l′ t t′ × (m ≡ m′)
-label-determined n d fwd holds l l′ t t′ m m′ h h′ = (
-  record { first = same; second = tally-unique l t t′ (h .sized) (rw same (h′ .sized)) },
-  found-unique (graphOf n d fwd) (marked d holds) l l′ (h .labels) (h′ .labels),
-)
-  where
-    same : l ≡ l′
-    same = labels-unique (graphOf n d fwd) (marked d holds) l l′ (h .labels) (h′ .labels)
-
-pub count-determined : {mark : ℕ → Bool} (l c c′ s s′ : List ℕ) → Reported mark l c s → Reported mark l c′ s′ → SameTwo c c′ s s′
-count-determined l c c′ s s′ h h′ = record { first = counts-unique l c c′ (h .counted) (h′ .counted); second = sizes-unique l s s′ (h .largest) (h′ .largest) }
 
 pub record Same (a a′ : Labelling) (b b′ : Lent) : Type 0 where
   pub answer : a ≡ a′
@@ -40,7 +17,7 @@ pub record Same (a a′ : Labelling) (b b′ : Lent) : Type 0 where
 
 module _ (r : Request) (b y z : Lent) where
   written-same : Accepts r b y → Accepts r b z → y ≡ z
-  written-same p q = λ i. record { labels = l i; counts = two .first i; sizes = two .second i; found = both .1 i }
+  written-same p q = λ i. record { labels = l i; counts = two .counts i; sizes = two .sizes i; found = both .1 i }
     where
       both : (y .labels ≡ z .labels) × (y .found ≡ z .found)
       both =
@@ -50,7 +27,7 @@ module _ (r : Request) (b y z : Lent) where
       l : y .labels ≡ z .labels
       l = both .0
 
-      two : SameTwo (y .counts) (z .counts) (y .sizes) (z .sizes)
+      two : SameSizes (y .counts) (z .counts) (y .sizes) (z .sizes)
       two = count-determined (y .labels) (y .counts) (z .counts) (y .sizes) (z .sizes) (p .seen .reported) (rw l (q .seen .reported))
 
   pub components-determined : (a a′ : Labelling) → Answers r b a y → Answers r b a′ z → Same a a′ y z

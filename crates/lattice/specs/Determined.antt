@@ -1,4 +1,4 @@
--- Each test's promise allows one answer; `backward-determined` is in Backward.antt.
+-- Each test's promise allows one answer.
 use Prim.Native.Nat.{ℕ, _+_, _*_, _≤_, _<_}
 use mathlib.Core.Path.{_≡_}
 use mathlib.Core.Bool.{Bool}
@@ -10,7 +10,7 @@ use Rattle.lemmas.specs.Tells.{Tells, tells-determined}
 use Rattle.paper.specs.declared.Group.{Group}
 use Rattle.paper.specs.declared.Mode.{Mode}
 use Rattle.paper.specs.declared.Form.{Form}
-use Rattle.paper.specs.Refusal.Rules.{When, Sizes, Ranged, HoudOfTwo, Inverse, Grouped, SmallCouplings, Warm, Cuts, Permutes, NotIdentity}
+use Rattle.paper.specs.Refusal.Rules.{When, Sizes, Ranged, HoudOfTwo, Grouped, SmallCouplings, Warm, Cuts, Permutes, NotIdentity}
 use Rattle.paper.specs.Answer.Totals.{SmallTotals}
 use Rattle.lattice.specs.Spinning.{AllSpins}
 
@@ -53,9 +53,6 @@ cuts-ok-determined cuts = tells-determined _
 
 pub bytes-at-most-determined : (xs : List ℕ) (top : ℕ) → OneAnswer ((k : ℕ) → k < length xs → getD xs k 0 ≤ top)
 bytes-at-most-determined xs top = tells-determined _
-
-pub tables-ok-determined : (n d : ℕ) (fwd bwd : List ℕ) → OneAnswer (Inverse n d fwd bwd)
-tables-ok-determined n d fwd bwd = tells-determined _
 
 pub group-ok-determined : (s : ℕ) (g : Group) → OneAnswer (Grouped s g)
 group-ok-determined s g = tells-determined _

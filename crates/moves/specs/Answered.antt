@@ -1,12 +1,12 @@
 -- From an accepted call to what the steps ask, and from what they leave to the call's answer.
-use Prim.Native.Nat.{ℕ, _*_, _≤_}
+use Prim.Native.Nat.{ℕ, _*_, _^_, _≤_, _<_}
 use mathlib.Core.Path.{_≡_, refl, sym, _∙_}
 use mathlib.Core.Logic.{_↔_}
 use mathlib.Core.Bool.{Bool, true, false, not, cond}
-use mathlib.Core.List.{List, []}
+use mathlib.Core.List.{List}
 use native.Mathlib.Omega.{arith}
 use native.Mathlib.Nat.{mul-le-mul}
-use lib.ListN.{length, take, replicate}
+use lib.ListN.{length, getD, take, replicate}
 use lib.Seq.{length-take-le}
 use lib.IntN.{ℤ}
 use lib.Ieee.{Float}
@@ -34,15 +34,11 @@ use Rattle.columns.specs.Rows.{Written}
 use Rattle.column_rules.specs.Sight.{none-acts}
 use Rattle.moves.specs.Tested.{TestedFor, ready}
 use Rattle.moves.specs.Moved.{Rows}
-use Rattle.moves.specs.Steps.{LabelAsks, LabelLeaves, ChooseAsks, ChooseLeaves, WriteAsks, WriteLeaves}
+use Rattle.moves.specs.Rewritten.{written-same}
+use Rattle.moves.specs.Steps.{ColumnsOf, LabelAsks, LabelLeaves, ChooseAsks, ChooseLeaves, Settled}
 use Rattle.moves.specs.Held.{grey-labels}
 use Rattle.moves.specs.Choices.{places-of, rows-of, columns-narrow}
 use Rattle.moves.specs.Finish.{no-move, observed, spins-back, final-columns}
-
--- what a task asks. A form that labels takes no members, so these may be any
-pub record RunAsks (c : Call) (p : Choices) (xs : List ℤ) (labels greyLabels counts sizes found greyFound : List ℕ) : Type 0 where
-  pub labelled : labelsBy (c .form) ≡ true
-  pub valid : Valid c p (buffersOf xs labels greyLabels counts sizes [] found greyFound)
 
 pub valid-with :
     {c : Call} {p : Choices} {xs : List ℤ} {labels greyLabels counts sizes members found greyFound : List ℕ} → labelsBy (c .form) ≡ true
@@ -111,14 +107,16 @@ module _
 
     -- ---- label
     pub label-asks :
-        LabelAsks t fwd couplings cuts (b .spins) (area 4096 (t .n)) (area 4096 (t .n)) (area 16384 (t .n * t .d)) (area 16384 (t .n * t .d))
-        (area 4096 (t .n)) (b .labels) (b .counts) (b .sizes) (b .found)
-    label-asks = record {
+        {cols : List ℕ} → ColumnsOf t (b .spins) cols
+        → LabelAsks t fwd couplings cuts cols (area 4096 (t .n)) (area 16384 (t .n * t .d)) (area 16384 (t .n * t .d)) (area 4096 (t .n))
+        (b .labels) (b .counts) (b .sizes) (b .found)
+    label-asks w = record {
+      rows = b .spins;
       tested = tested;
+      columns = w;
       reference = v .fit .chosen .reference;
       coupled = λ q. record { couplings-long = v .sound .exact .couplings q; cuts-long = v .sound .exact .cuts q; small = v .sound .couplings q };
       lent = record {
-        cols-long = length-take-le (t .n) _ n-high;
         flags-long = length-take-le (t .n) _ n-high;
         holding-long = length-take-le (t .n * t .d) _ bonds-high;
         grey-long = length-take-le (t .n * t .d) _ bonds-high;
@@ -147,7 +145,7 @@ module _
       pub found-kept : length found ≡ length (b .found)
       found-kept = d .labelled .one ∙ sym (v .sound .exact .found f)
 
-      -- ---- choose and write
+      -- ---- choose and settle
       pub choose-asks :
           moves (t .form) ≡ true
           → ChooseAsks t fwd pins (p .choices) (p .greys) flags grey l tally (area 4096 (t .n)) cols (b .greyLabels) (b .greyFound)
@@ -204,15 +202,6 @@ module _
           pub new-long : length new ≡ t .n
           new-long = w .columns .long ∙ long
 
-          pub write-asks : WriteAsks t (b .spins) new
-          write-asks = record {
-            n-high = n-high;
-            size-high = tested .size-high;
-            inside = tested .inside;
-            distinct = tested .distinct;
-            cols-long = new-long;
-          }
-
           -- ---- the answers
           moved-by :
               {ys : List ℤ} → moves (t .form) ≡ true → Written (t .n) (t .group .len) (t .group) new (b .spins) ys → Moves c p (b .spins) l greyLabels ys
@@ -250,9 +239,10 @@ module _
           seed-held q = held-labels c (b .spins) (v .fit .seeded .below q) l (d .labelled .labels)
 
           pub done-answers :
-              {a : Answer} {ys : List ℤ} → not r ≡ false → moves (t .form) ≡ true → WriteLeaves t held new (b .spins) a ys
+              {a : Answer} {last : List ℕ} {ys : List ℤ} → not r ≡ false → moves (t .form) ≡ true → Settled held cols new a last
+              → Written (t .n) (t .group .len) (t .group) last (b .spins) ys
               → Answers c p b a (buffersOf ys l greyLabels counts sizes (b .members) found greyFound)
-          done-answers {a} {ys} e moving o = rw (o .answer) (go held refl)
+          done-answers {a} {last} {ys} e moving s o = rw (s .answer) (go held refl)
             where
               go : (h : Bool) → held ≡ h → Answers c p b (cond h Held Moved) (buffersOf ys l greyLabels counts sizes (b .members) found greyFound)
               go true h =
@@ -263,17 +253,23 @@ module _
                     some = passed r e (d .some);
                     one = one;
                     held = seed-held one .0 (and-right (oneCluster (t .form)) _ q);
-                    still = o .kept h;
+                    still = written-same (d .columns) (tested .spins) (rw (s .kept h) at o);
                     seen = seen-moving moving;
                   }
               go false h = record {
                 valid = valid-kept c p b v;
                 some = passed r e (d .some);
                 free = λ one s. never (sym h ∙ (w .held ∙ rw (one, seed-held one .1 s) refl));
-                moved = λ _. moved-by moving (o .written h);
+                moved = λ _. moved-by moving (rw (s .moved h) at o);
                 turned = forms-apart (t .form) f;
                 seen = seen-moving moving;
               }
+
+          -- the chosen columns are of the group's size
+          pub chosen-narrow : moves (t .form) ≡ true → (i : ℕ) → i < t .n → getD new i 0 < 2 ^ t .group .len
+          chosen-narrow moving = columns-narrow
+              (final-columns t fwd bwd pins couplings cuts p (b .spins) l greyLabels tested (v .fit .chosen .reference)
+              (λ _. rows-of c p (b .spins) l moving (d .labelled .labels) (v .fit .chosen .perms)) moving (d .acting) (d .columns) (w .columns))
 
       pub observe-answers :
           not r ≡ false → moves (t .form) ≡ false

@@ -1,4 +1,5 @@
--- What tested input says; what the steps ask and leave; laws from columns, bonds and choices to the paper; the answers; that there is one.
+-- What tested input says; what the steps ask and leave; laws from columns, bonds and choices to the paper; the answers, on rows and on columns; that there is
+-- one.
 pub mod Tested
 pub mod Looked
 pub mod Moved
@@ -7,5 +8,7 @@ pub mod Held
 pub mod Choosing
 pub mod Choices
 pub mod Finish
+pub mod Rewritten
 pub mod Answered
+pub mod Leaves
 pub mod Determined

@@ -1,4 +1,4 @@
--- What the steps of a task ask and what they leave: hold, label, choose, write.
+-- What the steps of a task on columns ask and what they leave: hold, label, choose, settle.
 use Prim.Native.Nat.{ℕ, _+_, _*_, _^_, _≤_, _<_}
 use mathlib.Core.Path.{_≡_}
 use mathlib.Core.Bool.{Bool, true, false, cond, _&&_}
@@ -12,7 +12,8 @@ use Rattle.paper.specs.declared.Mode.{Mode}
 use Rattle.paper.specs.declared.Sampler.{Sampler}
 use Rattle.paper.specs.declared.Answer.{Answer}
 use Rattle.paper.specs.declared.Answer.the-variants.{Held, Moved}
-use Rattle.paper.specs.Panel.Input.{Call, pattern, member, graph, size}
+use Rattle.paper.specs.Panel.Input.{Call, pattern, patternOf, graph, size}
+use Rattle.paper.specs.Panel.Made.{callOf}
 use Rattle.paper.specs.Panel.Takes.{isPerm, isGperm, isCmr, isDrawn, oneCluster, moves, entries, flipsBy}
 use Rattle.paper.specs.Site.Acting.{acts, SomeActs}
 use Rattle.paper.specs.Site.Bonds.{samplerOf, holds, holdsGrey}
@@ -20,9 +21,7 @@ use Rattle.paper.specs.Component.Labels.{Numbered}
 use Rattle.paper.specs.Component.Sizes.{labelOf, Sized, Counted, Largest}
 use Rattle.paper.specs.Component.Marks.{Flags, Marks, marked}
 use Rattle.paper.specs.Move.Moving.{greyAt, hasOne}
-use Rattle.paper.specs.Refusal.Rules.{Distinct}
-use Rattle.columns.specs.Column.{Inside, Columns}
-use Rattle.columns.specs.Rows.{Written}
+use Rattle.columns.specs.Column.{Columns}
 use Rattle.columns.specs.Gauge.{gaugeOf}
 use Rattle.bonds.specs.Table as table
 use Rattle.bonds.specs.Table.{Coupled, ActiveIn, bothActing, jorgAt, blueAt}
@@ -30,6 +29,10 @@ use Rattle.label.specs.Contract.{graphOf}
 use Rattle.choose.specs.Chosen.{Becomes, isOne, Freed, reachedAt, greyed}
 use Rattle.column_rules.specs.Acted.{choiceColumn}
 use Rattle.moves.specs.Tested.{Tested}
+
+-- the group's rows in xs have these columns
+abbrev pub ColumnsOf : Task → List ℤ → List ℕ → Type 0
+ColumnsOf t xs cols = Columns (t .n) (t .group .len) (patternOf (t .n) (t .group) xs) cols
 
 -- ---- hold: the tables of bonds. The grey one is worked out where CMR moves
 -- the bonds that hold, worked out on marks of acting sites and on columns; in CMR the blue ones
@@ -52,10 +55,9 @@ pub record HoldLeaves (t : Task) (fwd : List ℕ) (couplings : List ℤ) (cuts :
       isCmr (t .mode) ≡ true → moves (t .form) ≡ true → Marks (t .n) (t .d) (table.greyAt (t .d) fwd couplings cuts (samplerOf (t .temperature)) cols) grey
   pub grey-long : length grey ≡ t .n * t .d
 
--- ---- label: from spins to columns, labels, counts, sizes, and how many components there are
+-- ---- label: from columns to labels, counts, sizes, and how many components there are
 -- the areas that it fills
-pub record LabelAreas (n d : ℕ) (cols flags holding grey tally labels counts sizes found : List ℕ) : Type 0 where
-  pub cols-long : length cols ≡ n
+pub record LabelAreas (n d : ℕ) (flags holding grey tally labels counts sizes found : List ℕ) : Type 0 where
   pub flags-long : length flags ≡ n
   pub holding-long : length holding ≡ n * d
   pub grey-long : length grey ≡ n * d
@@ -65,13 +67,16 @@ pub record LabelAreas (n d : ℕ) (cols flags holding grey tally labels counts s
   pub sizes-long : length sizes ≡ 4
   pub found-long : length found ≡ 1
 
+-- the columns are of some rows that are tested
 pub record LabelAsks
-    (t : Task) (fwd : List ℕ) (couplings : List ℤ) (cuts : List Float) (xs : List ℤ) (cols flags holding grey tally labels counts sizes found : List ℕ)
+    (t : Task) (fwd : List ℕ) (couplings : List ℤ) (cuts : List Float) (cols flags holding grey tally labels counts sizes found : List ℕ)
     : Type 0 where
-  pub tested : Tested (t .mode) (t .n) (t .d) fwd (t .group) xs
+  pub rows : List ℤ
+  pub tested : Tested (t .mode) (t .n) (t .d) fwd (t .group) rows
+  pub columns : ColumnsOf t rows cols
   pub reference : isGperm (t .mode) ≡ true → t .reference < t .n
   pub coupled : isDrawn (t .mode) ≡ true → Coupled (t .n) (t .d) couplings cuts
-  pub lent : LabelAreas (t .n) (t .d) cols flags holding grey tally labels counts sizes found
+  pub lent : LabelAreas (t .n) (t .d) flags holding grey tally labels counts sizes found
 
 pub record LabelLeaves (c : Call) (xs : List ℤ) (cols flags grey tally labels counts sizes found : List ℕ) (r : Bool) : Type 0 where
   pub columns : Columns (c .lattice .n) (size c) (pattern c xs) cols
@@ -83,6 +88,13 @@ pub record LabelLeaves (c : Call) (xs : List ℤ) (cols flags grey tally labels 
   pub tallied : Sized labels tally
   pub counted : Counted (acts c xs) labels counts
   pub largest : Largest (acts c xs) labels sizes
+
+-- for any rows that have these columns
+abbrev pub LabelsFor :
+    Task → List ℕ → List ℤ → List Float → List ℕ → List ℕ → List ℕ → List ℕ → List ℕ → List ℕ → List ℕ → List ℕ → Bool → Type 0
+LabelsFor t fwd couplings cuts cols flags grey tally labels counts sizes found r =
+    (bwd pins : List ℕ) (xs : List ℤ) → Tested (t .mode) (t .n) (t .d) fwd (t .group) xs → ColumnsOf t xs cols
+    → LabelLeaves (callOf t fwd bwd pins couplings cuts) xs cols flags grey tally labels counts sizes found r
 
 -- ---- choose: the new columns. Of the labels it needs a key for each site, below n, and how many sites have it
 pub record Choosable (t : Task) (flags labels choices reached cols : List ℕ) : Type 0 where
@@ -158,16 +170,8 @@ pub record ChooseLeaves (t : Task) (fwd pins choices greys flags grey labels col
   pub grey-kept : isCmr (t .mode) ≡ false → greyLabels ≡ lent
   pub grey-found-kept : isCmr (t .mode) ≡ false → greyFound ≡ lentFound
 
--- ---- write: the group's rows
-pub record WriteAsks (t : Task) (xs : List ℤ) (cols : List ℕ) : Type 0 where
-  pub n-high : t .n ≤ 4096
-  pub size-high : t .group .len ≤ 8
-  pub inside : Inside (t .n) (t .group) xs
-  pub distinct : Distinct (t .group .len) (member (t .group))
-  pub cols-long : length cols ≡ t .n
-
--- the group's rows are those that the columns show, and the others' are as they were; where the seed's component is held, all are
-pub record WriteLeaves (t : Task) (held : Bool) (cols : List ℕ) (xs : List ℤ) (r : Answer) (ys : List ℤ) : Type 0 where
+-- ---- settle: the chosen columns stand, unless the seed's component is held: then all are what they were
+pub record Settled (held : Bool) (cols chosen : List ℕ) (r : Answer) (new : List ℕ) : Type 0 where
   pub answer : r ≡ cond held Held Moved
-  pub written : held ≡ false → Written (t .n) (t .group .len) (t .group) cols xs ys
-  pub kept : held ≡ true → ys ≡ xs
+  pub moved : held ≡ false → new ≡ chosen
+  pub kept : held ≡ true → new ≡ cols

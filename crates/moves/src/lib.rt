@@ -1,31 +1,27 @@
-// The work of one task, once its input is tested: label, choose, write.
+// The work of one task of a form that labels, on the columns of its group, once its input is tested: label, choose, settle.
 use lemmas::wide;
 use paper::Answer;
 use paper::Form;
 use paper::Sampler;
 use paper::Task;
-ghost use Prim.Native.Nat.{ℕ};
 ghost use mathlib.Core.Path.{_≡_};
 ghost use mathlib.Core.Bool.{true, _&&_};
-ghost use mathlib.Core.List.{List};
 ghost use lib.Dec.{eqb};
-ghost use lib.ListN.{getD};
+ghost use lib.ListN.{length, getD};
 ghost use Rattle.paper.specs.Panel.Takes.{oneCluster};
-ghost use Rattle.paper.specs.Panel.Made.{callOf, choicesOf, buffersOf};
-ghost use Rattle.paper.specs.Answer.Move.{Answers};
-ghost use Rattle.moves.specs.Answered.{RunAsks};
+ghost use Rattle.paper.specs.Panel.Made.{callOf, choicesOf};
+ghost use Rattle.moves.specs.Leaves.{RunAsks, besideOf, RunLeaves};
 ghost use Rattle.moves.specs.Steps.{
   HoldAsks,
   HoldLeaves,
   LabelAsks,
-  LabelLeaves,
+  LabelsFor,
   ColumnsAsks,
   ColumnsLeave,
   SeedAsks,
   ChooseAsks,
   ChooseLeaves,
-  WriteAsks,
-  WriteLeaves,
+  Settled,
 };
 
 // The table of holding bonds. CMR has two: these are its blue ones, and grey the table of its grey ones.
@@ -76,11 +72,10 @@ fn hold(
 // Labels the components of the group's bonds, writes how many there are, and counts those that act. True where some site acts.
 fn label_task(
     t: Task,
-    spins: &[i8],
+    cols: &[u8],
     fwd: &[u32],
     couplings: &[i32],
     cuts: &[f32],
-    cols: &mut [u8],
     acts: &mut [u8],
     holds: &mut [u8],
     grey: &mut [u8],
@@ -90,17 +85,16 @@ fn label_task(
     sizes: &mut [u32],
     found: &mut [u32],
 ) -> bool
-    requires { ⌜ LabelAsks t (now fwd) (now couplings) (now cuts) (now spins)
+    requires { ⌜ LabelAsks t (now fwd) (now couplings) (now cuts)
         (now cols) (now acts) (now holds) (now grey) (now tally) (now labels) (now counts) (now sizes) (now found) ⌝ }
-    ensures { λ r. ⌜ ((bwd pins : List ℕ) → LabelLeaves
-        (callOf t (now (fwd .entry)) bwd pins (now (couplings .entry)) (now (cuts .entry))) (now (spins .entry))
-        (now (cols .exit)) (now (acts .exit)) (now (grey .exit)) (now (tally .exit)) (now (labels .exit)) (now (counts .exit)) (now (sizes .exit))
-        (now (found .exit)) r) ⌝ }
+    ensures { λ r. ⌜ LabelsFor t (now (fwd .entry)) (now (couplings .entry)) (now (cuts .entry))
+        (now (cols .entry)) (now (acts .exit)) (now (grey .exit)) (now (tally .exit)) (now (labels .exit)) (now (counts .exit)) (now (sizes .exit))
+        (now (found .exit)) r ⌝ }
 {
     let mode = t.mode;
     let group = t.group;
     let n = t.n;
-    let some = column_rules::look(mode, n, spins, group, t.reference, cols, acts);
+    let some = column_rules::look_columns(mode, group, t.reference, cols, acts);
     hold(t, fwd, couplings, cuts, acts, cols, holds, grey);
     let many = label::label(n, t.d, fwd, holds, labels, tally);
     found[0] = many;
@@ -189,25 +183,25 @@ fn choose_task(
     held
 }
 
-// The rows of the group from its columns, unless the one component that the form would move is held: then all stay, in CMR those of grey sites too.
-fn write_task(t: Task, held: bool, spins: &mut [i8], cols: &[u8]) -> Answer
-    requires { ⌜ WriteAsks t (now spins) (now cols) ⌝ }
-    ensures { λ r. ⌜ WriteLeaves t held (now (cols .entry)) (now (spins .entry)) r (now (spins .exit)) ⌝ }
+// The answer. Where the one component that the form would move is held all columns stay, in CMR those of grey sites too.
+fn settle(held: bool, cols: &[u8], news: &mut [u8]) -> Answer
+    requires { ⌜ length (now cols) ≡ length (now news) ⌝ }
+    ensures { λ r. ⌜ Settled held (now (cols .entry)) (now (news .entry)) r (now (news .exit)) ⌝ }
 {
     if held {
+        columns::copy(cols, news);
         return Answer::Held;
     }
-    let group = t.group;
-    columns::write_rows(spins, t.n, group, cols);
     Answer::Moved
 }
 
-// One task of a form that labels, whose input is tested: labels, how many components there are, counts, sizes and spins as the paper has them. Components
-// with a pinned site stay; held is the answer where that is the one that the form would move. It is lent no members, and keeps any. The work arrays are this
-// call's own.
-pub fn run_task(
+// One task of a form that labels, on the columns of its group, whose input is tested: labels, how many components there are, counts, sizes and the new
+// columns as the paper has them. Components with a pinned site stay; held is the answer where that is the one that the form would move. The work arrays
+// are this call's own.
+pub fn run_columns(
     t: Task,
-    spins: &mut [i8],
+    cols: &[u8],
+    news: &mut [u8],
     fwd: &[u32],
     bwd: &[u32],
     pins: &[u8],
@@ -225,35 +219,34 @@ pub fn run_task(
     requires { ⌜ RunAsks
         (callOf t (now fwd) (now bwd) (now pins) (now couplings) (now cuts))
         (choicesOf (now choices) (now greys))
-        (now spins) (now labels) (now «grey_labels») (now counts) (now sizes) (now found) (now «grey_found») ⌝ }
-    ensures { λ r. ⌜ ((members : List ℕ) → Answers
+        (now cols) (now news) (now labels) (now «grey_labels») (now counts) (now sizes) (now found) (now «grey_found») ⌝ }
+    ensures { λ r. ⌜ RunLeaves
         (callOf t (now (fwd .entry)) (now (bwd .entry)) (now (pins .entry)) (now (couplings .entry)) (now (cuts .entry)))
         (choicesOf (now (choices .entry)) (now (greys .entry)))
-        (buffersOf (now (spins .entry)) (now (labels .entry)) (now («grey_labels» .entry)) (now (counts .entry)) (now (sizes .entry)) members
+        (now (cols .entry))
+        (besideOf (now (labels .entry)) (now («grey_labels» .entry)) (now (counts .entry)) (now (sizes .entry))
         (now (found .entry)) (now («grey_found» .entry)))
         r
-        (buffersOf (now (spins .exit)) (now (labels .exit)) (now («grey_labels» .exit)) (now (counts .exit)) (now (sizes .exit)) members
-        (now (found .exit)) (now («grey_found» .exit)))) ⌝ }
+        (now (news .exit))
+        (besideOf (now (labels .exit)) (now («grey_labels» .exit)) (now (counts .exit)) (now (sizes .exit))
+        (now (found .exit)) (now («grey_found» .exit))) ⌝ }
 {
     let n = t.n;
     let bonds = n * t.d;
-    let mut cols_area = [0u8; 4096];
     let mut acts_area = [0u8; 4096];
     let mut holds_area = [0u8; 16384];
     let mut grey_area = [0u8; 16384];
     let mut tally_area = [0u32; 4096];
-    let cols = &mut cols_area[..n];
     let acts = &mut acts_area[..n];
     let holds = &mut holds_area[..bonds];
     let grey = &mut grey_area[..bonds];
     let tally = &mut tally_area[..n];
     let some = label_task(
         t,
-        spins,
+        cols,
         fwd,
         couplings,
         cuts,
-        cols,
         acts,
         holds,
         grey,
@@ -263,6 +256,7 @@ pub fn run_task(
         sizes,
         found,
     );
+    columns::copy(cols, news);
     if !some {
         return Answer::Idle;
     }
@@ -280,11 +274,11 @@ pub fn run_task(
             labels,
             tally,
             &mut reached[..n],
-            cols,
+            news,
             grey_labels,
             grey_found,
         );
-        return write_task(t, held, spins, cols);
+        return settle(held, cols, news);
     }
     Answer::Moved
 }

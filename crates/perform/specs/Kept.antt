@@ -1,48 +1,48 @@
--- What a task of a form that labels leaves, as the totals' change asks it.
+-- What a task of a form that labels asks and leaves, on rows and on columns, and its totals.
 use Prim.Native.Nat.{ℕ}
-use mathlib.Core.Path.{refl, sym}
-use mathlib.Core.Bool.{true}
-use mathlib.Core.List.{List}
+use mathlib.Core.Path.{_≡_, refl, sym}
+use mathlib.Core.Bool.{Bool, true}
+use mathlib.Core.List.{List, []}
 use lib.IntN.{ℤ}
-use Rattle.paper.specs.declared.Answer.{Answer}
-use Rattle.paper.specs.declared.Answer.the-variants.{Refused, Idle, Held, Moved}
-use Rattle.paper.specs.Panel.Input.{Call, Choices, Buffers, patternOf, size, system}
-use Rattle.paper.specs.Refusal.Rule.{broken-not-kept}
-use Rattle.paper.specs.Refusal.Rules.{rules}
-use Rattle.paper.specs.Refusal.Kept.{Valid, valid-kept}
-use Rattle.paper.specs.Answer.Move.{Answers, Accepted, Accepted.idle, Accepted.held, Accepted.moved}
-use Rattle.paper.specs.Answer.Totals.{TotalsReady}
-use Rattle.laws.specs.Sanity.{others-kept}
-use Rattle.columns.specs.Column.{Columns, Inside}
+use Rattle.paper.specs.declared.Group.{Group}
+use Rattle.paper.specs.Panel.Input.{Lattice, Call, Choices, Buffers, pattern, patternOf, size}
+use Rattle.paper.specs.Panel.Made.{buffersOf}
+use Rattle.paper.specs.Panel.Takes.{labelsBy}
+use Rattle.paper.specs.Refusal.Kept.{Valid}
+use Rattle.paper.specs.Answer.Totals.{TotalsReady, TotalsAfter}
+use Rattle.columns.specs.Column.{Columns, Spinning}
+use Rattle.columns.specs.Rows.{Written}
 use Rattle.columns.specs.Laws.{columns-shown}
 use Rattle.moves.specs.Tested.{ready}
+use Rattle.moves.specs.Rewritten.{own-written}
 use Rattle.totals.specs.Contract.{Bringable, Between}
-use Rattle.perform.specs.Spinning.{spins-after, length-after}
+
+-- what a task on rows asks. A form that labels takes no members, so these may be any
+pub record RowsAsk (c : Call) (p : Choices) (xs : List ℤ) (labels greyLabels counts sizes found greyFound : List ℕ) : Type 0 where
+  pub labelled : labelsBy (c .form) ≡ true
+  pub valid : Valid c p (buffersOf xs labels greyLabels counts sizes [] found greyFound)
+
+-- what becomes of the totals, for any rows that have the columns before and after
+pub record KeepsFor (keeping : Bool) (g : Lattice) (group : Group) (cols new : List ℕ) (ts ts′ : List ℤ) : Type 0 where
+  pub each : (xs ys : List ℤ) → Between (g .n) group cols new xs ys → TotalsAfter keeping g xs ts ys ts′
+
+-- rows whose columns did not change are written from them
+pub still-written :
+    {n : ℕ} {g : Group} {xs : List ℤ} {cols new : List ℕ} → Columns n (g .len) (patternOf n g xs) cols → Spinning n g xs → new ≡ cols
+    → Written n (g .len) g new xs xs
+still-written w spins e = rw e (own-written w spins)
 
 module _ (c : Call) (p : Choices) (b : Buffers) (v : Valid c p b) where
-  -- tested input is not refused
-  accepted : (a : Answer) (b′ : Buffers) → Answers c p b a b′ → Accepted a
-  accepted (Refused r) b′ w = absurd (broken-not-kept (rules c p b) r (w .why) (valid-kept c p b v))
-  accepted Idle b′ w = idle
-  accepted Held b′ w = held
-  accepted Moved b′ w = moved
-
   -- the group's columns before the task and after it
   pub between :
-      (a : Answer) (b′ : Buffers) → Answers c p b a b′ → (olds news : List ℕ)
-      → Columns (c .lattice .n) (size c) (patternOf (c .lattice .n) (c .group) (b .spins)) olds
-      → Columns (c .lattice .n) (size c) (patternOf (c .lattice .n) (c .group) (b′ .spins)) news
-      → Between (c .lattice .n) (c .group) olds news (b .spins) (b′ .spins)
-  between a b′ w olds news x y = record {
-    before = λ i k li lk. sym (columns-shown x i k li lk (v .sound .spins (system c k) i (v .sound .grouped .below k lk) li));
-    after = λ i k li lk. sym
-        (columns-shown y i k li lk (spins-after c p b b′ a (accepted a b′ w) w (system c k) i (v .sound .grouped .below k lk) li));
-    others = others-kept c p b b′ a w;
+      {cols new : List ℕ} {ys : List ℤ} → Columns (c .lattice .n) (size c) (pattern c (b .spins)) cols
+      → Written (c .lattice .n) (size c) (c .group) new (b .spins) ys
+      → Between (c .lattice .n) (c .group) cols new (b .spins) ys
+  between w o = record {
+    before = λ i k li lk. sym (columns-shown w i k li lk (ready c p b (v .sound) .spins i k li lk));
+    after = o .group;
+    others = o .others;
   }
-
-  -- the group's rows are still there
-  pub after-inside : (a : Answer) (b′ : Buffers) → Answers c p b a b′ → Inside (c .lattice .n) (c .group) (b′ .spins)
-  after-inside a b′ w k l = rw (length-after c p b b′ a w) (ready c p b (v .sound) .inside k l)
 
   pub asks :
       (ts : List ℤ) → TotalsReady true (c .lattice) (c .group) ts → Bringable (c .lattice) (c .group) ts

@@ -1,4 +1,4 @@
--- The published names as modes, the way from verdicts to an answer, and that there is one answer.
+-- A move's numbers as one value, buffers that are lent empty, and that there is one answer.
 pub mod Rule
-pub mod Step
+pub mod Empty
 pub mod Determined

@@ -1,4 +1,4 @@
--- The published names of the rules, as modes; and a move's numbers as one value.
+-- A move's numbers as one value.
 use Prim.Native.Nat.{ℕ}
 use lib.Ieee.{Float}
 use Rattle.paper.specs.declared.Group.{Group}
@@ -6,15 +6,6 @@ use Rattle.paper.specs.declared.Form.{Form}
 use Rattle.paper.specs.declared.Keeps.{Keeps}
 use Rattle.paper.specs.declared.Task.{Task}
 use Rattle.paper.specs.declared.Mode.{Mode}
-use Rattle.paper.specs.declared.Mode.the-variants.{Houd, Pair, Perm, Gperm}
-use Rattle.steps.specs.declared.ActiveRule.{ActiveRule}
-use Rattle.steps.specs.declared.ActiveRule.the-variants.{Balanced, Pairwise, Permutation, GaugedPermutation}
-
-abbrev pub modeOf : ActiveRule → Mode
-modeOf Balanced = Houd
-modeOf Pairwise = Pair
-modeOf Permutation = Perm
-modeOf GaugedPermutation = Gperm
 
 abbrev pub taskOf : Mode → Form → Keeps → ℕ → ℕ → ℕ → Group → Float → ℕ → ℕ → Task
 taskOf mode form keeps n d s group temperature reference seed = record {

@@ -1,6 +1,4 @@
 // A sweep: tasks over temperatures and groups.
-mod run;
-
 use paper::Plan;
 use paper::SweepAnswer;
 ghost use Rattle.paper.specs.Panel.Takes.{keepsBy};
@@ -70,7 +68,7 @@ pub fn overlap_update(
     if fault != 0 {
         return SweepAnswer::Fault(fault);
     }
-    run::run_tasks(
+    sweep_tasks::run_tasks(
         plan,
         spins,
         totals,

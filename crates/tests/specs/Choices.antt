@@ -1,8 +1,8 @@
 -- Tests 8, 9 and 10 of a task, as the functions are handed them.
-use Prim.Native.Nat.{ℕ, suc, _+_, _*_, _≤_, _<_}
-use mathlib.Core.Path.{_≡_}
+use Prim.Native.Nat.{ℕ, zero, suc, _+_, _*_, _^_, _≤_, _<_}
+use mathlib.Core.Path.{_≡_, refl}
 use mathlib.Core.Bool.{Bool}
-use mathlib.Core.List.{List}
+use mathlib.Core.List.{List, [], _∷_}
 use native.Mathlib.Omega.{arith}
 use native.Mathlib.Nat.{mul-le-mul-right, suc-mul}
 use lib.ListN.{length, getD}
@@ -10,11 +10,13 @@ use lib.IntN.{ℤ}
 use lib.Ieee.{Float}
 use Rattle.paper.specs.declared.Group.{Group}
 use Rattle.paper.specs.declared.Task.{Task}
-use Rattle.paper.specs.Panel.Input.{Call, member}
+use Rattle.paper.specs.Panel.Input.{Call, Choices, member, patternOf}
 use Rattle.paper.specs.Panel.Made.{callOf}
-use Rattle.paper.specs.Panel.Takes.{choicesBy, greysBy, entries, choiceBytes}
-use Rattle.paper.specs.Refusal.Rules.{When, AllSystems, Spins, Permutes, NotIdentity}
-use Rattle.columns.specs.Column.{Inside, Spinning}
+use Rattle.paper.specs.Panel.Takes.{isGperm, choicesBy, greysBy, takesCuts, entries, choiceBytes}
+use Rattle.paper.specs.Refusal.Rule.{Rule, rule}
+use Rattle.paper.specs.Refusal.Rules.{When, AllSystems, Spins, Cuts, Permutes, NotIdentity, Chosen, Seeded, choiceRules}
+use Rattle.paper.specs.Refusal.Verdict.{Verdict, broken-first}
+use Rattle.columns.specs.Column.{Inside, Spinning, Columns}
 use Rattle.column_rules.specs.Sight.{Sighted}
 
 -- what tests 1 to 5 established and these lean on: ranges, the group's rows of spins, the lengths of the choices that are taken
@@ -60,12 +62,26 @@ EveryCall t cuts P =
 abbrev pub EveryCut : Task → (Call → Type 0) → Type 0
 EveryCut t P = (cuts : List Float) → EveryCall t cuts P
 
--- ---- the choices
+-- ---- the choices: what 8 and 9 lean on
 pub record Long (t : Task) (choices greys : List ℕ) : Type 0 where
   pub n-high : t .n ≤ 4096
   pub size-high : t .group .len ≤ 8
   pub choices-long : When (choicesBy (t .mode) (t .form)) (length choices ≡ choiceBytes (t .mode) (t .form) (t .n) (t .group .len))
   pub greys-long : When (greysBy (t .mode) (t .form)) (length greys ≡ entries (t .form) (t .n))
+
+-- 8 and 9, which look at no spin, and 10: one list after the other they are the paper's
+abbrev pub chosenRules : Call → Choices → List Rule
+chosenRules c p = rule 8 (When (takesCuts c) (Cuts (c .cuts))) ∷ rule 9 (Chosen c p) ∷ []
+
+abbrev pub seedRules : Call → List ℤ → List Rule
+seedRules c xs = rule 10 (Seeded c xs) ∷ []
+
+-- where 8 or 9 is broken, 10 is not asked
+pub chosen-broken : (t : Task) (cuts : List Float) (p : Choices) (xs : List ℤ) (r : ℕ) → (r ≡ 0 → ⊥) → EveryCall t cuts (λ c. Verdict (chosenRules c p) r)
+    → EveryCall t cuts (λ c. Verdict (choiceRules c p xs) r)
+chosen-broken t cuts p xs zero ne v d s temperature fwd bwd pins couplings = absurd (ne refl)
+chosen-broken t cuts p xs (suc r) ne v d s temperature fwd bwd pins couplings =
+    broken-first (chosenRules _ p) (seedRules _ xs) (suc r) (v d s temperature fwd bwd pins couplings)
 
 -- what is tested of a buffer: each byte at most `top`; rows of m bytes, each a permutation; one row that is not the identity
 abbrev pub AtMost : List ℕ → ℕ → Type 0
@@ -86,3 +102,16 @@ pub record Permuted (taken : Bool) (rows m : ℕ) (perms : List ℕ) : Type 0 wh
 -- ---- the seed
 abbrev pub Seeing : Task → List ℤ → Type 0
 Seeing t xs = Sighted (t .mode) (t .n) (t .group) (t .reference) xs
+
+-- on columns: one of the group's size for each site, and a reference site where one is taken
+pub record SeeingColumns (t : Task) (cols : List ℕ) : Type 0 where
+  pub n-high : t .n ≤ 4096
+  pub size-low : 1 ≤ t .group .len
+  pub size-high : t .group .len ≤ 8
+  pub long : length cols ≡ t .n
+  pub narrow : (i : ℕ) → i < t .n → getD cols i 0 < 2 ^ t .group .len
+  pub reference : When (isGperm (t .mode)) (t .reference < t .n)
+
+-- of all rows of spins that these are the group's columns of
+abbrev pub EveryRows : Task → List ℕ → (List ℤ → Type 0) → Type 0
+EveryRows t cols P = (xs : List ℤ) → Seeing t xs → Columns (t .n) (t .group .len) (patternOf (t .n) (t .group) xs) cols → P xs

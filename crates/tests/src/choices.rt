@@ -9,7 +9,10 @@ ghost use Rattle.lemmas.specs.Tells.{Tells};
 ghost use Rattle.paper.specs.Panel.Made.{choicesOf};
 ghost use Rattle.paper.specs.Refusal.Rules.{When, Cuts, Chosen, Seeded, choiceRules};
 ghost use Rattle.paper.specs.Refusal.Verdict.{Verdict};
-ghost use Rattle.tests.specs.Choices.{Tested, EveryCall, EveryCut, Long, AtMost, PermRows, RowMoves, Permuted, Seeing};
+ghost use Rattle.column_rules.specs.Laws.{SomeSite};
+ghost use Rattle.column_rules.specs.Sight.{actsAt};
+ghost use Rattle.tests.specs.Choices.{Tested, EveryCall, EveryCut, Long, AtMost, PermRows, RowMoves, Permuted, Seeing, chosenRules};
+ghost use Rattle.tests.specs.Choices.{SeeingColumns, EveryRows};
 
 fn cuts_fit(taken: bool, cuts: &[f32]) -> bool
     ensures { λ r. ⌜ Tells r (When taken (Cuts (now (cuts .entry)))) ⌝ }
@@ -103,11 +106,46 @@ fn seed_ok(t: Task, spins: &[i8]) -> bool
     !column_rules::any_acts(mode, n, spins, group, t.reference)
 }
 
-// The number of the first test that fails, or 0.
-pub fn test_choices(t: Task, spins: &[i8], cuts: &[f32], choices: &[u8], greys: &[u8]) -> u8
-    requires { ⌜ Tested t (now spins) (now choices) (now greys) ⌝ }
-    ensures { λ r. ⌜ EveryCall t (now (cuts .entry))
-        (λ c. Verdict (choiceRules c (choicesOf (now (choices .entry)) (now (greys .entry))) (now (spins .entry))) r) ⌝ }
+// Whether some site acts, on the group's columns.
+fn any_column_acts(t: Task, cols: &[u8]) -> bool
+    requires { ⌜ SeeingColumns t (now cols) ⌝ }
+    ensures { λ r. ⌜ EveryRows t (now (cols .entry))
+        (λ xs. Tells r (SomeSite (t .n) (actsAt (t .mode) (t .n) (t .group) (t .reference) xs))) ⌝ }
+{
+    let mode = t.mode;
+    let group = t.group;
+    let n = t.n;
+    let mut acts = [0u8; 4096];
+    column_rules::look_columns(mode, group, t.reference, cols, &mut acts[..n])
+}
+
+// Test 10 on columns, with `seed_ok`'s answer of the rows that they are the columns of.
+pub fn seed_column_ok(t: Task, cols: &[u8]) -> bool
+    requires { ⌜ SeeingColumns t (now cols) ⌝ }
+    ensures { λ r. ⌜ EveryCut t (λ c. EveryRows t (now (cols .entry)) (λ xs. Tells r (Seeded c xs))) ⌝ }
+{
+    let mode = t.mode;
+    let form = t.form;
+    let group = t.group;
+    let n = t.n;
+    let seed = t.seed;
+    if !form.one_cluster() {
+        return true;
+    }
+    if n <= seed {
+        return false;
+    }
+    let gauge = columns::gauge(mode, group, t.reference, cols);
+    if column_rules::acts_column(mode, group, cols[seed] ^ gauge) {
+        return true;
+    }
+    !any_column_acts(t, cols)
+}
+
+// Tests 8 and 9, which read no spin: the number of the first that fails, or 0.
+pub fn test_chosen(t: Task, cuts: &[f32], choices: &[u8], greys: &[u8]) -> u8
+    requires { ⌜ Long t (now choices) (now greys) ⌝ }
+    ensures { λ r. ⌜ EveryCall t (now (cuts .entry)) (λ c. Verdict (chosenRules c (choicesOf (now (choices .entry)) (now (greys .entry)))) r) ⌝ }
 {
     let mode = t.mode;
     if !cuts_fit(mode.is_drawn(), cuts) {
@@ -115,6 +153,19 @@ pub fn test_choices(t: Task, spins: &[i8], cuts: &[f32], choices: &[u8], greys: 
     }
     if !chosen_ok(t, choices, greys) {
         return 9;
+    }
+    0
+}
+
+// The number of the first test that fails, or 0.
+pub fn test_choices(t: Task, spins: &[i8], cuts: &[f32], choices: &[u8], greys: &[u8]) -> u8
+    requires { ⌜ Tested t (now spins) (now choices) (now greys) ⌝ }
+    ensures { λ r. ⌜ EveryCall t (now (cuts .entry))
+        (λ c. Verdict (choiceRules c (choicesOf (now (choices .entry)) (now (greys .entry))) (now (spins .entry))) r) ⌝ }
+{
+    let chosen = test_chosen(t, cuts, choices, greys);
+    if chosen != 0 {
+        return chosen;
     }
     if !seed_ok(t, spins) {
         return 10;

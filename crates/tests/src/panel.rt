@@ -8,7 +8,7 @@ ghost use Rattle.lemmas.specs.Tells.{Tells};
 ghost use Rattle.paper.specs.Refusal.Rules.{Sizes};
 ghost use Rattle.paper.specs.Refusal.Verdict.{Verdict};
 ghost use Rattle.tests.specs.Lengths.{Small, FitsEach};
-ghost use Rattle.tests.specs.Panel.{Measures, TotalsFit, shapeRules, panelRules};
+ghost use Rattle.tests.specs.Panel.{Measures, TotalsFit, TablesLong, shapeRules, tableRules, panelRules};
 
 // Test 2 of `count` tasks that share the panel: each has its own cuts, choices and outputs.
 pub fn lengths_ok(
@@ -64,8 +64,8 @@ pub fn totals_lengths_ok(
     lattice::fits(keeping, couplings, n * d) & lattice::fits(keeping, totals, s)
 }
 
-// Tests 1, 15 and 2.
-fn test_shape(t: Task, totals: usize, l: Lengths) -> u8
+// Tests 1, 15 and 2: the number of the first that fails, or 0.
+pub fn test_shape(t: Task, totals: usize, l: Lengths) -> u8
     ensures { λ r. ⌜ Verdict (shapeRules t totals l) r ⌝ }
 {
     let mode = t.mode;
@@ -84,6 +84,34 @@ fn test_shape(t: Task, totals: usize, l: Lengths) -> u8
     }
     if !totals_lengths_ok(keeps.totals(form), t.n, t.d, t.s, l.couplings, totals) {
         return 2;
+    }
+    0
+}
+
+// Tests 4 to 7, which read no spin: the number of the first that fails, or 0.
+pub fn test_tables(t: Task, fwd: &[u32], bwd: &[u32], pins: &[u8], couplings: &[i32]) -> u8
+    requires { ⌜ TablesLong t (now fwd) (now bwd) ⌝ }
+    ensures { λ r. ⌜ Verdict (tableRules t (now (fwd .entry)) (now (bwd .entry)) (now (pins .entry)) (now (couplings .entry))) r ⌝ }
+{
+    if !lattice::tables_ok(t.n, t.d, fwd, bwd) {
+        return 4;
+    }
+    if !lattice::bytes_at_most(pins, 1) {
+        return 4;
+    }
+    let group = t.group;
+    if !lattice::group_ok(t.s, group) {
+        return 5;
+    }
+    let mode = t.mode;
+    let form = t.form;
+    let keeps = t.keeps;
+    let drawn = mode.is_drawn();
+    if !lattice::couplings_fit(drawn | keeps.totals(form), couplings) {
+        return 6;
+    }
+    if !(!drawn | lattice::temperature_ok(t.temperature)) {
+        return 7;
     }
     0
 }
@@ -110,25 +138,5 @@ pub fn test_panel(
     if !lattice::spins_ok(spins) {
         return 3;
     }
-    if !lattice::tables_ok(t.n, t.d, fwd, bwd) {
-        return 4;
-    }
-    if !lattice::bytes_at_most(pins, 1) {
-        return 4;
-    }
-    let group = t.group;
-    if !lattice::group_ok(t.s, group) {
-        return 5;
-    }
-    let mode = t.mode;
-    let form = t.form;
-    let keeps = t.keeps;
-    let drawn = mode.is_drawn();
-    if !lattice::couplings_fit(drawn | keeps.totals(form), couplings) {
-        return 6;
-    }
-    if !(!drawn | lattice::temperature_ok(t.temperature)) {
-        return 7;
-    }
-    0
+    test_tables(t, fwd, bwd, pins, couplings)
 }

@@ -1,5 +1,6 @@
 -- What the proofs of several functions use.
 mod Told
+mod Packed
 mod Swept
 mod Written
 mod Listed

@@ -9,7 +9,7 @@ use lib.IntN.{ℤ}
 use Rattle.paper.specs.declared.MeterAnswer.{MeterAnswer}
 use Rattle.paper.specs.declared.MeterAnswer.the-variants.{Unmetered, Energy}
 use Rattle.paper.specs.declared.SweepAnswer.{SweepAnswer}
-use Rattle.paper.specs.Panel.Input.{Lattice, Call, Choices}
+use Rattle.paper.specs.Panel.Input.{Lattice, Call, Choices, Buffers}
 use Rattle.paper.specs.Panel.Takes.{keepsBy}
 use Rattle.paper.specs.Refusal.Rule.{Kept, broken-unique, broken-not-kept}
 use Rattle.paper.specs.Refusal.Verdict.{Verdict, verdict-unique}
@@ -38,7 +38,13 @@ use Rattle.orders.specs.Answers.{values, RowAnswers}
 use Rattle.orders.specs.Determined.{row-of-determined, number-of-determined}
 use Rattle.coded.specs.Takes.{numbersBy}
 use Rattle.coded.specs.Determined.{overlap-step-by-determined, overlap-update-by-determined}
-use Rattle.tsorvenk.specs.Number.{Coded, codingOf, keepsOf, coded, Returned, valuesTo}
+use Rattle.coded.specs.Determined.{packed-step-by-determined}
+use Rattle.packing.specs.Answer.{PackAnswers, UnpackAnswers}
+use Rattle.packing.specs.Determined as Packed
+use Rattle.packing.specs.Determined.{pack-determined, unpack-determined}
+use Rattle.packed.specs.Packed.{lentOf}
+use Rattle.tsorvenk.specs.Packed.{PackedStepAnswers}
+use Rattle.tsorvenk.specs.Number.{Coded, codingOf, keepsOf, numberOf, coded, Returned, valuesTo}
 use Rattle.tsorvenk.specs.Step.{WithTotals, withTotals, StepAnswers}
 use Rattle.tsorvenk.specs.Energy.{energyRules, Metered, EnergyAs, EnergyAnswers}
 use Rattle.tsorvenk.specs.Label.{LabelAnswers}
@@ -76,6 +82,57 @@ tsorvenk-step-determined mode form coding keeps c p l y z r r′ f g = go (coded
       answer = f .unknown k .number ∙ sym (g .unknown k .number);
       buffers = f .unknown k .kept ∙ sym (g .unknown k .kept);
     }
+
+-- on bytes
+pub tsorvenk-pack-determined :
+    (n m : ℕ) (rows : List ℤ) (columns : List ℕ) (r r′ : ℕ) (y z : List ℕ)
+    → PackAnswers n m rows columns r y → PackAnswers n m rows columns r′ z → Packed.Same r r′ y z
+tsorvenk-pack-determined = pack-determined
+
+pub tsorvenk-unpack-determined :
+    (n m : ℕ) (columns : List ℕ) (rows : List ℤ) (r r′ : ℕ) (y z : List ℤ)
+    → UnpackAnswers n m columns rows r y → UnpackAnswers n m columns rows r′ z → Packed.Same r r′ y z
+tsorvenk-unpack-determined = unpack-determined
+
+pub record SamePackedNumber (r : ℕ) (ys : List ℕ) (b : Buffers) (us : List ℤ) (r′ : ℕ) (zs : List ℕ) (b′ : Buffers) (vs : List ℤ) : Type 0 where
+  pub number : r ≡ r′
+  pub bytes : ys ≡ zs
+  pub buffers : b ≡ b′
+  pub totals : us ≡ vs
+
+module _
+    (mode form coding keeps : ℕ) (c : Call) (p : Choices) (xs ys zs l g q s e f h l₁ g₁ q₁ s₁ e₁ f₁ h₁ l₂ g₂ q₂ s₂ e₂ f₂ h₂ : List ℕ)
+    (ts us vs : List ℤ) (r r′ : ℕ)
+    (w : PackedStepAnswers mode form coding keeps c p xs (lentOf l g q s e f h) ts r ys (lentOf l₁ g₁ q₁ s₁ e₁ f₁ h₁) us)
+    (v : PackedStepAnswers mode form coding keeps c p xs (lentOf l g q s e f h) ts r′ zs (lentOf l₂ g₂ q₂ s₂ e₂ f₂ h₂) vs) (xs′ : List ℤ)
+  where
+    abbrev AsOne : Type 0
+    AsOne = SamePackedNumber r ys (lentOf l₁ g₁ q₁ s₁ e₁ f₁ h₁ xs′) us r′ zs (lentOf l₂ g₂ q₂ s₂ e₂ f₂ h₂ xs′) vs
+
+    pub tsorvenk-packed-step-determined : AsOne
+    tsorvenk-packed-step-determined = go (coded mode form coding keeps)
+      where
+        go : Dec (Coded mode form coding keeps) → AsOne
+        go (yes k) =
+            let o = w .known k in
+            let i = v .known k in
+            let d = packed-step-by-determined (numbersBy (codingOf coding) (c .mode) (c .form)) (keepsBy (keepsOf keeps) (c .form)) c p xs ys zs
+            l g q s e f h l₁ g₁ q₁ s₁ e₁ f₁ h₁ l₂ g₂ q₂ s₂ e₂ f₂ h₂ ts us vs (o .answer) (i .answer) (o .allowed) (i .allowed) xs′ in
+            record {
+              number = o .number ∙ (ap numberOf (d .answer) ∙ sym (i .number));
+              bytes = d .bytes;
+              buffers = d .buffers;
+              totals = d .totals;
+            }
+        go (no k) =
+            let o = w .unknown k in
+            let i = v .unknown k in
+            record {
+              number = o .number ∙ sym (i .number);
+              bytes = o .bytes-kept ∙ sym (i .bytes-kept);
+              buffers = ap (λ (b : List ℤ → Buffers). b xs′) (o .kept ∙ sym (i .kept));
+              totals = o .totals-kept ∙ sym (i .totals-kept);
+            }
 
 pub tsorvenk-hand-over-determined :
     (g : Lattice) (xs ts : List ℤ) (r r′ : ℕ) → Verdict (handOverRules g xs ts) r → Verdict (handOverRules g xs ts) r′ → r ≡ r′

@@ -1,6 +1,7 @@
 -- The numbers of the C interface first, then what each exported function promises, and that each promise allows one number.
 pub mod Number
 pub mod Step
+pub mod Packed
 pub mod Energy
 pub mod Label
 pub mod Sweep

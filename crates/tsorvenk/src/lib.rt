@@ -1,4 +1,5 @@
 // The library as C and Rust call it. Each function is a shell over a proved one: numbers in, a number out, and no caller is trusted.
+mod bytes;
 mod drawing;
 mod framing;
 mod listing;

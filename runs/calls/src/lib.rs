@@ -1,6 +1,9 @@
 //! The calls of document 01 as every side takes them: the model, the published Rust and the port.
 //!
 //! A call borrows its buffers, so that what a side wrote, and what it left alone, is seen byte for byte.
+mod packed;
+
+pub use packed::{Pack, PackedStep, Unpack};
 
 #[derive(Clone, Copy, Debug, PartialEq, Eq)]
 pub enum Mode {
@@ -277,4 +280,9 @@ pub trait Port {
     fn hand_over(&mut self, call: HandOver) -> u8;
     /// 0, or a refusal number.
     fn label(&mut self, call: Label) -> u8;
+    fn packed_step(&mut self, call: PackedStep) -> Answer;
+    /// 0, or a refusal number.
+    fn pack(&mut self, call: Pack) -> u8;
+    /// 0, or a refusal number.
+    fn unpack(&mut self, call: Unpack) -> u8;
 }

@@ -9,8 +9,10 @@
 //! numbers too. Houd moves groups of two alone, and every call of two is made again by pair, damaged or not; half as many calls
 //! more are moves of three to eight, which are refused with 15, and damaged ones of them. Two calls of three have pins, and the
 //! small shapes have all of them where there are not too many; the Rust, which knows none, is then held to the call without pins
-//! that must give the same, where there is one. Last come days that keep totals, a thousand calls each on one panel, with pins
-//! that change from call to call, one day for every 50 cases.
+//! that must give the same, where there is one. Every single move, damaged or not, is made again on its group's bytes, by numbers
+//! too, and held to what the rows gave; as many more are on bytes with faults of their own, and are held to the move on the rows
+//! that these bytes stand for. Last come days that keep totals, a thousand calls each on one panel, some of them on bytes, with
+//! pins that change from call to call, one day for every 50 cases.
 use calls::{Coding, Form, Mode, Port};
 use std::process::ExitCode;
 use tsorvenk_runs::compare::{self, keep, Found, Line};
@@ -115,6 +117,24 @@ impl Run {
         self.note(found);
     }
 
+    /// A move on bytes, and rows and columns by themselves, each damaged.
+    fn packed(&mut self, mode: Mode, form: Form, number: u64, line: &mut Line) {
+        let mut rand = self.rand(mode, form, 4, number);
+        let size = Size::mixed(&mut rand);
+        let mut case = make::single(&mut rand, mode, form, size);
+        if case.group.len() == 5 && Coding::Numbers.numbers(mode, form) && rand.once_in(2) {
+            case = case.by_number();
+        }
+        let mut packed = case.packed().expect("a good call has rows");
+        let mut layout = packed.layout();
+        damage::packed(&mut rand, &mut packed);
+        let found = compare::damaged_packed(&packed, self.port.as_mut(), line);
+        self.note(found);
+        damage::layout(&mut rand, &mut layout);
+        let found = compare::damaged_layout(&layout, self.port.as_mut(), line);
+        self.note(found);
+    }
+
     fn days(&mut self) -> days::Tally {
         let mut tally = days::Tally::default();
         for number in 0..self.cases.div_ceil(50) {
@@ -134,6 +154,7 @@ impl Run {
         for number in 0..self.cases {
             self.single(mode, form, number, &mut line);
             self.sweep(mode, form, number, &mut line);
+            self.packed(mode, form, number, &mut line);
             if number % 2 == 0 && Coding::Numbers.numbers(mode, form) {
                 self.of_five(mode, form, number, &mut line);
             }
@@ -150,7 +171,8 @@ fn print(mode: Mode, form: Form, line: &Line) {
         "{:5} {:7} singles {:6} (all small: {:6}) sweeps {:6} | \
         Rust: labelled {:6} depth first {:6} acting sites {:6} | beside Wolff {:6} | odd N {:5} idle {:6} | \
         pinned {:6} released {:6} held {:6} | port {:6} | damaged {:6} refused {:?} | \
-        by number {:5} not of five {:6} | as pair {:6} houd of more {:5} | totals kept {:6} handed over {:?} | differences {}",
+        by number {:5} not of five {:6} | as pair {:6} houd of more {:5} | \
+        packed {:6} with own faults {:5} layouts {:?} | totals kept {:6} handed over {:?} | differences {}",
         mode.name(),
         form.name(),
         line.singles,
@@ -172,6 +194,9 @@ fn print(mode: Mode, form: Form, line: &Line) {
         line.not_of_five,
         line.as_pair,
         line.houd_of_more,
+        line.packed,
+        line.packed_damaged,
+        line.layouts,
         line.kept,
         line.handed,
         line.differences,
@@ -180,7 +205,7 @@ fn print(mode: Mode, form: Form, line: &Line) {
 
 fn print_days(tally: &days::Tally) {
     println!(
-        "days of {} calls {:4} | moved {:6} idle {:5} held {:5} observed {:5} swept {:6} held tasks {:6} by number {:5} refused {:?} | \
+        "days of {} calls {:4} | moved {:6} idle {:5} held {:5} observed {:5} swept {:6} held tasks {:6} by number {:5} packed {:6} refused {:?} | \
         differences {}",
         days::CALLS,
         tally.days,
@@ -191,6 +216,7 @@ fn print_days(tally: &days::Tally) {
         tally.swept,
         tally.held_tasks,
         tally.by_number,
+        tally.packed,
         &tally.refused[1..],
         tally.differences,
     );

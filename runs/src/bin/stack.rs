@@ -4,6 +4,7 @@
 use calls::{Coding, Form, Label, Mode, Port};
 use std::hint::black_box;
 use std::mem::MaybeUninit;
+use tsorvenk_runs::case::Single;
 use tsorvenk_runs::port;
 use tsorvenk_runs::rand::Rand;
 use tsorvenk_runs::timing::pieces::kept;
@@ -37,6 +38,13 @@ fn line<T>(name: &str, call: impl FnOnce() -> T) {
     println!("{name:12} {:7.1} KiB", used() as f64 / 1024.0);
 }
 
+/// The same move on its group's bytes.
+fn on_bytes(port: &mut dyn Port, case: &Single) {
+    let packed = case.packed().expect("a good call has rows");
+    let mut lent = packed.lent.clone();
+    line("  on bytes", || port.packed_step(packed.step(&mut lent)));
+}
+
 fn run(port: &mut dyn Port) {
     let mut rand = Rand::new(1);
     let mut most = |mode: Mode, form: Form| {
@@ -46,9 +54,11 @@ fn run(port: &mut dyn Port) {
         let mut lent = case.lent.clone();
         let name = format!("{} {}", mode.name(), form.name());
         line(&name, || port.step(case.step(&mut lent)));
+        on_bytes(port, &case);
         let kept = kept(&case);
         let mut lent = kept.lent.clone();
         line("  its totals", || port.step(kept.step(&mut lent)));
+        on_bytes(port, &kept);
         let case = timing::swept(&mut rand, mode, form, 4, members);
         let mut lent = case.lent.clone();
         line("  its sweep", || port.sweep(case.sweep(&mut lent)));

@@ -8,7 +8,7 @@ use std::fmt::Debug;
 const WHAT: &str = "rows against numbers";
 
 /// Whether the call takes permutations, and by rows.
-fn takes_rows(panel: &Panel) -> bool {
+pub fn takes_rows(panel: &Panel) -> bool {
     panel.coding == Coding::Rows && Coding::Numbers.numbers(panel.mode, panel.form)
 }
 

@@ -27,6 +27,11 @@ pub struct Line {
     /// Calls of two by houd that are made again by pair, and moves of more than two by houd, which are refused.
     pub as_pair: usize,
     pub houd_of_more: usize,
+    /// Moves that are made again on their group's bytes, damaged ones too; moves on bytes with faults of their own, which are damaged calls.
+    pub packed: usize,
+    pub packed_damaged: usize,
+    /// What the model answers where rows or columns with faults are packed or unpacked, by number.
+    pub layouts: [usize; 4],
     /// Calls that keep totals.
     pub kept: usize,
     /// What the model answers to a hand-over of the panel, good or damaged, by number.

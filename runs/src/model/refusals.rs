@@ -1,5 +1,4 @@
 //! The refusal tests, each by itself; the calls ask them in the order of their numbers, but for 15, which stands behind 1.
-use super::bonds::acts;
 use super::{Panel, Task};
 use calls::{Coding, Form, Mode};
 
@@ -148,6 +147,25 @@ pub fn differs(wanted: Option<usize>, found: usize) -> bool {
     wanted.is_some_and(|wanted| wanted != found)
 }
 
+/// Whether some buffer that every move and sweep is lent beside its tables and spins has another length than the exact one.
+macro_rules! own_lengths_differ {
+    ($exact:expr, $call:expr) => {
+        $call.pins.len() != $call.n
+            || differs($exact.couplings, $call.couplings.len())
+            || differs($exact.cuts, $call.cuts.len())
+            || differs($exact.flips, $call.flips.len())
+            || differs($exact.perms, $call.perms.len())
+            || differs($exact.greys, $call.greys.len())
+            || differs($exact.labels, $call.labels.len())
+            || differs($exact.grey_labels, $call.grey_labels.len())
+            || differs($exact.counts, $call.counts.len())
+            || differs($exact.sizes, $call.sizes.len())
+            || differs($exact.member_sites, $call.member_sites.len())
+            || differs($exact.found, $call.found.len())
+            || differs($exact.grey_found, $call.grey_found.len())
+    };
+}
+
 /// Tests 3 to 7, of what a call names or takes of it: none where it takes no such thing.
 pub fn panel_refusal(
     panel: Panel,
@@ -192,21 +210,19 @@ pub fn choices_refused(panel: Panel, task: &Task) -> bool {
     reference || choices
 }
 
-pub fn seed_refused(panel: Panel, task: &Task) -> bool {
+pub fn seed_refused(panel: Panel, task: &Task, acts: impl Fn(usize) -> bool) -> bool {
     task.form.one_cluster()
         && (task.seed >= panel.n
-            || (task.mode != Mode::Cmr
-                && (0..panel.n).any(|i| acts(panel, task, i))
-                && !acts(panel, task, task.seed)))
+            || (task.mode != Mode::Cmr && (0..panel.n).any(&acts) && !acts(task.seed)))
 }
 
-/// Tests 8, 9 and 10 of one task.
-pub fn task_refusal(panel: Panel, task: &Task) -> Option<u8> {
+/// Tests 8, 9 and 10 of one task, whose acting sites are these.
+pub fn task_refusal(panel: Panel, task: &Task, acts: impl Fn(usize) -> bool) -> Option<u8> {
     if task.mode.draws() && task.cuts.iter().any(|&cut| cut_refused(cut)) {
         Some(8)
     } else if choices_refused(panel, task) {
         Some(9)
-    } else if seed_refused(panel, task) {
+    } else if seed_refused(panel, task, acts) {
         Some(10)
     } else {
         None

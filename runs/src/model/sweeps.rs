@@ -1,4 +1,5 @@
 //! A sweep: its tasks and its refusals.
+use super::bonds::acts;
 use super::refusals::*;
 use super::totals::{totals_length_refused, totals_refusal};
 use super::{systems, Task};
@@ -48,24 +49,12 @@ fn sweep_length_refused(call: &Sweep) -> bool {
     let exact = lengths(call.mode, call.form, call.n, call.d, call.members, tasks)
         .spelt(call.coding, call.members);
     panel_length_refused(panel_of!(call))
-        || call.pins.len() != call.n
-        || differs(exact.couplings, call.couplings.len())
+        || own_lengths_differ!(exact, call)
         || call.order.len() != call.s
         || call.masks.len() != call.t
         || (call.mode.draws() && call.temperatures.len() != call.t)
-        || differs(exact.cuts, call.cuts.len())
         || differs(exact.references, call.references.len())
         || differs(exact.seeds, call.seeds.len())
-        || differs(exact.flips, call.flips.len())
-        || differs(exact.perms, call.perms.len())
-        || differs(exact.greys, call.greys.len())
-        || differs(exact.labels, call.labels.len())
-        || differs(exact.grey_labels, call.grey_labels.len())
-        || differs(exact.counts, call.counts.len())
-        || differs(exact.sizes, call.sizes.len())
-        || differs(exact.member_sites, call.member_sites.len())
-        || differs(exact.found, call.found.len())
-        || differs(exact.grey_found, call.grey_found.len())
 }
 
 /// The unmasked tasks in ascending order.
@@ -104,9 +93,11 @@ pub fn sweep_refusal(call: &Sweep) -> Option<u8> {
     )
     .or_else(|| call.masks.iter().any(|&mask| mask > 1).then_some(9))
     .or_else(|| {
-        unmasked(call)
-            .iter()
-            .find_map(|&number| task_refusal(panel, &sweep_task(call, number)))
+        let refusal = |&number: &usize| {
+            let task = sweep_task(call, number);
+            task_refusal(panel, &task, |i| acts(panel, &task, i))
+        };
+        unmasked(call).iter().find_map(refusal)
     })
     .or_else(|| totals_refusal(keeping, call.totals))
 }

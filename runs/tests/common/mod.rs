@@ -1,7 +1,8 @@
 //! Calls written by hand, run by the model and by the Rust and the port where they are there.
 #![allow(dead_code)] // Each test file uses a part.
-use calls::{Answer, Coding, Form, Keeps, Mode, SweepAnswer};
+use calls::{Answer, Coding, Form, Keeps, Mode, Port, SweepAnswer};
 use published_patched::Branch;
+use std::fmt::Debug;
 use tsorvenk_runs::case::{Bonds, Choices, Lent, Panel, Single, Swept};
 use tsorvenk_runs::idle;
 use tsorvenk_runs::lattices::backward;
@@ -95,6 +96,15 @@ pub fn pinned(mut case: Single, pins: &[u8]) -> Single {
 pub fn reference(mut case: Single, reference: usize) -> Single {
     case.reference = reference;
     case
+}
+
+/// What a call of the model and of the port gives, which must agree.
+pub fn both<T: PartialEq + Debug>(run: impl Fn(&mut dyn Port) -> T) -> T {
+    let answer = run(&mut Model);
+    if let Some(mut port) = port::linked() {
+        assert_eq!(answer, run(port.as_mut()));
+    }
+    answer
 }
 
 /// The answer of the model and of the port, which must agree.

@@ -8,6 +8,9 @@
 /* what the stand-ins must be given; every number and pointer in it is another */
 static struct tsorvenk_step_args step;
 static struct tsorvenk_sweep_args sweep;
+static struct tsorvenk_pack_args packing;
+static struct tsorvenk_unpack_args unpacking;
+static struct tsorvenk_packed_step_args packed;
 static struct tsorvenk_energy_args energy_of;
 static struct tsorvenk_hand_over_args handed;
 static struct tsorvenk_label_args label;
@@ -91,6 +94,37 @@ uint8_t tsorvenk_sweep(uint8_t mode, uint8_t form, uint8_t coding, uint8_t keeps
     BUFFER(sweep, labels), BUFFER(sweep, grey_labels), BUFFER(sweep, counts), BUFFER(sweep, sizes);
     BUFFER(sweep, member_sites), BUFFER(sweep, found), BUFFER(sweep, grey_found), BUFFER(sweep, outcomes);
     return 102;
+}
+
+uint8_t tsorvenk_pack(size_t n, size_t members, const int8_t *rows, size_t rows_len, uint8_t *columns, size_t columns_len) {
+    NUMBER(packing, n), NUMBER(packing, members), BUFFER(packing, rows), BUFFER(packing, columns);
+    return 120;
+}
+
+uint8_t tsorvenk_unpack(size_t n, size_t members, const uint8_t *columns, size_t columns_len, int8_t *rows, size_t rows_len) {
+    NUMBER(unpacking, n), NUMBER(unpacking, members), BUFFER(unpacking, columns), BUFFER(unpacking, rows);
+    return 121;
+}
+
+uint8_t tsorvenk_packed_step(uint8_t mode, uint8_t form, uint8_t coding, uint8_t keeps, size_t n, size_t d, size_t members,
+    uint8_t *columns, size_t columns_len, int64_t *totals, size_t totals_len,
+    const uint32_t *fwd, size_t fwd_len, const uint32_t *bwd, size_t bwd_len, const uint8_t *pins, size_t pins_len,
+    const int32_t *couplings, size_t couplings_len,
+    float temperature, const float *cuts, size_t cuts_len, size_t reference, size_t seed,
+    const uint8_t *flips, size_t flips_len, const uint8_t *perms, size_t perms_len, const uint8_t *greys, size_t greys_len,
+    uint32_t *labels, size_t labels_len, uint32_t *grey_labels, size_t grey_labels_len,
+    uint32_t *counts, size_t counts_len, uint32_t *sizes, size_t sizes_len,
+    uint8_t *member_sites, size_t member_sites_len,
+    uint32_t *found, size_t found_len, uint32_t *grey_found, size_t grey_found_len) {
+    NUMBER(packed, mode), NUMBER(packed, form), NUMBER(packed, coding), NUMBER(packed, keeps);
+    NUMBER(packed, n), NUMBER(packed, d), NUMBER(packed, members), BUFFER(packed, totals);
+    NUMBER(packed, temperature), NUMBER(packed, reference), NUMBER(packed, seed);
+    PINS(packed);
+    BUFFER(packed, columns), BUFFER(packed, fwd), BUFFER(packed, bwd), BUFFER(packed, couplings);
+    BUFFER(packed, cuts), BUFFER(packed, flips), BUFFER(packed, perms), BUFFER(packed, greys);
+    BUFFER(packed, labels), BUFFER(packed, grey_labels), BUFFER(packed, counts), BUFFER(packed, sizes);
+    BUFFER(packed, member_sites), BUFFER(packed, found), BUFFER(packed, grey_found);
+    return 122;
 }
 
 uint8_t tsorvenk_energy(size_t n, size_t d, size_t s,
@@ -198,6 +232,9 @@ uint8_t tsorvenk_write_edges(size_t n, size_t d, const uint32_t *fwd, size_t fwd
 static void call_all(void) {
     held(tsorvenk_step_with(&step) == 101, "step", "the answer");
     held(tsorvenk_sweep_with(&sweep) == 102, "sweep", "the answer");
+    held(tsorvenk_pack_with(&packing) == 120, "pack", "the answer");
+    held(tsorvenk_unpack_with(&unpacking) == 121, "unpack", "the answer");
+    held(tsorvenk_packed_step_with(&packed) == 122, "packed_step", "the answer");
     held(tsorvenk_energy_with(&energy_of) == 103, "energy", "the answer");
     held(tsorvenk_hand_over_with(&handed) == 117, "hand_over", "the answer");
     held(tsorvenk_label_with(&label) == 104, "label", "the answer");
@@ -243,6 +280,23 @@ int main(void) {
         .member_sites = u8 + 4, .member_sites_len = 28, .pins = u8 + 5, .pins_len = 33,
         .found = u32 + 10, .found_len = 30, .grey_found = u32 + 11, .grey_found_len = 31,
     };
+    packing = (struct tsorvenk_pack_args){
+        .n = 1, .members = 2, .rows = i8, .rows_len = 10, .columns = u8, .columns_len = 11,
+    };
+    unpacking = (struct tsorvenk_unpack_args){
+        .n = 1, .members = 2, .columns = u8, .columns_len = 10, .rows = i8, .rows_len = 11,
+    };
+    packed = (struct tsorvenk_packed_step_args){
+        .mode = 1, .form = 2, .coding = 32, .keeps = 9, .n = 3, .d = 4, .members = 5, .temperature = 6, .reference = 7, .seed = 8,
+        .columns = u8 + 5, .columns_len = 10, .totals = i64, .totals_len = 24,
+        .fwd = u32, .fwd_len = 11, .bwd = u32 + 1, .bwd_len = 12,
+        .couplings = i32, .couplings_len = 13, .cuts = f32, .cuts_len = 15,
+        .flips = u8, .flips_len = 16, .perms = u8 + 1, .perms_len = 17, .greys = u8 + 2, .greys_len = 18,
+        .labels = u32 + 3, .labels_len = 19, .grey_labels = u32 + 4, .grey_labels_len = 20,
+        .counts = u32 + 5, .counts_len = 21, .sizes = u32 + 6, .sizes_len = 22,
+        .member_sites = u8 + 3, .member_sites_len = 23, .pins = u8 + 4, .pins_len = 27,
+        .found = u32 + 7, .found_len = 25, .grey_found = u32 + 8, .grey_found_len = 26,
+    };
     energy_of = (struct tsorvenk_energy_args){
         .n = 1, .d = 2, .s = 3, .system = 4,
         .spins = i8, .spins_len = 10, .fwd = u32, .fwd_len = 11, .bwd = u32 + 1, .bwd_len = 12,
@@ -276,11 +330,12 @@ int main(void) {
     step.totals = NULL, sweep.totals = NULL, handed.totals = NULL;
     step.found = NULL, step.grey_found = NULL, sweep.found = NULL, sweep.grey_found = NULL, label.found = NULL;
     step.member_sites = NULL, sweep.member_sites = NULL, reading.text = NULL, writing.written = NULL;
-    step.pins = NULL, sweep.pins = NULL;
+    packing.columns = NULL, unpacking.rows = NULL, packed.columns = NULL, packed.totals = NULL, packed.found = NULL;
+    step.pins = NULL, sweep.pins = NULL, packed.pins = NULL;
     call_all(); /* null, and a length beside it */
-    step.n = 4096, sweep.n = 4096;
+    step.n = 4096, sweep.n = 4096, packed.n = 4096;
     call_all(); /* as many sites as there may be */
-    step.n = 4097, sweep.n = (size_t)-1;
+    step.n = 4097, sweep.n = (size_t)-1, packed.n = 4097;
     call_all(); /* and more: no more than the table is lent */
     printf("room %d and %d\n", TSORVENK_FRAMES_ROOM, TSORVENK_EDGES_ROOM);
     for (int number = -1; number <= 256; number++)

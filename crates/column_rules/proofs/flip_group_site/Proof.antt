@@ -3,7 +3,7 @@ use mathlib.Core.Path.{_∙_, sym}
 use native.Mathlib.Omega.{arith}
 use borrow.Author.Needs.{needs}
 use Rattle.laws.specs.Partners.{pairs-fit}
-use Rattle.column_rules.proofs.Bits.{column-low}
+use Rattle.columns.specs.Bits.{column-low}
 use Rattle.column_rules.proofs.Flips.{flip-houd, flip-pair, flip-cmr}
 use Rattle.column_rules.proofs.flip_group_site.Statement.{statement}
 use Rattle.column_rules.proofs.flip_group_site.Tie as tie

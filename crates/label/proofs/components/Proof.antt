@@ -10,7 +10,7 @@ use Rattle.lemmas.specs.Tells.{passed, refused}
 use Rattle.paper.specs.Refusal.Rule.{Kept}
 use Rattle.paper.specs.Refusal.Rules.{Sizes}
 use Rattle.label.specs.Entry.{Request, Lent, Exact, Below, Bits, rules}
-use Rattle.label.proofs.Whole.{given-by}
+use Rattle.label.proofs.Tested.{given-by}
 use Rattle.label.proofs.components.Statement.{statement}
 use Rattle.label.proofs.components.Tie as tie
 use Rattle.lattice.proofs.bytes_at_most.Reads as bytes-at-most-reads

@@ -1,11 +1,10 @@
 -- `run_form` meets its contract: what the form does not take is not lent, and stays.
 use borrow.Author.Needs.{needs}
-use mathlib.Core.Path.{_≡_, refl, sym, _∙_}
-use mathlib.Core.Bool.{true, false}
+use mathlib.Core.Path.{_≡_, sym, _∙_}
+use mathlib.Core.Bool.{true}
 use mathlib.Core.List.{[]}
 use denote.Ref.{now}
-use Rattle.lemmas.specs.Bools.{never}
-use Rattle.paper.specs.Panel.Takes.{growsBy, labelsBy, keepsBy}
+use Rattle.paper.specs.Panel.Takes.{growsBy, labelsBy}
 use Rattle.laws.specs.Forms.{labels-else}
 use Rattle.grow.specs.Task.{Outputs, noOutputs, grown-with}
 use Rattle.moves.specs.Answered.{valid-with}
@@ -34,12 +33,6 @@ grows t = sym (t .before .grows .ensures) ∙ t .if1 .taken
 labels : (e : tie.Else1) → labelsBy (S (e .before) .args .t .form) ≡ true
 labels e = labels-else (S (e .before) .args .t .form) (sym (e .before .grows .ensures) ∙ e .if1 .left)
 
-keeps : (t : tie.Then2) → let a = S (t .before .before .before) .args in keepsBy (a .t .keeps) (a .t .form) ≡ true
-keeps t = sym (t .before .totals2 .ensures) ∙ t .if2 .taken
-
-keeps-none : (e : tie.Else2) → let a = S (e .before .before .before) .args in keepsBy (a .t .keeps) (a .t .form) ≡ false
-keeps-none e = sym (e .before .totals2 .ensures) ∙ e .if2 .left
-
 grows-requires : tie.Need-grows-requires
 grows-requires c κs = search needs
 
@@ -54,36 +47,17 @@ returns c =
     let r = c .before .before .before .before in
     (r .run-grow .ensures .0 (others (S (r .before .before .before .before .before))), r .run-grow .ensures .1)
 
-totals-requires : tie.Need-totals-requires
-totals-requires c κs = search needs
-
-run-kept-requires : tie.Need-run-kept-requires
-run-kept-requires c κs =
-    let t = c .before .before .before .before .before .before .before .before in
-    let e = t .before .before in
+run-rows-requires : tie.Need-run-rows-requires
+run-rows-requires c κs =
+    let e = c .before .before .before .before .before .before .before .before in
     let s = S (e .before) in
-    (record { labelled = labels e; valid = valid-with (labels e) (s .pre .0) [] }, rw (keeps t) at (s .pre .1))
+    (record { labelled = labels e; valid = valid-with (labels e) (s .pre .0) [] }, s .pre .1)
 
 returns-2 : tie.Need-returns-2
 returns-2 c =
     let r = c .before .before .before .before .before .before .before .before .before .before .before .before .before .before in
-    let t = r .before .before .before .before .before .before .before .before .before in (
-      r .run-kept .ensures .0 (now (S (t .before .before .before) .args .members)),
-      record { brought = λ _. r .run-kept .ensures .1; left = λ e. never (sym e ∙ keeps t) },
-    )
-
-run-task-requires : tie.Need-run-task-requires
-run-task-requires c κs =
-    let e = c .before .before .before .before .before .before .before .before .before in
-    record { labelled = labels e; valid = valid-with (labels e) (S (e .before) .pre .0) [] }
-
-returns-3 : tie.Need-returns-3
-returns-3 c =
-    let r = c .before .before .before .before .before .before .before .before .before .before .before .before .before in
-    let e = r .before .before .before .before .before .before .before .before in (
-      r .run-task .ensures (now (S (e .before .before .before) .args .members)),
-      record { brought = λ h. never (sym (keeps-none e) ∙ h); left = λ _. refl },
-    )
+    let e = r .before .before .before .before .before .before .before .before .before in
+    (r .run-rows .ensures .0 (now (S (e .before) .args .members)), r .run-rows .ensures .1)
 
 same-length : tie.Need-same-length
 same-length c = search needs
@@ -118,27 +92,6 @@ same-length-10 c = search needs
 same-length-11 : tie.Need-same-length-11
 same-length-11 c = search needs
 
-same-length-12 : tie.Need-same-length-12
-same-length-12 c = search needs
-
-same-length-13 : tie.Need-same-length-13
-same-length-13 c = search needs
-
-same-length-14 : tie.Need-same-length-14
-same-length-14 c = search needs
-
-same-length-15 : tie.Need-same-length-15
-same-length-15 c = search needs
-
-same-length-16 : tie.Need-same-length-16
-same-length-16 c = search needs
-
-same-length-17 : tie.Need-same-length-17
-same-length-17 c = search needs
-
-same-length-18 : tie.Need-same-length-18
-same-length-18 c = search needs
-
 pub run-form-spec : {M : Type 1} → statement M
 run-form-spec =
     tie.close
@@ -149,8 +102,7 @@ run-form-spec =
     same-length-2
     same-length-3
     returns
-    totals-requires
-    run-kept-requires
+    run-rows-requires
     same-length-4
     same-length-5
     same-length-6
@@ -159,13 +111,4 @@ run-form-spec =
     same-length-9
     same-length-10
     same-length-11
-    returns-2
-    run-task-requires
-    same-length-12
-    same-length-13
-    same-length-14
-    same-length-15
-    same-length-16
-    same-length-17
-    same-length-18
-    returns-3)
+    returns-2)

@@ -5,7 +5,7 @@ use mathlib.Core.Path.{_≡_, refl}
 use lib.Ieee.{binary32, ofBits, ofInt}
 use Rattle.paper.specs.Site.Bonds.{whole}
 use Rattle.laws.specs.KeepsPlain.{keeps-none}
-use Rattle.steps.specs.Step.{empty}
+use Rattle.steps.specs.Empty.{empty}
 use Rattle.steps.proofs.houdayer_step.Statement.{statement}
 use Rattle.steps.proofs.houdayer_step.Tie as tie
 

@@ -1,7 +1,7 @@
 -- `jorg_step` meets its contract: it is `overlap_step` on empty totals, grey numbers and all that is told of grey components, and keeps nothing.
 use borrow.Author.Needs.{needs}
 use Rattle.laws.specs.KeepsPlain.{keeps-none}
-use Rattle.steps.specs.Step.{empty}
+use Rattle.steps.specs.Empty.{empty}
 use Rattle.steps.proofs.jorg_step.Statement.{statement}
 use Rattle.steps.proofs.jorg_step.Tie as tie
 

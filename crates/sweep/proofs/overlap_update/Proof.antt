@@ -10,7 +10,7 @@ use Rattle.paper.specs.Panel.Made.{buffersOf}
 use Rattle.paper.specs.Refusal.Rule.{Kept}
 use Rattle.paper.specs.Answer.Made.{sweepOf}
 use Rattle.paper.specs.Refusal.Verdict.{verdict-kept}
-use Rattle.sweep.specs.Updating.{refused-sweep, swept-kept, swept-asked, swept-answers}
+use Rattle.sweep_tasks.specs.Updating.{refused-sweep, swept-kept, swept-asked, swept-answers}
 use Rattle.sweep.proofs.overlap_update.Statement.{statement}
 use Rattle.sweep.proofs.overlap_update.Tie as tie
 

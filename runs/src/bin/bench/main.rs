@@ -1,18 +1,19 @@
-//! bench [repetitions] [totals|numbers|pins]: the port against the published Rust, in one run, as the tables of docs/BENCHMARKS.md.
+//! bench [repetitions] [totals|numbers|pins|packed]: the port against the published Rust, in one run, as the tables of docs/BENCHMARKS.md.
 //!
 //! Times are medians in microseconds. "Rust" is the published code with a generator, "lent" the same code with its
 //! draws read from the lent choices, "depth" the one-cluster form without outputs, a search from the seed; beside a
 //! form that grows "Rust" and "lent" are that search. The port's tests are the time of the same call made to fail its
 //! last test; "move" is the rest. The standard output has the tables, and the standard error each case with all that
 //! was measured. Where the port is not linked the model stands in for it, so that the run itself can be tried. With the word
-//! `totals` behind the repetitions only the tables of totals are made, with `numbers` only those of permutations by number, and
-//! with `pins` only those of panels with pinned sites.
+//! `totals` behind the repetitions only the tables of totals are made, with `numbers` only those of permutations by number,
+//! with `pins` only those of panels with pinned sites, and with `packed` only those of one byte for a site's group.
 mod clusters;
 mod coded;
 mod draws;
 mod edges;
 mod labelling;
 mod moves;
+mod packed;
 mod parts;
 mod pins;
 mod tables;
@@ -158,6 +159,7 @@ fn main() {
         Some("totals") => bench.totals(),
         Some("numbers") => bench.coded(),
         Some("pins") => bench.pins(),
+        Some("packed") => bench.packed(),
         _ => all(&mut bench),
     }
 }
@@ -191,4 +193,5 @@ fn all(bench: &mut Bench) {
     bench.edges();
     bench.coded();
     bench.pins();
+    bench.packed();
 }

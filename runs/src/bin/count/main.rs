@@ -6,7 +6,8 @@
 //! Then a call that grows a cluster of ten sites, at n = 256 and n = 4096. Its tests are the same call refused by the last of
 //! them. What clearing the members takes is an idle call less one that is refused with 10, both after a look at every site.
 //!
-//! count growths, count totals: those alone, and what keeping totals takes beside metering anew.
+//! count growths, count totals, count packed: those alone, what keeping totals takes beside metering anew, and moves on one byte
+//! for a site's group beside moves on rows.
 use calls::{Answer, Form, Mode};
 use published_as_is::Sweeper;
 use std::env;
@@ -16,6 +17,7 @@ use tsorvenk_runs::port;
 use tsorvenk_runs::rand::Rand;
 use tsorvenk_runs::timing;
 
+mod packed;
 mod totals;
 
 const FEW: usize = 2;
@@ -160,6 +162,7 @@ fn main() {
         let (mode, last, times) = (Mode::ALL[number(mode)], number(last), number(times));
         return match what.as_str() {
             "port" | "rust" => run(what, mode, Form::ALL[last], times),
+            "rows" | "bytes" | "pack" | "unpack" => packed::run(what, mode, Form::ALL[last], times),
             _ => run_part(what, mode, last, times),
         };
     }
@@ -169,6 +172,7 @@ fn main() {
     }
     match words.first().map(String::as_str) {
         Some("totals") => totals::all(),
+        Some("packed") => packed::all(),
         Some("growths") => growths(),
         _ => {
             sweeps();

@@ -1,20 +1,19 @@
 -- `test_panel` meets its contract: each test is reached past those before it.
 use borrow.Author.Needs.{needs}
 use mathlib.Core.Path.{refl, sym, _∙_}
-use mathlib.Core.Bool.{not, _||_}
 use mathlib.Core.Logic.{inl, inr}
 use mathlib.Core.List.{[], _∷_}
 use denote.Ref.{now}
 use lib.ListN.{length}
-use Rattle.lemmas.specs.Tells.{Tells, passed, refused, Test, said, implies, test-is}
-use Rattle.paper.specs.Panel.Takes.{drawsBonds, keepsBy}
+use Rattle.lemmas.specs.Tells.{Tells, passed, refused}
+use Rattle.paper.specs.Panel.Takes.{keepsBy}
 use Rattle.paper.specs.Panel.Made.{latticeOf}
 use Rattle.paper.specs.Refusal.Rule.{rule, Kept}
-use Rattle.paper.specs.Refusal.Rules.{When, AllSystems, Spins, Inverse, Pins, Grouped, SmallCouplings, Warm}
-use Rattle.paper.specs.Refusal.Verdict.{verdict-kept}
+use Rattle.paper.specs.Refusal.Rules.{When, AllSystems, Spins}
+use Rattle.paper.specs.Refusal.Verdict.{verdict-kept, verdict-later}
 use Rattle.paper.specs.Answer.Totals.{TotalLengths}
 use Rattle.lattice.specs.Spinning.{all-rows}
-use Rattle.tests.specs.Panel.{shapeRules, either-first, either-second, either-broken}
+use Rattle.tests.specs.Panel.{shapeRules, lengthRules, tableRules}
 use Rattle.tests.proofs.Shape.{shape-lengths, shape-broken}
 use Rattle.tests.proofs.panel.test_panel.Statement.{statement}
 use Rattle.tests.proofs.panel.test_panel.Tie as tie
@@ -50,69 +49,6 @@ rows-tell e =
 k3 : (e : tie.Else2) → let a = S1 (E1 e) .args in Spins (a .t .n) (AllSystems (a .t .s)) (now (a .spins))
 k3 e = passed (e .before .spins-ok .result) (e .if2 .left) (rows-tell (e .before))
 
-abbrev E2 : tie.Else3 → tie.Else2
-E2 e = e .before .before
-
-k4 : (e : tie.Else3) → let a = S1 (E1 (E2 e)) .args in Inverse (a .t .n) (a .t .d) (now (a .fwd)) (now (a .bwd))
-k4 e = passed (e .before .tables-ok .result) (e .if3 .left) (e .before .tables-ok .ensures)
-
-abbrev E3 : tie.Else4 → tie.Else3
-E3 e = e .before .before
-
-k4-pins : (e : tie.Else4) → Pins (now (S1 (E1 (E2 (E3 e))) .args .pins))
-k4-pins e = passed (e .before .bytes-at-most .result) (e .if4 .left) (e .before .bytes-at-most .ensures)
-
-abbrev P3 : tie.Else5 → tie.Else4
-P3 e = e .before .before .before
-
-k5 : (e : tie.Else5) → let a = S1 (E1 (E2 (E3 (P3 e)))) .args in Grouped (a .t .s) (a .t .group)
-k5 e = passed (e .before .group-ok .result) (e .if5 .left) (e .before .group-ok .ensures)
-
-abbrev S4 : tie.Else5 → tie.Start
-S4 e = S1 (E1 (E2 (E3 (P3 e))))
-
--- the test of the couplings, as the code puts it, and for both of its reasons
-abbrev D : tie.After-totals → tie.After-is-drawn
-D e = e .before
-
-abbrev E4 : tie.After-totals → tie.Else5
-E4 e = D e .before
-
-large : (e : tie.After-couplings-fit) → let a = S4 (E4 (e .before)) .args in
-    Tells (e .couplings-fit .result) (When (drawsBonds (a .t .mode) || keepsBy (a .t .keeps) (a .t .form)) (SmallCouplings (now (a .couplings))))
-large e = rw (D (e .before) .is-drawn .ensures, e .before .totals .ensures) at (e .couplings-fit .ensures)
-
-module _ (e : tie.Else6) where
-  abbrev C : tie.After-couplings-fit
-  C = e .before
-
-  abbrev T : tie.Start
-  T = S4 (E4 (C .before))
-
-  k6 : When (drawsBonds (T .args .t .mode) || keepsBy (T .args .t .keeps) (T .args .t .form)) (SmallCouplings (now (T .args .couplings)))
-  k6 = passed (C .couplings-fit .result) (e .if6 .left) (large C)
-
-  k6-drawn : When (drawsBonds (T .args .t .mode)) (SmallCouplings (now (T .args .couplings)))
-  k6-drawn = either-first (drawsBonds (T .args .t .mode)) (keepsBy (T .args .t .keeps) (T .args .t .form)) _ k6
-
-  k6-kept : When (keepsBy (T .args .t .keeps) (T .args .t .form)) (SmallCouplings (now (T .args .couplings)))
-  k6-kept = either-second (drawsBonds (T .args .t .mode)) (keepsBy (T .args .t .keeps) (T .args .t .form)) _ k6
-
--- the last test, as the code puts it
-abbrev F : tie.After-temperature-ok → tie.Else6
-F e = e .before
-
-warm : (e : tie.After-temperature-ok) → let d = D (C (F e) .before) .is-drawn .result in
-    Test (not d || e .temperature-ok .result) (When d (Warm (T (F e) .args .t .temperature)))
-warm e =
-    let i = D (C (F e) .before) in
-    implies (test-is (i .is-drawn .result)) (said (e .temperature-ok .result) (Warm (T (F e) .args .t .temperature)) (e .temperature-ok .ensures))
-
-k7 : (e : tie.Else7) → let a = T (F (e .before)) .args in When (drawsBonds (a .t .mode)) (Warm (a .t .temperature))
-k7 e =
-    let i = D (C (F (e .before)) .before) in
-    λ q. passed (not (i .is-drawn .result) || e .before .temperature-ok .result) (e .if7 .left) (warm (e .before) .says) (i .is-drawn .ensures ∙ q)
-
 test-shape-requires : tie.Need-test-shape-requires
 test-shape-requires c κs = search needs
 
@@ -133,164 +69,30 @@ returns-2 c =
     let e = t .before in
     inr (k1 e .0, inr (k1 e .1 .0, inr (k1 e .1 .1 .0, inr (k2 e, inl (refused (t .spins-ok .result) (c .if2 .taken) (rows-tell t), refl)))))
 
-tables-ok-requires : tie.Need-tables-ok-requires
-tables-ok-requires c κs =
+test-tables-requires : tie.Need-test-tables-requires
+test-tables-requires c κs =
     let s = S1 (E1 c) in
-    let f = k1 (E1 c) .1 .1 .0 in
-    record { fwd-long = sym (s .pre .fwd-is) ∙ f .fwd; bwd-long = sym (s .pre .bwd-is) ∙ f .bwd }
+    let k = k1 (E1 c) in
+    let f = k .1 .1 .0 in
+    record {
+      tables = record { fwd-long = sym (s .pre .fwd-is) ∙ f .fwd; bwd-long = sym (s .pre .bwd-is) ∙ f .bwd };
+      size-high = k .0 .size-high;
+    }
 
 returns-3 : tie.Need-returns-3
 returns-3 c =
-    let t = c .before in
-    let f = t .before in
-    let e = E1 f in
-    inr (k1 e .0, inr (k1 e .1 .0, inr (k1 e .1 .1 .0, inr (k2 e, inr (k3 f, inl (refused (t .tables-ok .result) (c .if3 .taken) (t .tables-ok .ensures), refl))))))
-
-bytes-at-most-requires : tie.Need-bytes-at-most-requires
-bytes-at-most-requires c κs = search needs
-
-returns-4 : tie.Need-returns-4
-returns-4 c =
-    let t = c .before in
-    let i = t .before in
-    let f = E2 i in
-    let e = E1 f in
-    let no = refused (t .bytes-at-most .result) (c .if4 .taken) (t .bytes-at-most .ensures) in
-    inr (k1 e .0, inr (k1 e .1 .0, inr (k1 e .1 .1 .0, inr (k2 e, inr (k3 f, inr (k4 i, inl (no, refl)))))))
-
-group-ok-requires : tie.Need-group-ok-requires
-group-ok-requires c κs = k1 (E1 (E2 (E3 (c .before)))) .0 .size-high
-
-returns-5 : tie.Need-returns-5
-returns-5 c =
-    let t = c .before in
-    let p = t .before .before in
-    let i = E3 p in
-    let f = E2 i in
-    let e = E1 f in
-    let no = refused (t .group-ok .result) (c .if5 .taken) (t .group-ok .ensures) in
-    inr (k1 e .0, inr (k1 e .1 .0, inr (k1 e .1 .1 .0, inr (k2 e, inr (k3 f, inr (k4 i, inr (k4-pins p, inl (no, refl))))))))
-
-is-drawn-requires : tie.Need-is-drawn-requires
-is-drawn-requires c κs = search needs
-
-totals-requires : tie.Need-totals-requires
-totals-requires c κs = search needs
-
-couplings-fit-requires : tie.Need-couplings-fit-requires
-couplings-fit-requires c κs = search needs
-
-returns-6 : tie.Need-returns-6
-returns-6 c =
-    let t = c .before in
-    let g = E4 (t .before) in
-    let p = P3 g in
-    let i = E3 p in
-    let f = E2 i in
+    let f = c .before in
     let e = E1 f in
     let a = S1 e .args in
-    let no = refused (t .couplings-fit .result) (c .if6 .taken) (large t) in
-    inr (
-      k1 e .0,
-      inr (
-        k1 e .1 .0,
-        inr (
-          k1 e .1 .1 .0,
-          inr (
-            k2 e,
-            inr (
-              k3 f,
-              inr (
-                k4 i,
-                inr (
-                  k4-pins p,
-                  inr (
-                    k5 g,
-                    either-broken (drawsBonds (a .t .mode)) (keepsBy (a .t .keeps) (a .t .form)) (SmallCouplings (now (a .couplings))) 6
-                        (rule 7 (When (drawsBonds (a .t .mode)) (Warm (a .t .temperature))) ∷ []) no,
-                  ),
-                ),
-              ),
-            ),
-          ),
-        ),
-      ),
-    )
-
-temperature-ok-requires : tie.Need-temperature-ok-requires
-temperature-ok-requires c κs = search needs
-
-returns-7 : tie.Need-returns-7
-returns-7 c =
-    let t = c .before in
-    let j = F t in
-    let d = D (C j .before) in
-    let g = d .before in
-    let p = P3 g in
-    let i = E3 p in
-    let f = E2 i in
-    let e = E1 f in
-    let cold = refused (not (d .is-drawn .result) || t .temperature-ok .result) (c .if7 .taken) (warm t .says) in
-    inr (
-      k1 e .0,
-      inr (
-        k1 e .1 .0,
-        inr (
-          k1 e .1 .1 .0,
-          inr (
-            k2 e,
-            inr (
-              k3 f,
-              inr (
-                k4 i,
-                inr (
-                  k4-pins p,
-                  inr (
-                    k5 g,
-                    inr (
-                      k6-drawn j,
-                      inr (
-                        k6-kept j,
-                        inl ((λ w. cold (λ q. w (sym (d .is-drawn .ensures) ∙ q))), refl),
-                      ),
-                    ),
-                  ),
-                ),
-              ),
-            ),
-          ),
-        ),
-      ),
-    )
-
-returns-8 : tie.Need-returns-8
-returns-8 c =
-    let j = F (c .before) in
-    let g = E4 (C j .before) in
-    let p = P3 g in
-    let i = E3 p in
-    let f = E2 i in
-    let e = E1 f in
-    (k1 e .0, (k1 e .1 .0, (k1 e .1 .1 .0, (k2 e, (k3 f, (k4 i, (k4-pins p, (k5 g, (k6-drawn j, (k6-kept j, (k7 c, tt)))))))))))
+    let t = a .t in
+    let fwd = now (a .fwd) in
+    let bwd = now (a .bwd) in
+    let js = now (a .couplings) in
+    let r = c .test-tables .result in
+    let tables = tableRules t fwd bwd (now (a .pins)) js in
+    let spins = rule 3 (Spins (t .n) (AllSystems (t .s)) (now (a .spins))) in
+    verdict-later (lengthRules t (now (a .totals)) fwd bwd js (a .l)) (spins ∷ tables) r (k1 e .0, (k1 e .1 .0, (k1 e .1 .1 .0, (k2 e, tt))))
+    (verdict-later (spins ∷ []) tables r (k3 f, tt) (c .test-tables .ensures))
 
 pub test-panel-spec : {M : Type 1} → statement M
-test-panel-spec =
-    tie.close
-    (tie.spec
-    test-shape-requires
-    returns
-    spins-ok-requires
-    returns-2
-    tables-ok-requires
-    returns-3
-    bytes-at-most-requires
-    returns-4
-    group-ok-requires
-    returns-5
-    is-drawn-requires
-    totals-requires
-    couplings-fit-requires
-    returns-6
-    temperature-ok-requires
-    returns-7
-    returns-8)
+test-panel-spec = tie.close (tie.spec test-shape-requires returns spins-ok-requires returns-2 test-tables-requires returns-3)

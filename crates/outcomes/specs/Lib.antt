@@ -1,0 +1,3 @@
+-- What one more answer adds, and that each promise allows one result.
+pub mod Adding
+pub mod Determined
