@@ -7,7 +7,8 @@ use tsorvenk_runs::model::Model;
 use tsorvenk_runs::packed::Layout;
 use tsorvenk_runs::timing::{self, in_turn, median, microseconds, N};
 
-const D: usize = 3;
+const D: usize = 2;
+const MANY: usize = 64;
 
 /// The rows one after the other, without a test.
 #[inline(never)]
@@ -130,32 +131,35 @@ impl Bench {
 
     fn packed_cells(&mut self, mode: Mode, form: Form, packing: &[Packing; 2]) -> Vec<String> {
         let members = *sizes(mode, form).last().unwrap();
-        let panel = timing::panel(&mut self.rand, mode, form, D, members);
-        let case = timing::single(&mut self.rand, panel, members);
-        let [bytes, rows] = self.bytes_and_rows(&case);
-        let whole = self.cell(bytes, Some(rows), |_| String::new());
+        let [alone, many] = [members, MANY].map(|s| {
+            let panel = timing::panel(&mut self.rand, mode, form, D, s);
+            let case = timing::single(&mut self.rand, panel, members);
+            self.bytes_and_rows(&case)
+        });
+        let [whole, beside] =
+            [alone, many].map(|[bytes, rows]| self.cell(bytes, Some(rows), |_| String::new()));
         let layout = &packing[usize::from(members == 8)];
-        let (spared, both) = (rows - bytes, layout.both());
+        let (spared, both) = (alone[1] - alone[0], layout.both());
         let part = format!("{spared:.2} / {both:.2} = {:.2}", spared / both);
-        vec![members.to_string(), whole, part]
+        vec![members.to_string(), whole, part, beside]
     }
 
     pub fn packed(&mut self) {
         println!("\npacking, all tests made / a plain loop, which makes none");
         let packing = [2, 8].map(|members| self.packing_line(members));
         let title = format!(
-            "One byte for a site's group, n = {N}, D = {D}, S = N: whole call on bytes / the same on rows, in turn; what bytes spare / what packing and \
-            unpacking as many rows takes"
+            "One byte for a site's group, n = {N}, D = {D}: whole call on bytes / the same on rows, in turn, of a panel of N systems and of one of {MANY}; what \
+            bytes spare / what packing and unpacking as many rows takes"
         );
         head(
             &title,
             "Mode and form",
-            &["N", "bytes / rows", "spared / pack and unpack"],
+            &["N", "S = N", "spared / pack and unpack", "S = 64"],
         );
         for mode in Mode::ALL {
             for form in Form::ALL {
                 let cells = self.packed_cells(mode, form, &packing);
-                row(&format!("{} {}", mode.name(), form.name()), cells, 3);
+                row(&format!("{} {}", mode.name(), form.name()), cells, 4);
             }
         }
         self.ratios.print();

@@ -162,7 +162,7 @@ fn main() {
         let (mode, last, times) = (Mode::ALL[number(mode)], number(last), number(times));
         return match what.as_str() {
             "port" | "rust" => run(what, mode, Form::ALL[last], times),
-            "rows" | "bytes" | "pack" | "unpack" => packed::run(what, mode, Form::ALL[last], times),
+            "rows" | "many" | "bytes" | "pack" | "unpack" => packed::run(what, mode, Form::ALL[last], times),
             _ => run_part(what, mode, last, times),
         };
     }
