@@ -1,4 +1,4 @@
--- `tsorvenk_energy` meets its contract: without room for the energy the sizes decide, else the meter answers.
+-- `metered` meets its contract: without room for the energy the sizes decide, else the meter answers.
 use borrow.Author.Needs.{needs}
 use mathlib.Core.Path.{subst}
 use mir.Syntax.{w64}
@@ -9,8 +9,8 @@ use Rattle.paper.specs.Panel.Input.{Lattice}
 use Rattle.paper.specs.Answer.Meter.{MeterAnswers}
 use Rattle.paper.specs.Panel.Made.{latticeOf}
 use Rattle.tsorvenk.proofs.Told.{no-sizes, no-room, unmetered, metered}
-use Rattle.tsorvenk.proofs.tsorvenk_energy.Statement.{statement}
-use Rattle.tsorvenk.proofs.tsorvenk_energy.Tie as tie
+use Rattle.tsorvenk.proofs.metered.Statement.{statement}
+use Rattle.tsorvenk.proofs.metered.Tie as tie
 
 abbrev panel : tie.Start → Lattice
 panel k = latticeOf (k .args .n) (k .args .d) (k .args .s) (now (k .args .fwd)) (now (k .args .bwd)) (now (k .args .couplings))
@@ -54,8 +54,8 @@ returns-4 c =
     (metered (panel k) (now (k .args .spins)) (k .args .system) (now (k .args .energy)) (c .before .e .given .0 .0) (m .before .if1 .left)
     (subst (MeterAnswers _ _ _) (c .before .e .given .1) (m .energy .ensures)))
 
-pub tsorvenk-energy-spec : {M : Type 1} → statement M
-tsorvenk-energy-spec =
+pub metered-spec : {M : Type 1} → statement M
+metered-spec =
     tie.close
     (tie.spec
     sizes-ok-requires

@@ -1,14 +1,15 @@
--- `tsorvenk_step` meets its contract: a code that is none is refused, and any other call is answered by `overlap_step_by`.
+-- `step` meets its contract: a code that is none is refused, and any other call is answered by `overlap_step_by`.
 use borrow.Author.Needs.{needs}
+use mathlib.Core.Path.{refl}
 use denote.Ref.{now}
 use Rattle.lemmas.specs.Tells.{passed, refused}
 use Rattle.tsorvenk.specs.Number.{Coded}
 use Rattle.tsorvenk.proofs.Told.{unknown-code, known-code, same-coding, same-keeping, same-call, same-choices}
-use Rattle.tsorvenk.proofs.tsorvenk_step.Statement.{statement}
-use Rattle.tsorvenk.proofs.tsorvenk_step.Tie as tie
+use Rattle.tsorvenk.proofs.step.Statement.{statement}
+use Rattle.tsorvenk.proofs.step.Tie as tie
 
 abbrev S : tie.After-codes-ok → tie.Start
-S k = k .before .before .before .before .before .before .before .before .before .before .before .before .before .before .before .before
+S k = k .before .before .before .before .before .before .before .before .before .before .before .before .before .before .before
 
 -- the codes are known from here on
 known : (e : tie.Else1) → let a = S (e .before) .args in Coded (a .mode) (a .form) (a .coding) (a .keeps)
@@ -29,11 +30,8 @@ form-of-requires c κs = known (c .before) .form-known
 keeps-of-requires : tie.Need-keeps-of-requires
 keeps-of-requires c κs = known (c .before .before) .keeps-known
 
-group-of-requires : tie.Need-group-of-requires
-group-of-requires c κs = search needs
-
 coding-of-requires : tie.Need-coding-of-requires
-coding-of-requires c κs = known (c .before .before .before .before) .coding-known
+coding-of-requires c κs = known (c .before .before .before) .coding-known
 
 taken-requires : tie.Need-taken-requires
 taken-requires c κs = search needs
@@ -79,18 +77,17 @@ returns-2 c =
     let o = step-of c in
     let t = o .before .before .before .before .before .before .before .before in
     let q = t .before .before .before in
-    let g = q .before in
-    let k = g .before in
+    let k = q .before in
     let f = k .before in
     let m = f .before in
     let a = S (m .before .before) .args in
     known-code (o .overlap-step-by .result) (c .number-of .ensures)
     (same-coding (q .coding-of .ensures) (m .mode-of .ensures) (f .form-of .ensures)) (same-keeping (k .keeps-of .ensures) (f .form-of .ensures))
-    (same-call (m .mode-of .ensures) (f .form-of .ensures) (g .group-of .ensures))
+    (same-call (m .mode-of .ensures) (f .form-of .ensures) refl)
     (same-choices (now (a .flips)) (now (a .perms)) (t .taken .ensures) (m .mode-of .ensures)) (known (m .before)) (o .overlap-step-by .ensures)
 
-pub tsorvenk-step-spec : {M : Type 1} → statement M
-tsorvenk-step-spec =
+pub step-spec : {M : Type 1} → statement M
+step-spec =
     tie.close
     (tie.spec
     codes-ok-requires
@@ -98,7 +95,6 @@ tsorvenk-step-spec =
     mode-of-requires
     form-of-requires
     keeps-of-requires
-    group-of-requires
     coding-of-requires
     taken-requires
     overlap-step-by-requires
