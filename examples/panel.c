@@ -2,8 +2,9 @@
  * mode in the all-clusters form, a sweep that is refused, and one that grows a cluster in each task. Behind each of the first
  * stand the components that were found in its tasks, and the first task's sites by their numbers. The sweeps keep each
  * system's energy as a total, which is metered before them, handed over, and held to the meter after each. Then a group of
- * five is moved by permutations that are lent as numbers, and once more by their rows. Last, some sites are pinned: a sweep of
- * one cluster in each task says how many of them a pin holds, and so does a move. The couplings come from an edge list,
+ * five is moved by permutations that are lent as numbers, and once more by their rows. Then some sites are pinned: a sweep of
+ * one cluster in each task says how many of them a pin holds, and so does a move. Up to there one team has the whole panel; last,
+ * two of its systems go to another, which moves these and leaves what is the first's. The couplings come from an edge list,
  * in the file that is named behind the program, or else in examples/panel.edges; every choice is drawn from one seed, so that
  * each run is the same. panel.rs is the same program in Rust; both print panel.out. */
 #include "tsorvenk.h"
@@ -310,6 +311,35 @@ static void hold_some(const struct choices *c, struct outputs *o) {
     print_totals(o);
 }
 
+/* the second team has the systems 1 and 3: it exchanges them wherever they differ, at one temperature, and a system of the first is
+ * none to it */
+static void share(const struct choices *c, struct outputs *o) {
+    static const uint8_t owners[S] = {0, 1, 0, 1};
+    static const uint32_t own[] = {1, 3}, foreign[] = {1, 2};
+    struct tsorvenk_sweep_args args = lent(TSORVENK_PAIR, TSORVENK_SW, c, o);
+    struct outputs before = *o;
+    uint8_t flips[N], code;
+    int kept = 1;
+    memset(flips, 1, N);
+    args.team = 1, args.owners = owners, args.owners_len = S;
+    args.t = 1, args.r = 2, args.order = own, args.order_len = 2, args.masks_len = 1;
+    args.flips = flips, args.flips_len = N;
+    take_labels(&args, o);
+    args.labels_len = N, args.counts_len = N + 1, args.sizes_len = 4, args.found_len = 1;
+    code = tsorvenk_sweep_with(&args);
+    if (code) {
+        printf("two teams: refused with %d\n", code);
+        return;
+    }
+    printf("two teams: %u idle, %u moved\n", (unsigned)o->outcomes[0], (unsigned)o->outcomes[1]);
+    for (int k = 0; k < S; k += 2)
+        kept = kept && o->totals[k] == before.totals[k] && !memcmp(o->spins + k * N, before.spins + k * N, N);
+    printf("  the first team's rows and totals %s\n", kept ? "are as they were" : "were written");
+    args.order = foreign;
+    printf("  with a system of the first: refused with %d\n", tsorvenk_sweep_with(&args));
+    print_totals(o);
+}
+
 int main(int argc, char **argv) {
     struct outputs o, before;
     struct choices c;
@@ -334,5 +364,6 @@ int main(int argc, char **argv) {
     print_totals(&o);
     move_five(&o);
     hold_some(&c, &o);
+    share(&c, &o);
     return 0;
 }

@@ -2,20 +2,24 @@
 //! in the all-clusters form, a sweep that is refused, and one that grows a cluster in each task. Behind each of the first
 //! stand the components that were found in its tasks, and the first task's sites by their numbers. The sweeps keep each
 //! system's energy as a total, which is metered before them, handed over, and held to the meter after each. Then a group of
-//! five is moved by permutations that are lent as numbers, and once more by their rows. Last, some sites are pinned: a sweep of
-//! one cluster in each task says how many of them a pin holds, and so does a move. The couplings come from an edge list,
+//! five is moved by permutations that are lent as numbers, and once more by their rows. Then some sites are pinned: a sweep of
+//! one cluster in each task says how many of them a pin holds, and so does a move. Up to there one team has the whole panel; last,
+//! two of its systems go to another, which moves these and leaves what is the first's. The couplings come from an edge list,
 //! in the file that is named behind the program, or else in examples/panel.edges; every choice is drawn from one seed, so that
 //! each run is the same. panel.c is the same program in C; both print panel.out.
 use std::error::Error;
 use tsorvenk::{
-    number_of, refusal_words, row_of, Coding, Form, HandOver, Keeps, MeterAll, Mode, ReadEdges,
-    Refusal, Source, Step, Sweep, Swept, WriteEdges, EDGES_ROOM,
+    refusal_words, Form, HandOver, Keeps, MeterAll, Mode, ReadEdges, Refusal, Source, Sweep, Swept,
+    WriteEdges, EDGES_ROOM,
 };
 
+#[path = "panel/five.rs"]
+mod five;
 #[path = "panel/pins.rs"]
 mod pins;
+#[path = "panel/teams.rs"]
+mod teams;
 
-const FIVE: usize = 5;
 const SIDE: usize = 4;
 const N: usize = SIDE * SIDE;
 const D: usize = 2;
@@ -234,6 +238,7 @@ fn meter(panel: &Panel, spins: &[i8]) -> Result<[i64; S], Refusal> {
         fwd: &panel.fwd,
         bwd: &panel.bwd,
         couplings: &panel.couplings,
+        ..Default::default()
     })?;
     Ok(totals)
 }
@@ -248,6 +253,7 @@ fn hand_over(panel: &Panel, o: &Outputs) -> u8 {
         fwd: &panel.fwd,
         bwd: &panel.bwd,
         couplings: &panel.couplings,
+        ..Default::default()
     });
     answer.map_or_else(|refusal| refusal.number, |()| 0)
 }
@@ -322,44 +328,6 @@ fn print_sweep(mode: Mode, answer: Result<Swept, Refusal>, o: &Outputs) {
     }
 }
 
-/// Five systems are moved by numbers, a byte for each choice, and once more by the rows of these, five bytes each.
-fn move_five(panel: &Panel, source: &mut Source, o: &mut Outputs) -> Result<(), Refusal> {
-    let (mut coins, mut numbers, mut rows) = ([0; FIVE * N], [0; N], [0; FIVE * N]);
-    source.fill_flips(&mut coins)?;
-    source.fill_numbers(&mut numbers)?;
-    for (row, &number) in rows.chunks_mut(FIVE).zip(&numbers) {
-        row.copy_from_slice(&row_of(number)?);
-    }
-    let mut permute = |coding: Coding, perms: &[u8]| -> Result<[i8; FIVE * N], Refusal> {
-        let mut spins = coins.map(sign);
-        tsorvenk::step(Step {
-            mode: Mode::Perm,
-            coding,
-            n: N,
-            d: D,
-            s: FIVE,
-            spins: &mut spins,
-            fwd: &panel.fwd,
-            bwd: &panel.bwd,
-            group: &[0, 1, 2, 3, 4],
-            perms,
-            labels: &mut o.labels[..N],
-            counts: &mut o.counts[..N + 1],
-            sizes: &mut o.sizes[..4],
-            found: &mut o.found[..1],
-            ..Default::default()
-        })?;
-        Ok(spins)
-    };
-    let same = permute(Coding::Numbers, &numbers)? == permute(Coding::Rows, &rows)?;
-    let which = if same { "the same" } else { "other" };
-    println!("five by {N} numbers, and by their rows: {which} spins");
-    let [a, b, c, d, e] = row_of(numbers[0])?;
-    let number = number_of(&rows[..FIVE])?;
-    println!("  the first row is {a} {b} {c} {d} {e}, and its number {number}");
-    Ok(())
-}
-
 fn main() -> Result<(), Box<dyn Error>> {
     let path = std::env::args().nth(1);
     let path = path.unwrap_or("examples/panel.edges".to_string());
@@ -393,7 +361,8 @@ fn main() -> Result<(), Box<dyn Error>> {
     let answer = grow(&panel, &c, &mut member_sites, &mut o);
     print_grown(answer, &member_sites);
     print_totals(&panel, &o)?;
-    move_five(&panel, &mut source, &mut o)?;
+    five::move_five(&panel, &mut source, &mut o)?;
     pins::hold_some(&panel, &c, &mut o)?;
+    teams::share(&panel, &c, &mut o)?;
     Ok(())
 }

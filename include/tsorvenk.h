@@ -13,16 +13,19 @@
  *
  * A buffer that a mode and form do not take is ignored, at any length and with any content.
  *
- * Refusals, tested in this order. A refusal returns its number, and every buffer keeps its bytes:
+ * Refusals, tested in this order. A refusal returns its number, and every buffer keeps its bytes. Where owners are lent two tests
+ * come before all of these, even before sizes and numbers that are no mode: 2 if there are not s owner bytes, then 3 if one of
+ * them, or the team, is above 1. Then:
  *
  *   1  n not 1 to 4096, d not 1 to 4, s not 1 to 64, group size not 2 to 8, or not 2 in CMR, or not 5 where permutations
- *      are numbers; a mode above 5, a form above 3, a coding above 1, keeps above 1; in a sweep t * r not s, or members
- *      above r
+ *      are numbers; a mode above 5, a form above 3, a coding above 1, keeps above 1; in a sweep t * r not the number of the
+ *      caller's own systems, t or r 0, or members above r
  *  15  straight after 1: houd with a group of more than 2 in SW, Wolff or grow; a sweep is refused whole
  *   2  a buffer's length is not the exact one
- *   3  a spin of any system is not +1 or -1; a byte of packed columns has a bit from N upwards
+ *   3  a spin of a system that the call names, and that is the caller's own, is not +1 or -1; a byte of packed columns has a
+ *      bit from N upwards
  *   4  a neighbour is n or more, or fwd and bwd are not inverse; after the tables, a pin byte is not 0 or 1
- *   5  a system of the group, or the meter's, is s or more; one stands twice in the group; the order is no permutation
+ *   5  a system of the group, of the order or the meter's is s or more, or the other team's; one stands twice
  *   6  a coupling's size is above 1,000,000
  *   7  a temperature is not from 1/1024 to 1,048,576, or not a number
  *   8  a cut is below 0, infinite or not a number
@@ -32,8 +35,8 @@
  *      are not 2 to 8, or 64 words in a row are taken again
  *  13  of the edge list alone, between 4 and 6: a text that is none, another n or m, a site outside 1 to n, or a line for
  *      which no bond is left
- *  14  last of all: at the hand-over a total is not its system's energy; in a call that keeps totals one of them, of any
- *      system, is above 16,384,000,000 in size, which no energy reaches
+ *  14  last of all: at the hand-over a total of an own system is not its energy; in a call that keeps totals one of them, of a
+ *      system that the call names, is above 16,384,000,000 in size, which no energy reaches
  *
  * The draws and the edge list say their order themselves, further down.
  *
@@ -68,6 +71,16 @@
  * held, the blue flip stands, and the answer is 0. SW is never held, even if every component is, and to observe neither: there
  * pins are tested and change nothing. Answers come in this order: a refusal, idle, held, moved. The meter, the hand-over, the
  * labelling, packing and the edge list know no pins, and frames pin nothing.
+ *
+ * Owners: two teams may search with systems of their own in one buffer of spins, on the same tables, couplings and pins. A byte
+ * for each system, 0 or 1, says whose it is, and team, 0 or 1, who calls. tsorvenk_step, tsorvenk_sweep, tsorvenk_energy and
+ * tsorvenk_hand_over take both. A call names systems: a step those of its group, a sweep every entry of its order, those that
+ * are left over or masked too, the meter its one. It may name its caller's own alone; any other is refused with 5. Rows and totals
+ * of the other team are neither read nor written, whatever bytes they hold, and of the caller's own only those of systems that
+ * are named are looked at. So what comes back depends on the sizes, the shared tables, the owners, the caller's own rows, totals
+ * and arguments, and on nothing else. The hand-over names nobody: it is of all the caller's own systems. Where one team has the
+ * whole panel every owner byte is 0, and so is team. Two teams' calls on one buffer are made one after the other, as any others.
+ * Packed calls, labels, frames, draws and edge lists know no owners; the frame program tests the spins of all its systems.
  */
 #ifndef TSORVENK_H
 #define TSORVENK_H
@@ -91,11 +104,14 @@ enum { TSORVENK_IDLE = 64, TSORVENK_NO_ROOM = 65, TSORVENK_HELD = 66 };
 /* One move or observation of one group, of N = group_len systems.
  *
  *   n, d, s      sites, directions, systems
- *   spins        s * n, system by system: the spin of site i in system k is at k * n + i, +1 or -1
+ *   team         the caller's, 0 or 1
+ *   owners       s, each 0 or 1: whose the system is
+ *   spins        s * n, system by system: the spin of site i in system k is at k * n + i, +1 or -1; the rows of systems that
+ *                are not of the group may hold anything
  *   fwd, bwd     n * d: entry i * d + e is the neighbour of site i in direction e, forward and backward
  *   pins         n, each 0 or 1: 1 pins the site, and its component does not move
  *   couplings    n * d, at the bond's entry                        Joerg, CMR, in every form; totals kept, in every mode
- *   group        N systems, 2 to 8 (CMR: 2, houd: 2 unless it observes); they differ, and their order matters
+ *   group        N of the team's systems, 2 to 8 (CMR: 2, houd: 2 unless it observes); they differ, and their order matters
  *   temperature                                                    Joerg, CMR, in every form
  *   cuts         n * d, at the bond's entry; a bond is drawn where scale * strength is above its cut
  *                                                                  Joerg, CMR, in every form
@@ -129,12 +145,14 @@ enum { TSORVENK_IDLE = 64, TSORVENK_NO_ROOM = 65, TSORVENK_HELD = 66 };
  *   grey_found   1: how many grey ones there are                   SW and Wolff of CMR
  *   spins        the group's rows after the move; idle, held and observe leave them as they are
  *   totals       s, one for each system: that of a system of the group changes by its energy after the move less its
- *                energy before; those of others stay                SW, Wolff, grow where keeps is 1
+ *                energy before; those of others stay, whatever they are
+ *                                                                  SW, Wolff, grow where keeps is 1
  *
  * Returns TSORVENK_IDLE if no site acts (never in CMR), TSORVENK_HELD if some does and the form is Wolff or grow and the seed's
  * component (CMR: its blue one) has a pinned site, 0 in all other cases that are not refused, else the refusal 1 to 10, 14
  * or 15. */
 uint8_t tsorvenk_step(uint8_t mode, uint8_t form, uint8_t coding, uint8_t keeps, size_t n, size_t d, size_t s,
+    uint8_t team, const uint8_t *owners, size_t owners_len,
     int8_t *spins, size_t spins_len, int64_t *totals, size_t totals_len,
     const uint32_t *fwd, size_t fwd_len, const uint32_t *bwd, size_t bwd_len, const uint8_t *pins, size_t pins_len,
     const int32_t *couplings, size_t couplings_len, const uint32_t *group, size_t group_len,
@@ -145,14 +163,16 @@ uint8_t tsorvenk_step(uint8_t mode, uint8_t form, uint8_t coding, uint8_t keeps,
     uint8_t *member_sites, size_t member_sites_len,
     uint32_t *found, size_t found_len, uint32_t *grey_found, size_t grey_found_len);
 
-/* A sweep over t temperatures of r replicas, t * r = s, in groups of N = members systems.
+/* A sweep over t temperatures of r replicas, in groups of N = members systems. It is over all systems of the team, t * r of them,
+ * with t and r at least 1; a team that has none has no sweep, and is refused with 1.
  *
  * Temperature j owns the order's entries from j * r on; its groups are runs of N, and what is left over does not move. Task
  * number j * (r / N) + g, rounded down, is the group g of temperature j. There are K = t * (r / N) tasks, those of masked
  * temperatures too. Each task is the step that it would be alone; its areas in the buffers are at its number:
  *
- *   spins, fwd, bwd, pins, couplings                               as in a step
- *   order         s: a permutation of the systems
+ *   team, owners, spins, fwd, bwd, pins, couplings                 as in a step; the rows of the order's systems are spins,
+ *                 those that are left over or masked too
+ *   order         t * r: the team's systems, each once
  *   masks         t, each 0 or 1: 1 masks its temperature, whose tasks' areas are neither read nor written
  *   temperatures  t                                                Joerg, CMR, in every form
  *   cuts          K * n * d                                        Joerg, CMR, in every form
@@ -182,7 +202,8 @@ uint8_t tsorvenk_step(uint8_t mode, uint8_t form, uint8_t coding, uint8_t keeps,
  *
  * Returns 0 if swept, else the refusal 1 to 10, 14 or 15. */
 uint8_t tsorvenk_sweep(uint8_t mode, uint8_t form, uint8_t coding, uint8_t keeps, size_t n, size_t d, size_t s,
-    size_t t, size_t r, size_t members, int8_t *spins, size_t spins_len, int64_t *totals, size_t totals_len,
+    uint8_t team, size_t t, size_t r, size_t members, const uint8_t *owners, size_t owners_len,
+    int8_t *spins, size_t spins_len, int64_t *totals, size_t totals_len,
     const uint32_t *fwd, size_t fwd_len, const uint32_t *bwd, size_t bwd_len, const uint8_t *pins, size_t pins_len,
     const int32_t *couplings, size_t couplings_len, const uint32_t *order, size_t order_len,
     const uint8_t *masks, size_t masks_len, const float *temperatures, size_t temperatures_len,
@@ -211,8 +232,8 @@ uint8_t tsorvenk_sweep(uint8_t mode, uint8_t form, uint8_t coding, uint8_t keeps
 uint8_t tsorvenk_pack(size_t n, size_t members, const int8_t *rows, size_t rows_len, uint8_t *columns, size_t columns_len);
 uint8_t tsorvenk_unpack(size_t n, size_t members, const uint8_t *columns, size_t columns_len, int8_t *rows, size_t rows_len);
 
-/* A step on such columns, of every mode and form: what tsorvenk_step does with the unpacked rows, with s = N and the group 0, 1
- * .. N - 1. It answers the same, writes the same and refuses the same, and its columns are those rows packed.
+/* A step on such columns, of every mode and form: what tsorvenk_step does with the unpacked rows, with s = N, one owner and the
+ * group 0, 1 .. N - 1. It answers the same, writes the same and refuses the same, and its columns are those rows packed.
  *
  *   columns      n, as above: read, and written after the move. Idle, held and observe leave them as they are
  *   totals       N, in the members' order                          SW, Wolff, grow where keeps is 1
@@ -235,22 +256,25 @@ uint8_t tsorvenk_packed_step(uint8_t mode, uint8_t form, uint8_t coding, uint8_t
 
 /* The energy of one system: minus the sum over all n * d bonds of the coupling times both spins.
  *
- *   spins s * n, fwd and bwd n * d, couplings n * d                as in a step, all of them taken
- *   system       below s
+ *   team, owners s, spins s * n, fwd and bwd n * d, couplings n * d
+ *                                                                as in a step, all of them taken
+ *   system       below s, and the team's
  *   energy       1: written unless refused
  *
  * Returns 0, or the refusal 1 to 6. */
-uint8_t tsorvenk_energy(size_t n, size_t d, size_t s,
+uint8_t tsorvenk_energy(size_t n, size_t d, size_t s, uint8_t team, const uint8_t *owners, size_t owners_len,
     const int8_t *spins, size_t spins_len, const uint32_t *fwd, size_t fwd_len, const uint32_t *bwd, size_t bwd_len,
     const int32_t *couplings, size_t couplings_len, size_t system, int64_t *energy, size_t energy_len);
 
-/* Whether each total is its system's energy: asked once, before the first call that keeps them.
+/* Whether the total of each of the team's systems is its energy: asked once by each team, before its first call that keeps them. A
+ * team that has no system is told 0.
  *
- *   spins s * n, fwd and bwd n * d, couplings n * d                as in a step, all of them taken
- *   totals       s, one for each system
+ *   team, owners s, spins s * n, fwd and bwd n * d, couplings n * d
+ *                                                                as in a step, all of them taken
+ *   totals       s, one for each system, those of the other team whatever they are
  *
- * Nothing is written. Returns 0, or the refusal 1, 2, 3, 4, 6 or 14. */
-uint8_t tsorvenk_hand_over(size_t n, size_t d, size_t s,
+ * Nothing is written. Returns 0, or the refusal 1, 2, 3, 4, 6 or 14; 3 and 14 are of all the team's systems. */
+uint8_t tsorvenk_hand_over(size_t n, size_t d, size_t s, uint8_t team, const uint8_t *owners, size_t owners_len,
     const int8_t *spins, size_t spins_len, const int64_t *totals, size_t totals_len,
     const uint32_t *fwd, size_t fwd_len, const uint32_t *bwd, size_t bwd_len,
     const int32_t *couplings, size_t couplings_len);
@@ -396,12 +420,15 @@ enum { TSORVENK_EDGES_ROOM = 302451 };
  *
  * A buffer whose pointer is null has length 0, whatever its _len is: where the mode and form do not take it it is ignored,
  * and where they do it is refused with 2, but in a fill, which may have no entry, and as a text to read. Pins that are null
- * pin nothing, whatever pins_len is: a table of 4096 zeros is lent in their place, n long. A struct that is initialised by
- * name, or to 0 and then field by field, needs no change where a field is added. The functions are inline: the struct is no
- * part of what is linked. */
+ * pin nothing, whatever pins_len is: a table of 4096 zeros is lent in their place, n long. Owners that are null are one owner
+ * everywhere, 0, whatever owners_len is: the same table is lent, s long, so that more than 4096 systems are refused with 2. A
+ * struct that is initialised by name, or to 0 and then field by field, needs no change where a field is added. The functions
+ * are inline: the struct is no part of what is linked. */
 struct tsorvenk_step_args {
-    uint8_t mode, form, coding, keeps;
+    uint8_t mode, form, coding, keeps, team;
     size_t n, d, s;
+    const uint8_t *owners;
+    size_t owners_len;
     int8_t *spins;
     size_t spins_len;
     int64_t *totals;
@@ -443,8 +470,10 @@ struct tsorvenk_step_args {
 };
 
 struct tsorvenk_sweep_args {
-    uint8_t mode, form, coding, keeps;
+    uint8_t mode, form, coding, keeps, team;
     size_t n, d, s, t, r, members;
+    const uint8_t *owners;
+    size_t owners_len;
     int8_t *spins;
     size_t spins_len;
     int64_t *totals;
@@ -552,6 +581,9 @@ struct tsorvenk_packed_step_args {
 
 struct tsorvenk_energy_args {
     size_t n, d, s;
+    uint8_t team;
+    const uint8_t *owners;
+    size_t owners_len;
     const int8_t *spins;
     size_t spins_len;
     const uint32_t *fwd;
@@ -567,6 +599,9 @@ struct tsorvenk_energy_args {
 
 struct tsorvenk_hand_over_args {
     size_t n, d, s;
+    uint8_t team;
+    const uint8_t *owners;
+    size_t owners_len;
     const int8_t *spins;
     size_t spins_len;
     const int64_t *totals;
@@ -654,16 +689,18 @@ struct tsorvenk_write_edges_args {
  * local NONE, of the buffer's type, since they ask for one that is not null. */
 #define TSORVENK_LENT(buffer, none) args->buffer ? args->buffer : &none, args->buffer ? args->buffer##_len : 0
 
-/* Pins of nothing, as long as n may be. */
-static inline const uint8_t *tsorvenk_no_pins(void) {
-    static const uint8_t none[4096] = {0};
-    return none;
+/* Pins of nothing, as long as n may be, and one owner everywhere. */
+static inline const uint8_t *tsorvenk_zeros(void) {
+    static const uint8_t zeros[4096] = {0};
+    return zeros;
 }
 
-/* The pins of args likewise, where they are left out so many zeros as there are sites; an n above 4096 is refused with 1, and
- * no more than the table is lent. */
-#define TSORVENK_PINS \
-    args->pins ? args->pins : tsorvenk_no_pins(), args->pins ? args->pins_len : args->n < 4096 ? args->n : 4096
+/* A table of bytes of args likewise, where it is left out so many zeros as there are sites or systems, and no more than these:
+ * an n above 4096 is refused with 1, an s above 4096 with 2. */
+#define TSORVENK_BYTES(bytes, number) \
+    args->bytes ? args->bytes : tsorvenk_zeros(), args->bytes ? args->bytes##_len : args->number < 4096 ? args->number : 4096
+#define TSORVENK_PINS TSORVENK_BYTES(pins, n)
+#define TSORVENK_OWNERS TSORVENK_BYTES(owners, s)
 
 static inline uint8_t tsorvenk_step_with(const struct tsorvenk_step_args *args) {
     int8_t no_i8 = 0;
@@ -672,13 +709,13 @@ static inline uint8_t tsorvenk_step_with(const struct tsorvenk_step_args *args) 
     uint32_t no_u32 = 0;
     int64_t no_i64 = 0;
     float no_f32 = 0;
-    return tsorvenk_step(args->mode, args->form, args->coding, args->keeps, args->n, args->d, args->s,
-        TSORVENK_LENT(spins, no_i8), TSORVENK_LENT(totals, no_i64), TSORVENK_LENT(fwd, no_u32), TSORVENK_LENT(bwd, no_u32),
-        TSORVENK_PINS, TSORVENK_LENT(couplings, no_i32), TSORVENK_LENT(group, no_u32), args->temperature, TSORVENK_LENT(cuts, no_f32),
-        args->reference, args->seed, TSORVENK_LENT(flips, no_u8), TSORVENK_LENT(perms, no_u8), TSORVENK_LENT(greys, no_u8),
-        TSORVENK_LENT(labels, no_u32), TSORVENK_LENT(grey_labels, no_u32), TSORVENK_LENT(counts, no_u32),
-        TSORVENK_LENT(sizes, no_u32), TSORVENK_LENT(member_sites, no_u8), TSORVENK_LENT(found, no_u32),
-        TSORVENK_LENT(grey_found, no_u32));
+    return tsorvenk_step(args->mode, args->form, args->coding, args->keeps, args->n, args->d, args->s, args->team,
+        TSORVENK_OWNERS, TSORVENK_LENT(spins, no_i8), TSORVENK_LENT(totals, no_i64), TSORVENK_LENT(fwd, no_u32),
+        TSORVENK_LENT(bwd, no_u32), TSORVENK_PINS, TSORVENK_LENT(couplings, no_i32), TSORVENK_LENT(group, no_u32),
+        args->temperature, TSORVENK_LENT(cuts, no_f32), args->reference, args->seed, TSORVENK_LENT(flips, no_u8),
+        TSORVENK_LENT(perms, no_u8), TSORVENK_LENT(greys, no_u8), TSORVENK_LENT(labels, no_u32),
+        TSORVENK_LENT(grey_labels, no_u32), TSORVENK_LENT(counts, no_u32), TSORVENK_LENT(sizes, no_u32),
+        TSORVENK_LENT(member_sites, no_u8), TSORVENK_LENT(found, no_u32), TSORVENK_LENT(grey_found, no_u32));
 }
 
 static inline uint8_t tsorvenk_sweep_with(const struct tsorvenk_sweep_args *args) {
@@ -688,8 +725,8 @@ static inline uint8_t tsorvenk_sweep_with(const struct tsorvenk_sweep_args *args
     uint32_t no_u32 = 0;
     int64_t no_i64 = 0;
     float no_f32 = 0;
-    return tsorvenk_sweep(args->mode, args->form, args->coding, args->keeps, args->n, args->d, args->s,
-        args->t, args->r, args->members, TSORVENK_LENT(spins, no_i8),
+    return tsorvenk_sweep(args->mode, args->form, args->coding, args->keeps, args->n, args->d, args->s, args->team,
+        args->t, args->r, args->members, TSORVENK_OWNERS, TSORVENK_LENT(spins, no_i8),
         TSORVENK_LENT(totals, no_i64), TSORVENK_LENT(fwd, no_u32), TSORVENK_LENT(bwd, no_u32),
         TSORVENK_PINS, TSORVENK_LENT(couplings, no_i32), TSORVENK_LENT(order, no_u32), TSORVENK_LENT(masks, no_u8),
         TSORVENK_LENT(temperatures, no_f32), TSORVENK_LENT(cuts, no_f32), TSORVENK_LENT(references, no_u32),
@@ -731,8 +768,9 @@ static inline uint8_t tsorvenk_energy_with(const struct tsorvenk_energy_args *ar
     int32_t no_i32 = 0;
     uint32_t no_u32 = 0;
     int64_t no_i64 = 0;
-    return tsorvenk_energy(args->n, args->d, args->s, TSORVENK_LENT(spins, no_i8), TSORVENK_LENT(fwd, no_u32),
-        TSORVENK_LENT(bwd, no_u32), TSORVENK_LENT(couplings, no_i32), args->system, TSORVENK_LENT(energy, no_i64));
+    return tsorvenk_energy(args->n, args->d, args->s, args->team, TSORVENK_OWNERS, TSORVENK_LENT(spins, no_i8),
+        TSORVENK_LENT(fwd, no_u32), TSORVENK_LENT(bwd, no_u32), TSORVENK_LENT(couplings, no_i32), args->system,
+        TSORVENK_LENT(energy, no_i64));
 }
 
 static inline uint8_t tsorvenk_hand_over_with(const struct tsorvenk_hand_over_args *args) {
@@ -740,8 +778,8 @@ static inline uint8_t tsorvenk_hand_over_with(const struct tsorvenk_hand_over_ar
     int32_t no_i32 = 0;
     uint32_t no_u32 = 0;
     int64_t no_i64 = 0;
-    return tsorvenk_hand_over(args->n, args->d, args->s, TSORVENK_LENT(spins, no_i8), TSORVENK_LENT(totals, no_i64),
-        TSORVENK_LENT(fwd, no_u32), TSORVENK_LENT(bwd, no_u32), TSORVENK_LENT(couplings, no_i32));
+    return tsorvenk_hand_over(args->n, args->d, args->s, args->team, TSORVENK_OWNERS, TSORVENK_LENT(spins, no_i8),
+        TSORVENK_LENT(totals, no_i64), TSORVENK_LENT(fwd, no_u32), TSORVENK_LENT(bwd, no_u32), TSORVENK_LENT(couplings, no_i32));
 }
 
 static inline uint8_t tsorvenk_label_with(const struct tsorvenk_label_args *args) {
@@ -841,7 +879,9 @@ static inline uint8_t tsorvenk_write_edges_with(const struct tsorvenk_write_edge
 }
 
 #undef TSORVENK_LENT
+#undef TSORVENK_BYTES
 #undef TSORVENK_PINS
+#undef TSORVENK_OWNERS
 
 /* Words for each number that comes back, and for 11, which a text of frames may be answered with. */
 static inline const char *tsorvenk_refusal_words(int number) {
@@ -849,9 +889,11 @@ static inline const char *tsorvenk_refusal_words(int number) {
     case 0: return "not refused";
     case 1: return "a size, a group's size, the mode, the form, the coding or what is kept is out of its range";
     case 2: return "a buffer's length is not the exact one";
-    case 3: return "a spin is not +1 or -1, or a packed byte has a bit from N upwards";
+    case 3:
+        return "a spin of a named system is not +1 or -1, a packed byte has a bit from N upwards, or an owner byte or the team is "
+               "above 1";
     case 4: return "a neighbour is n or more, the forward and backward tables are not inverse, or a pin byte is not 0 or 1";
-    case 5: return "a system is s or more or stands twice, or the order is no permutation of the systems";
+    case 5: return "a system is s or more, the other team's or stands twice";
     case 6: return "a coupling's size is above 1,000,000";
     case 7: return "a temperature is not from 1/1024 to 1,048,576";
     case 8: return "a cut is below 0, infinite or not a number";

@@ -1,7 +1,7 @@
 /* Moves and sweeps of every mode and form through the calls with named fields, for `beside-calls`: the same source is built with
  * the header and the archive before a change and with those after it. Fields that only one of them has are not named: pins that
- * are left out pin nothing. Each line is a case, the shortest time of a call in microseconds, and a sum of what it has written, by
- * which the two are held to each other.
+ * are left out pin nothing, and owners that are left out are one. Each line is a case, the shortest time of a call in microseconds,
+ * and a sum of what it has written, by which the two are held to each other.
  *
  *     beside [calls]      so many of each case, 300 if left out */
 #define _POSIX_C_SOURCE 199309L

@@ -49,6 +49,9 @@ pub struct Panel {
     pub n: usize,
     pub d: usize,
     pub s: usize,
+    /// The caller's team, and whose each system is (12/14).
+    pub team: u8,
+    pub owners: Vec<u8>,
     pub fwd: Vec<u32>,
     pub bwd: Vec<u32>,
     pub pins: Vec<u8>,
@@ -56,6 +59,11 @@ pub struct Panel {
 }
 
 impl Panel {
+    /// So many systems, all of one team.
+    pub fn of_one_team(&mut self, s: usize) {
+        (self.s, self.team, self.owners) = (s, 0, vec![0; s]);
+    }
+
     /// Whether some byte of its pins is not 0.
     pub fn pinned(&self) -> bool {
         self.pins.iter().any(|&pin| pin != 0)
@@ -76,6 +84,8 @@ impl Panel {
             n: self.n,
             d: self.d,
             s: self.s,
+            team: self.team,
+            owners: &self.owners,
             spins,
             fwd: &self.fwd,
             bwd: &self.bwd,
@@ -89,6 +99,8 @@ impl Panel {
             n: self.n,
             d: self.d,
             s: self.s,
+            team: self.team,
+            owners: &self.owners,
             spins: &lent.spins,
             totals: &lent.totals,
             fwd: &self.fwd,
@@ -208,6 +220,8 @@ impl Single {
     pub fn step<'a>(&'a self, lent: &'a mut Lent) -> Step<'a> {
         call_of!(Step, self, lent, {
             s: self.panel.s,
+            team: self.panel.team,
+            owners: &self.panel.owners,
             spins: &mut lent.spins,
             group: &self.group,
             temperature: self.temperature,
@@ -247,6 +261,8 @@ impl Swept {
     pub fn sweep<'a>(&'a self, lent: &'a mut Lent) -> Sweep<'a> {
         call_of!(Sweep, self, lent, {
             s: self.panel.s,
+            team: self.panel.team,
+            owners: &self.panel.owners,
             spins: &mut lent.spins,
             t: self.t,
             r: self.r,

@@ -14,11 +14,13 @@ mod labelling;
 mod line;
 mod packed;
 mod pinned;
+mod teams;
 
 pub use houd::{single_of_more, swept_of_more};
 pub use labelling::{damaged_labelling, labelling};
 pub use line::{keep, Found, Line};
 pub use packed::{damaged_layout, damaged_packed};
+pub use teams::{shared_single, shared_swept};
 
 pub fn differ<T: PartialEq + Debug>(text: &mut String, what: &str, one: T, other: T) {
     if one != other {

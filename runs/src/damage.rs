@@ -59,11 +59,31 @@ fn pins(rand: &mut Rand, pins: &mut Vec<u8>) {
     }
 }
 
+/// Another number of systems, half of the time with as many owners, which are tested before it.
+fn systems_in_all(rand: &mut Rand, panel: &mut Panel) {
+    size(rand, &mut panel.s, 64);
+    if rand.once_in(2) && panel.s <= 65 {
+        panel.owners.resize(panel.s, panel.team);
+    }
+}
+
+/// One owner too many or too few, a byte that is no team, or a system that goes to the other; or a team that there is not, or the other one.
+fn owners(rand: &mut Rand, panel: &mut Panel) {
+    match rand.range(0, 4) {
+        0 => longer_or_shorter(rand, &mut panel.owners),
+        1 => set(rand, &mut panel.owners, &[2, 3, 128, 255]),
+        2 => set(rand, &mut panel.owners, &[0, 1]),
+        3 => panel.team = rand.pick(&[2, 3, 255]),
+        _ => panel.team ^= 1,
+    }
+}
+
 fn panel(rand: &mut Rand, panel: &mut Panel, lent: &mut Lent) {
-    match rand.range(0, 14) {
+    match rand.range(0, 16) {
         0 => size(rand, &mut panel.n, 4096),
         1 => size(rand, &mut panel.d, 4),
-        2 => size(rand, &mut panel.s, 64),
+        2 => systems_in_all(rand, panel),
+        15 | 16 => owners(rand, panel),
         3 => longer_or_shorter(rand, &mut panel.fwd),
         4 => longer_or_shorter(rand, &mut panel.bwd),
         5 => longer_or_shorter(rand, &mut panel.couplings),
@@ -76,17 +96,30 @@ fn panel(rand: &mut Rand, panel: &mut Panel, lent: &mut Lent) {
         ),
         10 => panel.coding = rand.pick(&Coding::ALL),
         11 | 12 => pins(rand, &mut panel.pins),
-        _ => set(rand, &mut lent.spins, &[0, 2, -2, 127, -128, 3]),
+        _ => spins(rand, &mut lent.spins, panel.n),
     }
 }
 
+/// A byte that is no spin, in one system, which the call may name or not, or at one site of all.
+fn spins(rand: &mut Rand, spins: &mut [i8], n: usize) {
+    const FAULTY: [i8; 6] = [0, 2, -2, 127, -128, 3];
+    if n == 0 || rand.once_in(2) {
+        set(rand, spins, &FAULTY);
+    } else {
+        let (site, byte) = (rand.range(0, n.min(4096) - 1), rand.pick(&FAULTY));
+        let at_site = spins.iter_mut().skip(site).step_by(n);
+        at_site.for_each(|spin| *spin = byte);
+    }
+}
+
+/// A total that is too large, or just not, of one system or of all.
 fn totals(rand: &mut Rand, totals: &mut [i64]) {
     let most = LARGEST as i64;
-    set(
-        rand,
-        totals,
-        &[most + 1, -most - 1, i64::MIN, i64::MAX, most, -most],
-    );
+    let values = [most + 1, -most - 1, i64::MIN, i64::MAX, most, -most];
+    match rand.once_in(2) {
+        true => set(rand, totals, &values),
+        false => totals.fill(rand.pick(&values)),
+    }
 }
 
 fn outputs(rand: &mut Rand, lent: &mut Lent) {
@@ -219,11 +252,13 @@ pub fn layout(rand: &mut Rand, case: &mut Layout) {
 }
 
 fn sweep_sizes(rand: &mut Rand, case: &mut Swept) {
-    match rand.range(0, 4) {
+    match rand.range(0, 6) {
         0 => size(rand, &mut case.t, 64),
         1 => size(rand, &mut case.r, 64),
         2 => size(rand, &mut case.members, 8),
         3 => (case.t, case.r) = (case.r, case.t),
+        // all systems, of both teams
+        5 => (case.t, case.r) = (1, case.panel.s),
         _ => (case.t, case.r) = ((1 << 63) + 1, 2),
     }
 }
@@ -231,8 +266,9 @@ fn sweep_sizes(rand: &mut Rand, case: &mut Swept) {
 fn sweep_lists(rand: &mut Rand, case: &mut Swept) {
     let n = case.panel.n;
     let site = rand.range(0, n.clamp(1, 4096) - 1) as u32;
-    match rand.range(0, 11) {
+    match rand.range(0, 12) {
         0 => longer_or_shorter(rand, &mut case.order),
+        12 => case.order = (0..case.panel.s.min(65) as u32).collect(),
         1 => longer_or_shorter(rand, &mut case.masks),
         2 => longer_or_shorter(rand, &mut case.temperatures),
         3 => longer_or_shorter(rand, &mut case.references),

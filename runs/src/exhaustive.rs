@@ -97,6 +97,8 @@ fn case(mode: Mode, form: Form, n: usize, members: usize, number: usize) -> (Sin
             n,
             d: 1,
             s: members,
+            team: 0,
+            owners: vec![0; members],
             bwd: backward(n, 1, &fwd),
             pins: vec![0; n],
             fwd,

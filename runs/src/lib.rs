@@ -17,4 +17,5 @@ pub mod port;
 pub mod rand;
 pub mod raw;
 pub mod replay;
+pub mod teams;
 pub mod timing;

@@ -194,6 +194,8 @@ pub fn panel(rand: &mut Rand, mode: Mode, form: Form, size: Size, s: usize) -> P
         n,
         d,
         s,
+        team: 0,
+        owners: vec![0; s],
         couplings: match mode.draws() {
             true => couplings(rand, n * d),
             false => untaken(rand, |word| word as i32),

@@ -1,7 +1,7 @@
 //! Document 01 in plain Rust, written from its text and not from overlap.rs: every sentence once, no speed. Counts and sizes are those of
 //! request 4/14, the form that grows is that of request 5/14, the totals are those of 6/14, the components are numbered as in 7/14,
-//! permutations may be numbers as in 8/14, sites may be pinned as in 9/14, houd moves groups of two alone as in 10/14, and a group may be
-//! one byte for each site as in 11/14.
+//! permutations may be numbers as in 8/14, sites may be pinned as in 9/14, houd moves groups of two alone as in 10/14, a group may be
+//! one byte for each site as in 11/14, and a panel may have systems of two teams as in 12/14.
 use crate::case;
 use calls::{Answer, HandOver, Label, Meter, MeterAnswer, Port, Step, Sweep, SweepAnswer};
 use calls::{Coding, Form, Mode, Pack, PackedStep, Unpack};
@@ -13,6 +13,8 @@ macro_rules! panel_of {
             n: $call.n,
             d: $call.d,
             s: $call.s,
+            team: $call.team,
+            owners: $call.owners,
             spins: &*$call.spins,
             fwd: $call.fwd,
             bwd: $call.bwd,
@@ -52,6 +54,7 @@ mod orders;
 mod packed;
 mod single;
 mod sweeps;
+mod teams;
 mod totals;
 
 use bonds::acts;
@@ -63,15 +66,18 @@ use refusals::sizes_refused;
 pub use refusals::{lengths, Lengths};
 use single::{single_refusal, single_task};
 use sweeps::{sweep_refusal, sweep_task, unmasked};
+pub use teams::owner_refusal;
 pub use totals::LARGEST;
 use totals::{bring, handed_over, meter, metered};
 
-/// What every call lends: the lattice and all spins. Couplings are there where the call takes them.
+/// What every call lends: the lattice and all spins, and whose they are. Couplings are there where the call takes them.
 #[derive(Clone, Copy)]
 struct Panel<'a> {
     n: usize,
     d: usize,
     s: usize,
+    team: u8,
+    owners: &'a [u8],
     spins: &'a [i8],
     fwd: &'a [u32],
     bwd: &'a [u32],
@@ -95,9 +101,10 @@ struct Task<'a> {
     greys: &'a [u8],
 }
 
-/// The energy of every system of a panel that is not refused.
+/// The energy of every system, of whatever team, of a panel whose rows are all spins.
 pub fn energies(panel: &case::Panel, spins: &[i8]) -> Vec<i64> {
-    metered(true, panel_of!(panel.meter(spins, 0)))
+    let all: Vec<usize> = (0..panel.s).collect();
+    metered(true, panel_of!(panel.meter(spins, 0)), &all)
 }
 
 /// The acting sites of one move that is not refused.
@@ -268,12 +275,13 @@ impl Port for Model {
             return Answer::Refused(number);
         }
         let keeping = call.keeps.totals(call.form);
-        let before = metered(keeping, panel_of!(call));
         let task = single_task(&call);
         let done = Done::of(panel_of!(call), &task);
         let group = task.group;
+        let before = metered(keeping, panel_of!(call), &group);
         write_spins(call.spins, &group, done.columns());
-        bring(call.totals, &before, &metered(keeping, panel_of!(call)));
+        let after = metered(keeping, panel_of!(call), &group);
+        bring(call.totals, &group, &before, &after);
         done.write(Areas {
             labels: call.labels,
             grey_labels: call.grey_labels,
@@ -292,7 +300,8 @@ impl Port for Model {
         }
         let each = lengths(call.mode, call.form, call.n, call.d, call.members, 1);
         let keeping = call.keeps.totals(call.form);
-        let before = metered(keeping, panel_of!(call));
+        let named = systems(call.order);
+        let before = metered(keeping, panel_of!(call), &named);
         let (mut idle, mut moved, mut held) = (0, 0, 0);
         for number in unmasked(&call) {
             let task = sweep_task(&call, number);
@@ -314,7 +323,8 @@ impl Port for Model {
                 _ => moved += 1,
             }
         }
-        bring(call.totals, &before, &metered(keeping, panel_of!(call)));
+        let after = metered(keeping, panel_of!(call), &named);
+        bring(call.totals, &named, &before, &after);
         SweepAnswer::Swept { idle, moved, held }
     }
 

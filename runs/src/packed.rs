@@ -98,8 +98,8 @@ fn spin_of(byte: u8, k: usize) -> i8 {
 }
 
 impl Packed {
-    /// The same move on rows, with S = N and the group 0 to N - 1. A byte with a bit too high is a site of zeros, which are no spins; columns of another
-    /// length are rows of another.
+    /// The same move on rows, with S = N, one owner and the group 0 to N - 1. A byte with a bit too high is a site of zeros, which are no spins; columns of
+    /// another length are rows of another, and a group that is too large is one of nine.
     pub fn unpacked(&self) -> Single {
         let members = self.members.min(MOST + 1);
         let spin = |k: usize, byte: u8| match u16::from(byte) >> members {
@@ -108,7 +108,7 @@ impl Packed {
         };
         let row = |k: usize| self.lent.columns.iter().map(move |&byte| spin(k, byte));
         let mut panel = self.panel.clone();
-        panel.s = self.members;
+        panel.of_one_team(members);
         Single {
             panel,
             group: (0..members as u32).collect(),

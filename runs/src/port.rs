@@ -53,7 +53,7 @@ mod linked {
 
     /// The crate's call of the same name: what moves, packed ones and sweeps share, and the fields of its own.
     macro_rules! call_of {
-        ($call:ident, $from:expr, { $($field:ident,)* }) => {
+        ($call:ident, $from:expr, { $($field:ident: $value:expr,)* }) => {
             tsorvenk::$call {
                 mode: mode($from.mode),
                 form: form($from.form),
@@ -77,7 +77,7 @@ mod linked {
                 member_sites: $from.member_sites,
                 found: $from.found,
                 grey_found: $from.grey_found,
-                $($field: $from.$field,)*
+                $($field: $value,)*
             }
         };
     }
@@ -103,27 +103,31 @@ mod linked {
 
         fn step(&mut self, call: Step) -> Answer {
             answer(tsorvenk::step(call_of!(Step, call, {
-                s,
-                spins,
-                group,
-                temperature,
-                reference,
-                seed,
+                s: call.s,
+                team: call.team,
+                owners: Some(call.owners),
+                spins: call.spins,
+                group: call.group,
+                temperature: call.temperature,
+                reference: call.reference,
+                seed: call.seed,
             })))
         }
 
         fn sweep(&mut self, call: Sweep) -> SweepAnswer {
             match tsorvenk::sweep(call_of!(Sweep, call, {
-                s,
-                spins,
-                t,
-                r,
-                members,
-                order,
-                masks,
-                temperatures,
-                references,
-                seeds,
+                s: call.s,
+                team: call.team,
+                owners: Some(call.owners),
+                spins: call.spins,
+                t: call.t,
+                r: call.r,
+                members: call.members,
+                order: call.order,
+                masks: call.masks,
+                temperatures: call.temperatures,
+                references: call.references,
+                seeds: call.seeds,
             })) {
                 Ok(swept) => SweepAnswer::Swept {
                     idle: swept.idle,
@@ -139,6 +143,8 @@ mod linked {
                 n: call.n,
                 d: call.d,
                 s: call.s,
+                team: call.team,
+                owners: Some(call.owners),
                 spins: call.spins,
                 fwd: call.fwd,
                 bwd: call.bwd,
@@ -155,6 +161,8 @@ mod linked {
                 n: call.n,
                 d: call.d,
                 s: call.s,
+                team: call.team,
+                owners: Some(call.owners),
                 spins: call.spins,
                 totals: call.totals,
                 fwd: call.fwd,
@@ -179,11 +187,11 @@ mod linked {
 
         fn packed_step(&mut self, call: PackedStep) -> Answer {
             answer(tsorvenk::packed_step(call_of!(PackedStep, call, {
-                members,
-                columns,
-                temperature,
-                reference,
-                seed,
+                members: call.members,
+                columns: call.columns,
+                temperature: call.temperature,
+                reference: call.reference,
+                seed: call.seed,
             })))
         }
 

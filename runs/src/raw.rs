@@ -68,6 +68,7 @@ mod linked {
     extern "C" {
         fn tsorvenk_step(
             mode: u8, form: u8, coding: u8, keeps: u8, n: usize, d: usize, s: usize,
+            team: u8, owners: *const u8, owners_len: usize,
             spins: *mut i8, spins_len: usize, totals: *mut i64, totals_len: usize,
             fwd: *const u32, fwd_len: usize, bwd: *const u32, bwd_len: usize, pins: *const u8, pins_len: usize,
             couplings: *const i32, couplings_len: usize, group: *const u32, group_len: usize,
@@ -91,7 +92,8 @@ mod linked {
             found: *mut u32, found_len: usize, grey_found: *mut u32, grey_found_len: usize,
         ) -> u8;
         fn tsorvenk_sweep(
-            mode: u8, form: u8, coding: u8, keeps: u8, n: usize, d: usize, s: usize, t: usize, r: usize, members: usize,
+            mode: u8, form: u8, coding: u8, keeps: u8, n: usize, d: usize, s: usize,
+            team: u8, t: usize, r: usize, members: usize, owners: *const u8, owners_len: usize,
             spins: *mut i8, spins_len: usize, totals: *mut i64, totals_len: usize,
             fwd: *const u32, fwd_len: usize, bwd: *const u32, bwd_len: usize, pins: *const u8, pins_len: usize,
             couplings: *const i32, couplings_len: usize, order: *const u32, order_len: usize,
@@ -113,6 +115,7 @@ mod linked {
         unsafe {
             tsorvenk_step(
                 mode, form, coding, keeps, call.n, call.d, call.s,
+                call.team, call.owners.as_ptr(), call.owners.len(),
                 call.spins.as_mut_ptr(), call.spins.len(), call.totals.as_mut_ptr(), call.totals.len(),
                 call.fwd.as_ptr(), call.fwd.len(), call.bwd.as_ptr(), call.bwd.len(), call.pins.as_ptr(), call.pins.len(),
                 call.couplings.as_ptr(), call.couplings.len(), call.group.as_ptr(), call.group.len(),
@@ -148,7 +151,8 @@ mod linked {
     pub fn sweep([mode, form, coding, keeps]: Numbers, call: Sweep, outcomes: &mut [u32]) -> u8 {
         unsafe {
             tsorvenk_sweep(
-                mode, form, coding, keeps, call.n, call.d, call.s, call.t, call.r, call.members,
+                mode, form, coding, keeps, call.n, call.d, call.s,
+                call.team, call.t, call.r, call.members, call.owners.as_ptr(), call.owners.len(),
                 call.spins.as_mut_ptr(), call.spins.len(), call.totals.as_mut_ptr(), call.totals.len(),
                 call.fwd.as_ptr(), call.fwd.len(), call.bwd.as_ptr(), call.bwd.len(), call.pins.as_ptr(), call.pins.len(),
                 call.couplings.as_ptr(), call.couplings.len(), call.order.as_ptr(), call.order.len(),

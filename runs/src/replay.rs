@@ -261,6 +261,8 @@ impl<'a> Reader<'a> {
             n,
             d,
             s,
+            team: 0,
+            owners: vec![0; s],
             fwd: self.numbers(n * d, 2),
             bwd: self.numbers(n * d, 2),
             // the Rust knows no pins

@@ -109,6 +109,8 @@ pub fn panel_of(rand: &mut Rand, mode: Mode, form: Form, n: usize, d: usize, s: 
         n,
         d,
         s,
+        team: 0,
+        owners: vec![0; s],
         bwd: backward(n, d, &fwd),
         pins: vec![0; n],
         fwd,
@@ -191,9 +193,14 @@ pub fn single_on(rand: &mut Rand, panel: Panel, members: usize, spins: Vec<i8>) 
 
 /// A sweep over 8 temperatures of 8 replicas.
 pub fn swept(rand: &mut Rand, mode: Mode, form: Form, d: usize, members: usize) -> Swept {
-    let (t, r) = (8, 8);
+    let panel = panel(rand, mode, form, d, 64);
+    swept_on(rand, panel, members)
+}
+
+/// A sweep over all systems of a panel, 8 replicas at each temperature.
+pub fn swept_on(rand: &mut Rand, panel: Panel, members: usize) -> Swept {
+    let (t, r) = (panel.s / 8, 8);
     let tasks = t * (r / members);
-    let panel = panel(rand, mode, form, d, t * r);
     let spins = spins(rand, t * r, N);
     let mut case = Swept {
         t,

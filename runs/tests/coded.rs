@@ -169,6 +169,7 @@ fn sweep_of_five(mode: Mode, form: Form) -> Swept {
         panel: Panel {
             coding: Coding::Numbers,
             s: 22,
+            owners: vec![0; 22],
             ..base.panel
         },
         t: 2,

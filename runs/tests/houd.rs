@@ -84,7 +84,7 @@ fn fifteen_comes_straight_after_one() {
             |case| case.panel.n = 0,
             |case| case.panel.n = 4097,
             |case| case.panel.d = 5,
-            |case| case.panel.s = 65,
+            |case| case.panel.of_one_team(65),
             |case| case.group = (0..9).collect(),
             |case| case.group = vec![0],
         ];
@@ -138,6 +138,7 @@ fn sweep_of(form: Form, r: usize, members: usize) -> Swept {
     Swept {
         panel: Panel {
             s: 2 * r,
+            owners: vec![0; 2 * r],
             ..one.panel
         },
         t: 2,
@@ -174,7 +175,7 @@ fn a_sweep_is_refused_whole() {
             late.choices.flips.push(0);
             late.lent.found.push(9);
             sweep_refused(&late, 15);
-            late.panel.s = 15;
+            late.panel.of_one_team(15);
             sweep_refused(&late, 1);
         }
         // more than there are replicas, or than a group may have

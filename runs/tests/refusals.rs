@@ -20,9 +20,11 @@ fn refusals_of_single_moves() {
     let mut other = call(Pair, Sw, L1, &["+", "-", "+"]);
     other.group = vec![0, 1];
     other.lent.spins[2] = 0;
+    answers(&other, Answer::Moved); // since 12/14: the move does not name it
+    other.group = vec![0, 2];
     refused(&other, 3);
     let mut few = call(Pair, Sw, L1, &["+", "-"]);
-    few.panel.s = 1;
+    few.panel.of_one_team(1);
     few.lent.spins = vec![1];
     refused(&few, 5);
     let jorg = call(Jorg, Sw, L1, &["+", "-"]);
@@ -68,7 +70,7 @@ fn refusals_of_sweeps() {
     mask_first.temperatures = vec![f32::NAN];
     sweep_refused(&mask_first, 7);
     let mut wrapped = good.clone();
-    wrapped.panel.s = 2;
+    wrapped.panel.of_one_team(2);
     (wrapped.t, wrapped.r) = ((1 << 63) + 1, 2);
     sweep_refused(&wrapped, 1);
     let mut twice = good.clone();

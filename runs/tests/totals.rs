@@ -157,13 +157,15 @@ fn refusals_of_moves_that_keep() {
             refused(&case, 14);
         }
     }
-    // of a system that the call does not name too
+    // of a system that the call does not name it may be anything (12/14)
     let mut other = keeping(
         call(Pair, Sw, R3, &["+++", "-++", "+++"]),
         &[1, 2, 3],
         &[0, 0, MOST + 1],
     );
     other.group = vec![0, 1];
+    assert_eq!(run(&other).1.totals[2], MOST + 1);
+    other.group = vec![0, 2];
     refused(&other, 14);
 }
 
@@ -262,7 +264,7 @@ fn a_hand_over_holds_totals_to_the_meter() {
         (4, |case| case.panel.fwd[1] = 3),
         (3, |case| case.lent.spins[5] = 0),
         (2, |case| case.lent.totals.push(0)),
-        (1, |case| case.panel.s = 65),
+        (1, |case| case.panel.of_one_team(65)),
     ];
     for (number, fault) in faults {
         fault(&mut case);

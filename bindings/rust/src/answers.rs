@@ -29,9 +29,11 @@ pub struct Swept {
 
 /// Why a call is refused. Every buffer that it was lent is as it was.
 ///
-/// The numbers are tested in their order, but for 15 of houd straight after 1, each only on what the mode and form take: the
-/// call is refused with the first that fits. A draw tests 12 before the length of what it fills, 2; an edge list is tested for 13 between 4 and 6, and its
-/// writer last of all for 2, room in `text`; 14 is the last test of a call that keeps totals and of a hand-over.
+/// Of a call with owners their length, 2, and then a byte of them or a team above 1, 3, are tested before all else. Then the
+/// numbers are tested in their order, but for 15 of houd straight after 1, each only on what the mode and form take: the call
+/// is refused with the first that fits. A row that is refused with 3, or a total with 14, is that of a system which the call names.
+/// A draw tests 12 before the length of what it fills, 2; an edge list is tested for 13 between 4 and 6, and its writer last of
+/// all for 2, room in `text`; 14 is the last test of a call that keeps totals and of a hand-over.
 /// [`refusal_words`] has words for each, which `Display` writes behind the number.
 #[derive(Clone, Copy, Debug, PartialEq, Eq, Hash)]
 pub struct Refusal {
@@ -73,9 +75,9 @@ pub fn refusal_words(number: u8) -> &'static str {
         0 => "not refused",
         1 => "a size, a group's size, the mode, the form, the coding or what is kept is out of its range",
         2 => "a buffer's length is not the exact one",
-        3 => "a spin is not +1 or -1, or a packed byte has a bit from N upwards",
+        3 => "a spin of a named system is not +1 or -1, a packed byte has a bit from N upwards, or an owner byte or the team is above 1",
         4 => "a neighbour is n or more, the forward and backward tables are not inverse, or a pin byte is not 0 or 1",
-        5 => "a system is s or more or stands twice, or the order is no permutation of the systems",
+        5 => "a system is s or more, the other team's or stands twice",
         6 => "a coupling's size is above 1,000,000",
         7 => "a temperature is not from 1/1024 to 1,048,576",
         8 => "a cut is below 0, infinite or not a number",

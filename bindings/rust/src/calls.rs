@@ -1,6 +1,8 @@
 //! What a call is lent.
+mod meter;
 mod packed;
 
+pub use meter::{Energy, HandOver, MeterAll};
 pub use packed::{Pack, PackedStep, Unpack};
 
 /// Which sites act, which bonds hold and what a choice does.
@@ -118,10 +120,15 @@ pub struct Step<'a> {
     pub d: usize,
     /// Systems, 1 to 64.
     pub s: usize,
-    /// s * n, system by system: the spin of site i in system k is at k * n + i, +1 or -1. The group's are moved.
+    /// The caller's team, 0 or 1. 0 if left out.
+    pub team: u8,
+    /// s, each 0 or 1: whose the system is. Left out, `None`, every system is of team 0; [`Teams`](crate::Teams) makes one of two.
+    pub owners: Option<&'a [u8]>,
+    /// s * n, system by system: the spin of site i in system k is at k * n + i, +1 or -1. The group's are moved; the rows of all
+    /// other systems may hold anything, and keep it.
     pub spins: &'a mut [i8],
-    /// s, one for each system, each from -16,384,000,000 to 16,384,000,000: that of a system of the group changes by its
-    /// energy after the move less its energy before. Totals kept, in SW, Wolff and grow.
+    /// s, one for each system: that of a system of the group, from -16,384,000,000 to 16,384,000,000, changes by its energy after
+    /// the move less its energy before. Those of all others may be anything. Totals kept, in SW, Wolff and grow.
     pub totals: &'a mut [i64],
     /// n * d: entry i * d + e is the forward neighbour of site i in direction e.
     pub fwd: &'a [u32],
@@ -133,7 +140,7 @@ pub struct Step<'a> {
     pub pins: Option<&'a [u8]>,
     /// n * d, at the bond's entry, each from -1,000,000 to 1,000,000. Jörg, CMR, in every form; totals kept, in every mode.
     pub couplings: &'a [i32],
-    /// N systems, 2 to 8 (CMR: 2, houd: 2 unless it observes); they differ, and their order matters.
+    /// N of the team's systems, 2 to 8 (CMR: 2, houd: 2 unless it observes); they differ, and their order matters.
     pub group: &'a [u32],
     /// 1/1024 to 1,048,576. Jörg, CMR, in every form.
     pub temperature: f32,
@@ -172,7 +179,7 @@ pub struct Step<'a> {
     pub grey_found: &'a mut [u32],
 }
 
-/// A sweep over t temperatures of r replicas, t * r = s, in groups of N = `members` systems.
+/// A sweep over t temperatures of r replicas, which are all systems of the team, in groups of N = `members` systems.
 ///
 /// Temperature j owns the order's entries from j * r on; its groups are runs of N, and what is left over does not move.
 /// Task number j * (r / N) + g is the group g of temperature j, and there are K = t * (r / N) tasks, those of masked
@@ -192,15 +199,19 @@ pub struct Sweep<'a> {
     pub n: usize,
     /// Directions, 1 to 4.
     pub d: usize,
-    /// Systems, 1 to 64.
+    /// Systems, 1 to 64, those of both teams.
     pub s: usize,
-    /// Temperatures.
+    /// As in a step. 0 if left out.
+    pub team: u8,
+    /// Temperatures, at least 1.
     pub t: usize,
-    /// Replicas at each temperature.
+    /// Replicas at each temperature: t * r is the number of the team's systems.
     pub r: usize,
     /// The size N of every group, 2 to 8 and at most r (CMR: 2, houd: 2 unless it observes).
     pub members: usize,
-    /// s * n, as in a step.
+    /// s, as in a step. Left out, `None`, every system is of team 0.
+    pub owners: Option<&'a [u8]>,
+    /// s * n, as in a step; the rows of all systems of the order are spins, those that are left over or masked too.
     pub spins: &'a mut [i8],
     /// s, as in a step. Totals kept, in SW, Wolff and grow.
     pub totals: &'a mut [i64],
@@ -212,7 +223,7 @@ pub struct Sweep<'a> {
     pub pins: Option<&'a [u8]>,
     /// n * d, as in a step. Jörg, CMR, in every form; totals kept, in every mode.
     pub couplings: &'a [i32],
-    /// s: a permutation of the systems.
+    /// t * r: the team's systems, each once.
     pub order: &'a [u32],
     /// t, each 0 or 1: 1 masks its temperature.
     pub masks: &'a [u8],
@@ -244,69 +255,6 @@ pub struct Sweep<'a> {
     pub found: &'a mut [u32],
     /// K. Written. SW and Wolff of CMR.
     pub grey_found: &'a mut [u32],
-}
-
-/// The energy of one system: every field is taken.
-#[derive(Clone, Copy, Debug, Default)]
-pub struct Energy<'a> {
-    /// Sites, 1 to 4096.
-    pub n: usize,
-    /// Directions, 1 to 4.
-    pub d: usize,
-    /// Systems, 1 to 64.
-    pub s: usize,
-    /// s * n, as in a step.
-    pub spins: &'a [i8],
-    /// n * d, as in a step.
-    pub fwd: &'a [u32],
-    /// n * d, as in a step.
-    pub bwd: &'a [u32],
-    /// n * d, as in a step.
-    pub couplings: &'a [i32],
-    /// Below s.
-    pub system: usize,
-}
-
-/// The energy of every system, which totals start from: every field is taken.
-#[derive(Debug, Default)]
-pub struct MeterAll<'a> {
-    /// Sites, 1 to 4096.
-    pub n: usize,
-    /// Directions, 1 to 4.
-    pub d: usize,
-    /// Systems, 1 to 64.
-    pub s: usize,
-    /// s * n, as in a step.
-    pub spins: &'a [i8],
-    /// s. Written: each system's energy.
-    pub totals: &'a mut [i64],
-    /// n * d, as in a step.
-    pub fwd: &'a [u32],
-    /// n * d, as in a step.
-    pub bwd: &'a [u32],
-    /// n * d, as in a step.
-    pub couplings: &'a [i32],
-}
-
-/// Totals that a caller brings, to be held to the energies: every field is taken, and nothing is written.
-#[derive(Clone, Copy, Debug, Default)]
-pub struct HandOver<'a> {
-    /// Sites, 1 to 4096.
-    pub n: usize,
-    /// Directions, 1 to 4.
-    pub d: usize,
-    /// Systems, 1 to 64.
-    pub s: usize,
-    /// s * n, as in a step.
-    pub spins: &'a [i8],
-    /// s, one for each system.
-    pub totals: &'a [i64],
-    /// n * d, as in a step.
-    pub fwd: &'a [u32],
-    /// n * d, as in a step.
-    pub bwd: &'a [u32],
-    /// n * d, as in a step.
-    pub couplings: &'a [i32],
 }
 
 /// The components of the bonds whose byte in `holds` is 1: every field is taken.

@@ -3,6 +3,7 @@
 extern "C" {
     pub fn tsorvenk_step(
         mode: u8, form: u8, coding: u8, keeps: u8, n: usize, d: usize, s: usize,
+        team: u8, owners: *const u8, owners_len: usize,
         spins: *mut i8, spins_len: usize, totals: *mut i64, totals_len: usize,
         fwd: *const u32, fwd_len: usize, bwd: *const u32, bwd_len: usize, pins: *const u8, pins_len: usize,
         couplings: *const i32, couplings_len: usize, group: *const u32, group_len: usize,
@@ -14,7 +15,8 @@ extern "C" {
         found: *mut u32, found_len: usize, grey_found: *mut u32, grey_found_len: usize,
     ) -> u8;
     pub fn tsorvenk_sweep(
-        mode: u8, form: u8, coding: u8, keeps: u8, n: usize, d: usize, s: usize, t: usize, r: usize, members: usize,
+        mode: u8, form: u8, coding: u8, keeps: u8, n: usize, d: usize, s: usize,
+        team: u8, t: usize, r: usize, members: usize, owners: *const u8, owners_len: usize,
         spins: *mut i8, spins_len: usize, totals: *mut i64, totals_len: usize,
         fwd: *const u32, fwd_len: usize, bwd: *const u32, bwd_len: usize, pins: *const u8, pins_len: usize,
         couplings: *const i32, couplings_len: usize, order: *const u32, order_len: usize,
@@ -47,12 +49,12 @@ extern "C" {
         found: *mut u32, found_len: usize, grey_found: *mut u32, grey_found_len: usize,
     ) -> u8;
     pub fn tsorvenk_energy(
-        n: usize, d: usize, s: usize,
+        n: usize, d: usize, s: usize, team: u8, owners: *const u8, owners_len: usize,
         spins: *const i8, spins_len: usize, fwd: *const u32, fwd_len: usize, bwd: *const u32, bwd_len: usize,
         couplings: *const i32, couplings_len: usize, system: usize, energy: *mut i64, energy_len: usize,
     ) -> u8;
     pub fn tsorvenk_hand_over(
-        n: usize, d: usize, s: usize,
+        n: usize, d: usize, s: usize, team: u8, owners: *const u8, owners_len: usize,
         spins: *const i8, spins_len: usize, totals: *const i64, totals_len: usize,
         fwd: *const u32, fwd_len: usize, bwd: *const u32, bwd_len: usize, couplings: *const i32, couplings_len: usize,
     ) -> u8;

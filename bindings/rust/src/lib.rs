@@ -11,7 +11,8 @@
 //! seed of four words, so that a day can be repeated. A move or sweep may keep each system's energy current beside the
 //! spins ([`Keeps::Totals`]). A permutation of five may be lent as one byte, its number ([`Coding::Numbers`]). Sites may be
 //! pinned ([`Step::pins`]): what hangs together with one does not move. A group may be lent as one byte for each site
-//! ([`PackedStep`]) instead of a row for each system.
+//! ([`PackedStep`]) instead of a row for each system. Two teams may have systems of their own on one panel ([`Teams`]): neither's
+//! calls see the other's.
 //!
 //! ```
 //! use tsorvenk::{step, Form, Mode, Refusal, Step, Stepped};
@@ -57,11 +58,14 @@ mod draws;
 #[cfg(linked)]
 mod foreign;
 #[cfg(linked)]
+mod meter;
+#[cfg(linked)]
 mod orders;
 #[cfg(linked)]
 mod packed;
 #[cfg(linked)]
 mod safe;
+mod teams;
 
 pub use answers::{refusal_words, NoRoom, Refusal, Stepped, Swept};
 pub use calls::{
@@ -71,8 +75,11 @@ pub use calls::{
 #[cfg(linked)]
 pub use draws::Source;
 #[cfg(linked)]
+pub use meter::{energy, hand_over, meter_all};
+#[cfg(linked)]
 pub use orders::{number_of, row_of};
 #[cfg(linked)]
 pub use packed::{pack, packed_step, unpack};
 #[cfg(linked)]
-pub use safe::{energy, frames, hand_over, label, meter_all, read_edges, step, sweep, write_edges};
+pub use safe::{frames, label, read_edges, step, sweep, write_edges};
+pub use teams::{OwnSystem, Team, Teams};

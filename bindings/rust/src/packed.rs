@@ -3,7 +3,7 @@
 use crate::answers::{Refusal, Stepped};
 use crate::calls::{Pack, PackedStep, Unpack};
 use crate::foreign::{tsorvenk_pack, tsorvenk_packed_step, tsorvenk_unpack};
-use crate::safe::{pins_or_none, stepped};
+use crate::safe::{bytes_or_zeros, stepped};
 
 fn done(number: u8) -> Result<(), Refusal> {
     match number {
@@ -77,7 +77,7 @@ pub fn unpack(call: Unpack) -> Result<(), Refusal> {
 #[inline]
 #[rustfmt::skip]
 pub fn packed_step(call: PackedStep) -> Result<Stepped, Refusal> {
-    let pins = pins_or_none(call.pins, call.n);
+    let pins = bytes_or_zeros(call.pins, call.n);
     stepped(unsafe {
         tsorvenk_packed_step(
             call.mode as u8, call.form as u8, call.coding as u8, call.keeps as u8, call.n, call.d, call.members,

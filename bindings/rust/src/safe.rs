@@ -1,15 +1,16 @@
 //! Safe calls. Each pointer goes with the length of the slice that it was taken from, slices that are written overlap no
 //! other, and the library is proved to stay inside.
 use crate::answers::{NoRoom, Refusal, Stepped, Swept};
-use crate::calls::{Energy, Frames, HandOver, Label, MeterAll, ReadEdges, Step, Sweep, WriteEdges};
+use crate::calls::{Frames, Label, ReadEdges, Step, Sweep, WriteEdges};
 use crate::foreign::*;
 
-/// What is lent where pins are left out: as many zeros as there are sites. More sites than these are refused with 1, whatever the
-/// length of the pins is.
-static UNPINNED: [u8; 4096] = [0; 4096];
+/// What is lent where a table of bytes is left out: as many zeros as there are sites or systems. More sites than these are refused
+/// with 1, whatever the length of the pins is, and more systems with 2.
+static ZEROS: [u8; 4096] = [0; 4096];
 
-pub(crate) fn pins_or_none(pins: Option<&[u8]>, n: usize) -> &[u8] {
-    pins.unwrap_or(&UNPINNED[..n.min(UNPINNED.len())])
+/// Pins or owners, or zeros where they are left out.
+pub(crate) fn bytes_or_zeros(bytes: Option<&[u8]>, wanted: usize) -> &[u8] {
+    bytes.unwrap_or(&ZEROS[..wanted.min(ZEROS.len())])
 }
 
 /// One move or observation of one group. The example of the [crate] is one; this one grows from its seed and labels nothing.
@@ -42,10 +43,11 @@ pub(crate) fn pins_or_none(pins: Option<&[u8]>, n: usize) -> &[u8] {
 #[inline]
 #[rustfmt::skip]
 pub fn step(call: Step) -> Result<Stepped, Refusal> {
-    let pins = pins_or_none(call.pins, call.n);
+    let (pins, owners) = (bytes_or_zeros(call.pins, call.n), bytes_or_zeros(call.owners, call.s));
     let number = unsafe {
         tsorvenk_step(
             call.mode as u8, call.form as u8, call.coding as u8, call.keeps as u8, call.n, call.d, call.s,
+            call.team, owners.as_ptr(), owners.len(),
             call.spins.as_mut_ptr(), call.spins.len(), call.totals.as_mut_ptr(), call.totals.len(),
             call.fwd.as_ptr(), call.fwd.len(), call.bwd.as_ptr(), call.bwd.len(), pins.as_ptr(), pins.len(),
             call.couplings.as_ptr(), call.couplings.len(), call.group.as_ptr(), call.group.len(),
@@ -109,12 +111,12 @@ pub(crate) fn stepped(number: u8) -> Result<Stepped, Refusal> {
 #[inline]
 #[rustfmt::skip]
 pub fn sweep(call: Sweep) -> Result<Swept, Refusal> {
-    let pins = pins_or_none(call.pins, call.n);
+    let (pins, owners) = (bytes_or_zeros(call.pins, call.n), bytes_or_zeros(call.owners, call.s));
     let mut outcomes = [0u32; 3];
     let number = unsafe {
         tsorvenk_sweep(
             call.mode as u8, call.form as u8, call.coding as u8, call.keeps as u8,
-            call.n, call.d, call.s, call.t, call.r, call.members,
+            call.n, call.d, call.s, call.team, call.t, call.r, call.members, owners.as_ptr(), owners.len(),
             call.spins.as_mut_ptr(), call.spins.len(), call.totals.as_mut_ptr(), call.totals.len(),
             call.fwd.as_ptr(), call.fwd.len(), call.bwd.as_ptr(), call.bwd.len(), pins.as_ptr(), pins.len(),
             call.couplings.as_ptr(), call.couplings.len(), call.order.as_ptr(), call.order.len(),
@@ -132,111 +134,6 @@ pub fn sweep(call: Sweep) -> Result<Swept, Refusal> {
     };
     match number {
         0 => Ok(Swept { idle: outcomes[0], moved: outcomes[1], held: outcomes[2] }),
-        number => Err(Refusal { number }),
-    }
-}
-
-/// The energy of one system: minus the sum over all n * d bonds of the coupling times both spins.
-///
-/// ```
-/// use tsorvenk::{energy, Energy, Refusal};
-///
-/// // a ring of three
-/// let ring = Energy {
-///     n: 3,
-///     d: 1,
-///     s: 1,
-///     spins: &[1, 1, -1],
-///     fwd: &[1, 2, 0],
-///     bwd: &[2, 0, 1],
-///     couplings: &[1, 2, -3],
-///     system: 0,
-/// };
-/// assert_eq!(energy(ring), Ok(-2));
-/// assert_eq!(energy(Energy { system: 1, ..ring }), Err(Refusal { number: 5 }));
-/// ```
-#[inline]
-#[rustfmt::skip]
-pub fn energy(call: Energy) -> Result<i64, Refusal> {
-    let mut energy = [0i64];
-    let number = unsafe {
-        tsorvenk_energy(
-            call.n, call.d, call.s, call.spins.as_ptr(), call.spins.len(),
-            call.fwd.as_ptr(), call.fwd.len(), call.bwd.as_ptr(), call.bwd.len(),
-            call.couplings.as_ptr(), call.couplings.len(), call.system, energy.as_mut_ptr(), energy.len(),
-        )
-    };
-    match number {
-        0 => Ok(energy[0]),
-        number => Err(Refusal { number }),
-    }
-}
-
-/// The energy of every system into `totals`, where a day that keeps them starts.
-///
-/// Refused with 1, 2, 3, 4 or 6, in this order, and then nothing is written.
-///
-/// ```
-/// use tsorvenk::{hand_over, meter_all, step, Form, HandOver, Keeps, MeterAll, Mode, Refusal, Step, Stepped};
-///
-/// // a ring of three, and two systems that differ at its first site
-/// let (fwd, bwd, couplings) = (&[1, 2, 0], &[2, 0, 1], &[1, 2, -3]);
-/// let (mut spins, mut totals) = ([1, 1, 1, -1, 1, 1], [0; 2]);
-/// meter_all(MeterAll { n: 3, d: 1, s: 2, spins: &spins, totals: &mut totals, fwd, bwd, couplings })?;
-/// assert_eq!(totals, [0, -4]);
-/// let mut member_sites = [0; 3];
-/// let stepped = step(Step {
-///     mode: Mode::Pair,
-///     form: Form::Grow,
-///     keeps: Keeps::Totals,
-///     n: 3,
-///     d: 1,
-///     s: 2,
-///     spins: &mut spins,
-///     totals: &mut totals,
-///     fwd,
-///     bwd,
-///     couplings,
-///     group: &[0, 1],
-///     member_sites: &mut member_sites,
-///     ..Default::default()
-/// })?;
-/// assert_eq!((stepped, totals), (Stepped::Moved, [-4, 0]));
-/// let handed = HandOver { n: 3, d: 1, s: 2, spins: &spins, totals: &totals, fwd, bwd, couplings };
-/// assert_eq!(hand_over(handed), Ok(()));
-/// assert_eq!(hand_over(HandOver { totals: &[-4, 1], ..handed }), Err(Refusal { number: 14 }));
-/// # Ok::<(), Refusal>(())
-/// ```
-#[rustfmt::skip]
-pub fn meter_all(call: MeterAll) -> Result<(), Refusal> {
-    let MeterAll { n, d, s, spins, totals, fwd, bwd, couplings } = call;
-    let meter = |system| energy(Energy { n, d, s, spins, fwd, bwd, couplings, system });
-    // the first meter makes every test but that of this length, which comes behind 1
-    let first = meter(0);
-    if totals.len() != s && first != Err(Refusal { number: 1 }) {
-        return Err(Refusal { number: 2 });
-    }
-    first?;
-    for (system, total) in totals.iter_mut().enumerate() {
-        *total = meter(system)?;
-    }
-    Ok(())
-}
-
-/// Whether each total is its system's energy: asked once, before the first call that keeps totals. The example of
-/// [`meter_all`] asks it at the end too.
-#[inline]
-#[rustfmt::skip]
-pub fn hand_over(call: HandOver) -> Result<(), Refusal> {
-    let number = unsafe {
-        tsorvenk_hand_over(
-            call.n, call.d, call.s, call.spins.as_ptr(), call.spins.len(), call.totals.as_ptr(), call.totals.len(),
-            call.fwd.as_ptr(), call.fwd.len(), call.bwd.as_ptr(), call.bwd.len(),
-            call.couplings.as_ptr(), call.couplings.len(),
-        )
-    };
-    match number {
-        0 => Ok(()),
         number => Err(Refusal { number }),
     }
 }

@@ -190,6 +190,7 @@ fn on_rows(given: &Given, mut lent: Lent) -> Answered {
             member_sites: packed.member_sites,
             found: packed.found,
             grey_found: packed.grey_found,
+            ..Default::default()
         })
     };
     lent.columns = columns_of(&spins, given.members);
@@ -370,6 +371,6 @@ fn a_bit_from_the_size_upwards_is_refused() {
     }
     assert_eq!(
         Refusal { number: 3 }.to_string(),
-        "refused with 3: a spin is not +1 or -1, or a packed byte has a bit from N upwards"
+        "refused with 3: a spin of a named system is not +1 or -1, a packed byte has a bit from N upwards, or an owner byte or the team is above 1"
     );
 }

@@ -35,6 +35,7 @@ impl Ring {
             fwd: &self.fwd,
             bwd: &[2, 0, 1],
             couplings: &self.couplings,
+            ..Default::default()
         })
     }
 
@@ -48,6 +49,7 @@ impl Ring {
             fwd: &self.fwd,
             bwd: &[2, 0, 1],
             couplings: &self.couplings,
+            ..Default::default()
         })
     }
 

@@ -41,7 +41,7 @@ entries-few Observe n h = omega arith
 entries-few Grow n h = h
 
 -- the first two rules are kept or broken by both, and the third is kept by neither: what follows is not asked
-second : {R S H P Q A B : Type 0} {r : ℕ} → (R → S) → (S → R) → (R → P → ⊥) → (S → Q → ⊥)
+pub second : {R S H P Q A B : Type 0} {r : ℕ} → (R → S) → (S → R) → (R → P → ⊥) → (S → Q → ⊥)
     → ((R → ⊥) × (1 ≡ r)) ⊎ (R × (((H → ⊥) × (15 ≡ r)) ⊎ (H × (((P → ⊥) × (2 ≡ r)) ⊎ (P × A)))))
     → ((S → ⊥) × (1 ≡ r)) ⊎ (S × (((H → ⊥) × (15 ≡ r)) ⊎ (H × (((Q → ⊥) × (2 ≡ r)) ⊎ (Q × B)))))
 second to back np nq (inl w) = inl ((λ s. w .0 (back s)), w .1)
@@ -92,7 +92,7 @@ few-tasks t r s m five e h =
 
 -- rule 1 does not look at choices
 ranged-with : (w : Sweep) (xs ys : List ℕ) → SweepRanged (withChoices xs w) → SweepRanged (withChoices ys w)
-ranged-with w xs ys k = record { ranged = k .ranged; all = k .all; enough = k .enough }
+ranged-with w xs ys k = record { ranged = k .ranged; few = k .few; some = k .some; all = k .all; enough = k .enough }
 
 module _ (keeping : Bool) (w : Sweep) (xs ys : List ℕ) (b : Buffers) (ts : List ℤ) where
   abbrev SweepUnfit : List ℕ → Type 0
@@ -124,7 +124,7 @@ module _ (keeping : Bool) (w : Sweep) (vs xs : List ℕ) (b : Buffers) (ts : Lis
     few-entries r =
         let l = r .ranged .lattice in
         let e : each ≤ 4096 = omega (arith, entries-few (w .form) (w .lattice .n) (l .n-low), l .n-high) in
-        mul-le-mul (few-tasks (w .t) (w .r) (w .lattice .s) (w .members) five (r .all) (l .s-high)) e
+        mul-le-mul (few-tasks (w .t) (w .r) (w .systems) (w .members) five (r .all) (omega (arith, r .few, l .s-high))) e
 
     pub sweep-too-many : 245760 < length vs * 5 → length xs ≡ 1 → (a : SweepAnswer) (b′ : Buffers) (ts′ : List ℤ)
         → SweepKeepAnswers keeping (withChoices xs w) b ts a b′ ts′ → SweepKeepAnswers keeping (withChoices (rowsOf vs) w) b ts a b′ ts′

@@ -18,6 +18,7 @@ withChoices xs w = record {
   form = w .form;
   lattice = w .lattice;
   pins = w .pins;
+  systems = w .systems;
   t = w .t;
   r = w .r;
   members = w .members;

@@ -1,48 +1,79 @@
 -- After an accepted move of a reversible mode the next is accepted too, if its own choices and buffers are right, and it has an outcome.
 use Prim.Native.Nat.{ℕ, zero, suc, _<_}
-use mathlib.Core.Path.{_≡_, refl, sym, _∙_, ap}
+use mathlib.Core.Path.{_≡_, refl, sym, _∙_, ap, subst}
 use mathlib.Core.Logic.{_↔_, _⊎_, inl, inr}
 use mathlib.Core.Bool.{Bool, true, false, _&&_}
 use mathlib.Core.List.{List}
 use native.Mathlib.Omega.{arith}
 use native.Mathlib.Decide.{ℕ-discrete}
+use lib.ListN.{length}
 use lib.IntN.{ℤ}
 use Rattle.lemmas.specs.Bools.{never, and-left, and-right}
-use Rattle.lemmas.specs.Places.{Placed, place}
-use Rattle.paper.specs.Panel.Input.{graph, Call, Choices, Buffers, spin, size, system}
+use Rattle.paper.specs.Panel.Input.{graph, Call, Choices, Buffers, spin, size}
 use Rattle.paper.specs.Panel.Takes.{oneCluster, labelsBy}
 use Rattle.paper.specs.Site.Acting.{acts, SomeActs, NoneActs}
 use Rattle.paper.specs.Site.Bonds.{holds}
 use Rattle.paper.specs.Component.Labels.{Numbered}
 use Rattle.paper.specs.Component.Sizes.{Counted, Largest}
 use Rattle.paper.specs.Move.Moving.{held, final}
-use Rattle.paper.specs.Refusal.Rules.{Spin, AllSystems, Spins, Exact, Chosen, Seeded}
+use Rattle.paper.specs.Refusal.Rules.{Spin, groupNames, Named, Spins, Exact, Chosen, Seeded}
 use Rattle.paper.specs.Refusal.Kept.{Sound, Fit, Valid, valid-kept}
 use Rattle.paper.specs.Answer.Move.{Seen, SeedHeld}
 use Rattle.laws.specs.Forms.{forms-apart}
-use Rattle.laws.specs.Unique.{Outside}
+use Rattle.laws.specs.Local.{Alike, acts-local, holds-local}
+use Rattle.laws.specs.Unique.{numbered-ext, counts-ext, sizes-ext}
 use Rattle.laws.specs.Holding.{held-labels}
 use Rattle.laws.specs.MovesExist.{write, moves-exist}
-use Rattle.demand3.specs.Statement.{Reversible, Move, Outcome}
+use Rattle.demand3.specs.Statement.{Reversible, Move, SameRows, Outcome}
+use Rattle.demand3.specs.Reversible.{not-cmr}
 use Rattle.demand3.specs.Step.{Step, step, seen-of, valid-move}
 use Rattle.demand3.specs.Turns.{spins-kept, acts-kept, numbered-kept, counts-kept, sizes-kept}
 use Rattle.demand3.specs.ChoicesFit.{Sized, no-greys}
 use Rattle.demand3.specs.Such.{outcome}
 
 module _ {c : Call} {p : Choices} {xs : List ℤ} {l : List ℕ} {ys : List ℤ} (s : Step c p xs l ys) where
-  -- every spin is +1 or -1 after the move
-  spins-after : Spins (c .lattice .n) (AllSystems (c .lattice .s)) xs → Spins (c .lattice .n) (AllSystems (c .lattice .s)) ys
-  spins-after h t i below hi = at (place (size c) (system c) t)
-    where
-      at : Placed (size c) (system c) t ⊎ Outside c t → Spin (spin (c .lattice .n) ys t i)
-      at (inl r) = rw (r .2) (spins-kept s i hi (r .0) (r .1))
-      at (inr r) = rw (s .others i t hi r) (h t i below hi)
+  -- the group's rows of zs and of us are the same, and so is all that is made of them
+  pub alike : {zs us : List ℤ} → SameRows c zs us → Alike c zs us
+  alike same = record {
+    patterns = same;
+    reference = s .reference;
+    inside = s .inside;
+    some = s .some-size;
+    two = λ e. never (sym (not-cmr (c .mode) (size c) (s .reversible)) ∙ e);
+  }
+
+  -- every spin of the group's systems is +1 or -1 after the move
+  spins-after : Spins (c .lattice .n) (Named (c .lattice .s) (groupNames (c .group))) ys
+  spins-after t i h hi = subst (λ (u : ℕ). Spin (spin (c .lattice .n) ys u i)) (h .is) (spins-kept s i hi (h .place) (h .below))
 
   some-before : SomeActs c ys → SomeActs c xs
   some-before q = record { site = q .site; below = q .below; does = sym (acts-kept s (q .site) (q .below)) ∙ q .does }
 
   seeded-after : Seeded c xs → Seeded c ys
   seeded-after h = record { below = h .below; acting = λ t q. acts-kept s (c .seed) (h .below t) ∙ h .acting t (some-before q) }
+
+-- ---- what spins have that have the group's rows of others
+spins-same :
+    (c : Call) (zs us : List ℤ)
+    → SameRows c zs us
+    → Spins (c .lattice .n) (Named (c .lattice .s) (groupNames (c .group))) us
+    → Spins (c .lattice .n) (Named (c .lattice .s) (groupNames (c .group))) zs
+spins-same c zs us same spins t i h hi =
+    subst (λ (u : ℕ). Spin (spin (c .lattice .n) zs u i)) (h .is)
+    (rw (same i hi (h .place) (h .below)) (subst (λ (u : ℕ). Spin (spin (c .lattice .n) us u i)) (sym (h .is)) (spins t i h hi)))
+
+module _ {c : Call} {zs us : List ℤ} where
+  seeded-same : Alike c zs us → Seeded c us → Seeded c zs
+  seeded-same w h = record {
+    below = h .below;
+    acting = λ t q.
+        acts-local c zs us w (c .seed) (h .below t)
+        ∙ h .acting t (record { site = q .site; below = q .below; does = sym (acts-local c zs us w (q .site) (q .below)) ∙ q .does });
+  }
+
+  pub numbered-same : {l found : List ℕ} → Alike c zs us → Numbered (graph c) (holds c us) l found → Numbered (graph c) (holds c zs) l found
+  numbered-same {l} {found} w =
+      numbered-ext (graph c) (holds c us) (holds c zs) l found (λ i e hi he. sym (holds-local c zs us w i e hi he))
 
 -- ---- an accepted move has an outcome, if its labels are known
 some-or-none : (f : ℕ → Bool) (m : ℕ) → ((i : ℕ) × (i < m) × (f i ≡ true)) ⊎ ((i : ℕ) → i < m → f i ≡ false)
@@ -157,25 +188,35 @@ module _
           fit = record { cuts = fit .cuts; chosen = h; seeded = fit .seeded };
         }
 
-    pub next : {q : Choices} {d : Buffers} → d .spins ≡ b′ .spins → Exact c q d → Chosen c q → Outcome c q d
+    -- of the spins that it left the group's rows are enough
+    pub next : {q : Choices} {d : Buffers} → SameRows c (d .spins) (b′ .spins) → Exact c q d → Chosen c q → Outcome c q d
     next {q} {d} same e h =
-        outcome-of v f valid (b′ .labels) (b′ .found) (b′ .counts) (b′ .sizes) (rw same (numbered-kept (step v f m) (seen-of f m .labels)))
-        (rw same (counts-kept (step v f m) f (seen-of f m .counts))) (rw same (sizes-kept (step v f m) f (seen-of f m .sizes)))
+        outcome-of v f valid (b′ .labels) (b′ .found) (b′ .counts) (b′ .sizes) (numbered-same w (numbered-kept s (seen-of f m .labels)))
+        (counts-ext (b′ .labels) marks (counts-kept s f (seen-of f m .counts))) (sizes-ext (b′ .labels) marks (sizes-kept s f (seen-of f m .sizes)))
       where
+        s : Step c p (b .spins) (b′ .labels) (b′ .spins)
+        s = step v f m
+
+        w : Alike c (d .spins) (b′ .spins)
+        w = alike s same
+
+        marks : (i : ℕ) → i < length (b′ .labels) → acts c (b′ .spins) i ≡ acts c (d .spins) i
+        marks i l = sym (acts-local c (d .spins) (b′ .spins) w i (rw (seen-of f m .labels .labels .long) at l))
+
         valid : Valid c q d
         valid = record {
           sound = record {
             ranged = sound .ranged;
             houd = sound .houd;
             exact = e;
-            spins = rw same (spins-after (step v f m) (sound .spins));
+            spins = spins-same c (d .spins) (b′ .spins) same (spins-after s);
             inverse = sound .inverse;
             pins = sound .pins;
             grouped = sound .grouped;
             couplings = sound .couplings;
             warm = sound .warm;
           };
-          fit = record { cuts = fit .cuts; chosen = h; seeded = rw same (seeded-after (step v f m) (fit .seeded)) };
+          fit = record { cuts = fit .cuts; chosen = h; seeded = seeded-same w (seeded-after s (fit .seeded)) };
         }
 
     -- the lengths: of the buffers that were lent, and of what they hold now

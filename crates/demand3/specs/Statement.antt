@@ -1,6 +1,7 @@
 -- Demand 3 of document 00: the pair, perm, gperm and two-replica houd moves act as a group. Each part below cites its clause. The moves are those
--- of demand 2: `Answers` is what the public moves ensure. An accepted move has tested that spins are +1 or -1, systems distinct and neighbour
--- tables inverse. Read from the top; Demand3/Theorem.antt proves `Demand3` for every call of these modes, and `Boundary`.
+-- of demand 2: `Answers` is what the public moves ensure. An accepted move has tested that its systems' spins are +1 or -1, systems distinct and
+-- neighbour tables inverse; other rows it does not look at (12/14). Read from the top; Theorem.antt proves `Demand3` for every call of these modes, and
+-- `Boundary`; NamedRows.antt says the same where other rows change between the moves, and Teams.antt of a team's calls.
 use Prim.Native.Nat.{ℕ, zero, suc, _+_, _*_, _/_, _%_, _<_}
 use mathlib.Core.Path.{_≡_}
 use mathlib.Core.Logic.{_≢_, _↔_}
@@ -25,6 +26,7 @@ use Rattle.paper.specs.Move.Moving.{chosen, reached, Moves}
 use Rattle.paper.specs.Refusal.Rules.{Exact, Chosen, NotIdentity, permRow}
 use Rattle.paper.specs.Answer.Move.{Answers}
 use Rattle.paper.specs.Answer.Same.{SameTaken}
+use Rattle.laws.specs.Local.{Agree}
 use Rattle.paper.specs.Rows.Cases.{houd4, noChoices, before12, after12}
 
 -- ---- which moves: "the pair, perm, gperm and two-replica houd moves", for any number of sites, directions and systems and any group size m
@@ -71,6 +73,10 @@ pub record Keeps (c : Call) (b b′ : Buffers) : Type 0 where
       → i < c .lattice .n
       → ((k : ℕ) → k < size c → t ≢ system c k)
       → spin (c .lattice .n) (b′ .spins) t i ≡ spin (c .lattice .n) (b .spins) t i
+
+-- the group's rows of xs are those of ys: the other systems' rows hold anything
+abbrev pub SameRows : Call → List ℤ → List ℤ → Type 0
+SameRows c xs ys = (i : ℕ) → i < c .lattice .n → Agree (size c) (pattern c xs i) (pattern c ys i)
 
 -- ---- "choosing p and then q on a component": `chosen c p l k` is the place that p makes of the place k on the component with the number l. A flip
 -- makes of each place its partner; with two replicas of opposite spins that is what houd's negation does
@@ -144,8 +150,9 @@ pub record Leaves (c : Call) (r : Choices) (b : Buffers) (ys : List ℤ) : Type 
 -- ---- the demand
 pub record Demand3 (c : Call) : Type 0 where
   pub keeps : {p : Choices} {b b′ : Buffers} → Such c p b b′ → Keeps c b b′
-  -- after a move the next is accepted, with the same gauge site and seed: only its own choices and its buffers' lengths must be right
-  pub next : {p q : Choices} {b b′ d : Buffers} → Such c p b b′ → d .spins ≡ b′ .spins → Exact c q d → Chosen c q → Outcome c q d
+  -- after a move the next is accepted, with the same gauge site and seed: only its own choices and its buffers' lengths must be right, and of the spins
+  -- the group's rows be as they were left
+  pub next : {p q : Choices} {b b′ d : Buffers} → Such c p b b′ → SameRows c (d .spins) (b′ .spins) → Exact c q d → Chosen c q → Outcome c q d
   -- and it writes the same component numbers and how many there are, the same counts and the same sizes
   pub outputs : {p q : Choices} {b b′ d d′ : Buffers} → Two c p q b b′ d d′ → SameOutputs b′ d′
   -- "Two moves .. choosing p and then q on a component, leave the spin bytes of one such move choosing k to p(q(k))": on that component

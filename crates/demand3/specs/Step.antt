@@ -55,7 +55,7 @@ pub reached-acts : (c : Call) (xs : List ℤ) (l : List ℕ) (i : ℕ) → reach
 unfolding reached
 reached-acts c xs l i e = and-left (acts c xs i) _ e
 
-final-after : (c : Call) (p : Choices) (xs : List ℤ) (l g : List ℕ) (i k : ℕ) → isCmr (c .mode) ≡ false → final c p xs l g i k ≡ after c p xs l i k
+pub final-after : (c : Call) (p : Choices) (xs : List ℤ) (l g : List ℕ) (i k : ℕ) → isCmr (c .mode) ≡ false → final c p xs l g i k ≡ after c p xs l i k
 unfolding final
 final-after c p xs l g i k e = rw (e, and-no (moves (c .form)))
 

@@ -127,7 +127,8 @@ demand3 c v f = record {
     undone : {p : Choices} {b b′ : Buffers} → moves (c .form) ≡ true → Move c p b b′ → Leaves c (inverse c p) b′ (b .spins)
     undone {p} {b} {b′} g m =
         let h = valid-move m .fit .chosen in
-        let o = next v f m refl (exact-next v f m (inverse-sized c p (record { choices = valid-move m .sound .exact .choices }))) (inverse-chosen c v h) in
+        let sized = exact-next v f m (inverse-sized c p (record { choices = valid-move m .sound .exact .choices })) in
+        let o = next v f m (λ i hi k hk. refl) sized (inverse-chosen c v h) in
         record {
           outcome = o;
           bytes = two-back f (step v f m) (step v f (own o)) (cancels-all f (step v f m) (inverse-cancels c v h g));

@@ -1,8 +1,9 @@
 -- Demand 3 on the smallest moves that differ in what is not taken, and whose choices differ at an entry that no component has.
-use Prim.Native.Nat.{ℕ, zero, suc, _<_}
+use Prim.Native.Nat.{ℕ, zero, suc, _<_, _≤_}
 use mathlib.Core.Path.{_≡_, refl}
-use mathlib.Core.List.{List, [], _∷_}
+use mathlib.Core.List.{List, [], _∷_, _++_}
 use native.Mathlib.Omega.{arith}
+use lib.ListN.{getD}
 use lib.IntN.{ℤ, pos}
 use lib.Ieee.{nan}
 use Rattle.lemmas.specs.Counts.{countWhere}
@@ -16,13 +17,16 @@ use Rattle.paper.specs.Site.Acting.{pairDiffers, acts}
 use Rattle.paper.specs.Site.Bonds.{whole, holds}
 use Rattle.paper.specs.Component.Sizes.{sizeOf, isFirst, labelOf}
 use Rattle.paper.specs.Move.Moving.{other, hasOne, reached, final}
-use Rattle.paper.specs.Answer.Move.{Answers}
+use Rattle.paper.specs.Refusal.Rule.{Kept}
+use Rattle.paper.specs.Answer.Move.{Answers, Accepted.moved}
 use Rattle.paper.specs.Answer.Same.{SameTaken}
+use Rattle.paper.specs.Answer.Team.{Team, ownerRules, readCall}
 use Rattle.paper.specs.Rows.Cases.{+, -, line, plain, first, buffers}
 use Rattle.laws.specs.Decided.{any}
 use Rattle.laws.specs.ByAnswer.{goes-by, stays-by}
-use Rattle.demand3.specs.Statement.{Move, Such, Two, ComposedAt, Composed, composite, placeOf, inverse, identity}
+use Rattle.demand3.specs.Statement.{Move, Such, SameRows, Two, ComposedAt, Composed, composite, placeOf, inverse, identity}
 use Rattle.demand3.specs.Such.{itself}
+use Rattle.demand3.specs.Teams.{TeamMove, answered, team-such, team-demand3}
 
 -- two sites with two bonds between them
 abbrev twins : List ℤ → Lattice
@@ -137,6 +141,67 @@ held-once = record { call = seam; choices = flips []; same = itself seam _; move
 
 pub held-twice : Two seam (flips []) (flips []) (at start) (at start) (at start) (at start)
 held-twice = record { first = held-once; second = held-once; handed = refl }
+
+-- ---- two moves of the team 0, which has the systems 0 and 1; between them the other team writes its system 2, which held no spins
+abbrev team0 : Team
+team0 = record { owners = 0 ∷ 0 ∷ 1 ∷ []; team = 0 }
+
+abbrev shared : Call
+shared = plain Pair Sw (line 2 3 (1 ∷ 0 ∷ []) (1 ∷ 0 ∷ []) []) (first 2)
+
+abbrev there : List ℤ → List ℤ → Buffers
+there spins third = at (spins ++ third)
+
+goes : Answers (readCall team0 shared) (flips (1 ∷ 0 ∷ [])) (there start (pos 0 ∷ pos 7 ∷ [])) Moved (there turned (pos 0 ∷ pos 7 ∷ []))
+unfolding every any holds acts pairDiffers sizeOf isFirst countWhere other hasOne reached final table
+goes =
+    goes-by (readCall team0 shared) (flips (1 ∷ 0 ∷ [])) (there start (pos 0 ∷ pos 7 ∷ [])) (there turned (pos 0 ∷ pos 7 ∷ []))
+    (0 ∷ 0 ∷ []) [] refl (λ _. (refl, refl)) refl
+
+goes-back : Answers (readCall team0 shared) (flips (1 ∷ 0 ∷ [])) (there turned (- ∷ + ∷ [])) Moved (there start (- ∷ + ∷ []))
+unfolding every any holds acts pairDiffers sizeOf isFirst countWhere other hasOne reached final table
+goes-back =
+    goes-by (readCall team0 shared) (flips (1 ∷ 0 ∷ [])) (there turned (- ∷ + ∷ [])) (there start (- ∷ + ∷ []))
+    (0 ∷ 0 ∷ []) [] refl (λ _. (refl, refl)) refl
+
+owner-bytes : Kept (ownerRules team0 3)
+owner-bytes = (refl, (record { bytes = each; team = omega arith }, tt))
+  where
+    each : (t : ℕ) → t < 3 → getD (team0 .owners) t 0 ≤ 1
+    each zero h = omega arith
+    each (suc zero) h = omega arith
+    each (suc (suc zero)) h = omega arith
+    each (suc (suc (suc t))) h = absurd (omega arith)
+
+pub record TeamTwice : Type 0 where
+  pub first : TeamMove team0 shared (flips (1 ∷ 0 ∷ [])) (there start (pos 0 ∷ pos 7 ∷ [])) (there turned (pos 0 ∷ pos 7 ∷ []))
+  pub second : TeamMove team0 shared (flips (1 ∷ 0 ∷ [])) (there turned (- ∷ + ∷ [])) (there start (- ∷ + ∷ []))
+  pub handed : SameRows shared (turned ++ (- ∷ + ∷ [])) (turned ++ (pos 0 ∷ pos 7 ∷ []))
+  -- so the team's rows are restored, by the law
+  pub restored : SameRows shared (start ++ (- ∷ + ∷ [])) (start ++ (pos 0 ∷ pos 7 ∷ []))
+
+pub team-twice : TeamTwice
+team-twice = record {
+  first = one;
+  second = two;
+  handed = same;
+  restored = team-demand3 team0 shared tt refl .rows .inverse-restores refl (record { first = team-such one; second = team-such two; handed = same });
+}
+  where
+    one : TeamMove team0 shared (flips (1 ∷ 0 ∷ [])) (there start (pos 0 ∷ pos 7 ∷ [])) (there turned (pos 0 ∷ pos 7 ∷ []))
+    one = answered owner-bytes Moved moved goes
+
+    two : TeamMove team0 shared (flips (1 ∷ 0 ∷ [])) (there turned (- ∷ + ∷ [])) (there start (- ∷ + ∷ []))
+    two = answered owner-bytes Moved moved goes-back
+
+    same : SameRows shared (turned ++ (- ∷ + ∷ [])) (turned ++ (pos 0 ∷ pos 7 ∷ []))
+    same zero hi zero hk = refl
+    same zero hi (suc zero) hk = refl
+    same zero hi (suc (suc k)) hk = absurd (omega arith)
+    same (suc zero) hi zero hk = refl
+    same (suc zero) hi (suc zero) hk = refl
+    same (suc zero) hi (suc (suc k)) hk = absurd (omega arith)
+    same (suc (suc i)) hi k hk = absurd (omega arith)
 
 -- demand 3's choices as buffers: row 7's composite, an inverse and the identity, in the Wolff form with three systems; and flips of four sites in SW
 abbrev three : Call

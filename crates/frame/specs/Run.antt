@@ -1,13 +1,15 @@
 -- The whole program on a text: what its functions promise, and why that answers the text.
 use Prim.Native.Nat.{ℕ, zero, suc, _+_, _*_, _≤_, _<_}
-use mathlib.Core.Path.{_≡_, refl, sym, _∙_, subst}
-use mathlib.Core.Logic.{inl, inr}
+use mathlib.Core.Path.{_≡_, refl, sym, _∙_, ap, subst}
+use mathlib.Core.Logic.{_⊎_, inl, inr}
+use mathlib.Core.Bool.{Bool, true, false}
 use mathlib.Core.List.{List, [], _∷_, _++_}
 use native.Mathlib.Omega.{arith}
 use lib.ListN.{length, getD, take, drop, replicate, length-replicate, getD-replicate, length-append, length-drop}
 use lib.Seq.{take-all}
 use lib.IntN.{ℤ}
 use Rattle.lemmas.specs.Cells.{table}
+use Rattle.lemmas.specs.Tells.{Tells}
 use Rattle.paper.specs.declared.Group.{Group}
 use Rattle.paper.specs.declared.Answer.{Answer}
 use Rattle.paper.specs.declared.Answer.the-variants.{Refused, Idle, Held, Moved}
@@ -17,10 +19,11 @@ use Rattle.paper.specs.declared.Keeps.the-variants.{Nothing}
 use Rattle.paper.specs.Panel.Input.{Call, Choices, Buffers}
 use Rattle.paper.specs.Site.Bonds.{whole}
 use Rattle.paper.specs.Refusal.Rule.{Kept}
-use Rattle.paper.specs.Refusal.Rules.{Inverse, rules}
+use Rattle.paper.specs.Refusal.Rules.{AllSystems, Spins, Inverse, rules}
 use Rattle.paper.specs.Answer.Move.{Refuses, Answers, Accepted.idle, Accepted.held, Accepted.moved}
 use Rattle.paper.specs.Answer.Frame.{frameLattice, frameCall, frameChoices, frameBuffers, HasBack, refusal, FrameAnswers}
 use Rattle.paper.specs.Panel.Made.{callOf, choicesOf, buffersOf}
+use Rattle.lattice.specs.Spinning.{AllSpins, all-rows}
 use Rattle.steps.specs.Rule.{taskOf}
 use Rattle.frame_lines.specs.declared.Sizes.{Sizes}
 use Rattle.frame_lines.specs.declared.Found.{Found}
@@ -117,17 +120,27 @@ writable {b = b} Held {spins = spins} {labels} {counts} {sizes} h m =
 writable {b = b} Moved {spins = spins} {labels} {counts} {sizes} h m =
     seen-small _ b (buffersOf spins labels (m .grey) counts sizes (m .members) (m .found) (m .grey-found)) (m .answers .seen .all refl) h
 
--- the move ran, and its answer is written
+-- some system holds what is no spin, be it in the group or not: that is refused
+pub record NoSpinWritten (spins : List ℤ) (out : List ℕ) (w : Written) (out′ : List ℕ) : Type 0 where
+  pub not-all : AllSpins spins → ⊥
+  pub written : WrittenAs (refusal 3) out w out′
+
+-- all are spins; the move ran, and its answer is written
 pub record MoveWritten (n d s : ℕ) (g : Group) (fwd perms : List ℕ) (b : Buffers) (out : List ℕ) (w : Written) (out′ : List ℕ) : Type 0 where
+  pub all : AllSpins (b .spins)
   pub answer : Answer
   pub bwd : List ℕ
   pub after : Buffers
   pub moved : PermMoved n d s g fwd perms b answer bwd (after .spins) (after .labels) (after .counts) (after .sizes)
   pub written : WrittenAs (answerText answer (after .labels) (after .counts) (after .spins)) out w out′
 
--- ---- a text that is spelt well: its move answers it
+abbrev pub PanelWritten : ℕ → ℕ → ℕ → Group → List ℕ → List ℕ → Buffers → List ℕ → Written → List ℕ → Type 0
+PanelWritten n d s g fwd perms b out w out′ = NoSpinWritten (b .spins) out w out′ ⊎ MoveWritten n d s g fwd perms b out w out′
+
+-- ---- a text that is spelt well, of spins alone: its move answers it
 module _ (text bwd : List ℕ) (k : Kept (spellingRules text)) (long : length bwd ≡ frameLattice text [] .n * frameLattice text [] .d)
-    (reversed : Reversed (frameLattice text [] .n) (frameLattice text [] .d) (frameLattice text [] .fwd) bwd) where
+    (reversed : Reversed (frameLattice text [] .n) (frameLattice text [] .d) (frameLattice text [] .fwd) bwd)
+    (spun : Spins (frameLattice text [] .n) (AllSystems (frameLattice text [] .s)) (frameBuffers text .spins)) where
   inverse : HasBack text → Inverse (frameLattice text [] .n) (frameLattice text [] .d) (frameLattice text [] .fwd) bwd
   inverse h = back-complete text bwd reversed h
 
@@ -135,11 +148,11 @@ module _ (text bwd : List ℕ) (k : Kept (spellingRules text)) (long : length bw
       → FrameAnswers text (answerText r (after .labels) (after .counts) (after .spins))
   moves-answer (Refused c) after w = inl (record {
     number = c;
-    why = misvalued text c k (values-broken text bwd (spelling-of text k) long inverse c (w .why));
+    why = misvalued text c k (values-broken text bwd (spelling-of text k) long spun inverse c (w .why));
     written = refl;
   })
   moves-answer Idle after w =
-      let v = values-kept text bwd (spelling-of text k) long (w .valid) in
+      let v = values-kept text bwd (spelling-of text k) long spun (w .valid) in
       inr (record {
         valid = all-kept text k v;
         back = record { bwd = bwd; long = long; inverse = inverse (v .1 .0) };
@@ -150,7 +163,7 @@ module _ (text bwd : List ℕ) (k : Kept (spellingRules text)) (long : length bw
         written = refl;
       })
   moves-answer Held after w =
-      let v = values-kept text bwd (spelling-of text k) long (w .valid) in
+      let v = values-kept text bwd (spelling-of text k) long spun (w .valid) in
       inr (record {
         valid = all-kept text k v;
         back = record { bwd = bwd; long = long; inverse = inverse (v .1 .0) };
@@ -161,7 +174,7 @@ module _ (text bwd : List ℕ) (k : Kept (spellingRules text)) (long : length bw
         written = refl;
       })
   moves-answer Moved after w =
-      let v = values-kept text bwd (spelling-of text k) long (w .valid) in
+      let v = values-kept text bwd (spelling-of text k) long spun (w .valid) in
       inr (record {
         valid = all-kept text k v;
         back = record { bwd = bwd; long = long; inverse = inverse (v .1 .0) };
@@ -221,14 +234,28 @@ module _ {text : List ℕ} {b : Lent} {z : Sizes} {g : Group} {a : Lent} (h : Re
   is-sizes : sizes ≡ table 4 (λ k. 0)
   is-sizes = sym (take-all 4 sizes (omega (arith, k .sizes-long))) ∙ zeros-part 4 sizes (omega (arith, k .sizes-long)) (k .sizes-zero)
 
+  -- the test of the spins one by one is the program's rule 3
+  all-told : (r : Bool) → Tells r (AllSpins (take (z .s * z .n) (a .spins)))
+      → Tells r (Spins (frameLattice text [] .n) (AllSystems (frameLattice text [] .s)) (frameBuffers text .spins))
+  all-told r t = all-rows (frameLattice text [] .n) (frameLattice text [] .s) (frameBuffers text .spins) long r
+      (subst (λ (xs : List ℤ). Tells r (AllSpins xs)) (spins-part h) t)
+    where
+      long : length (frameBuffers text .spins) ≡ frameLattice text [] .s * frameLattice text [] .n
+      long = spins-count h ∙ ap (λ (y : Sizes). y .s * y .n) (h .sizes)
+
   pub panel-answers : {out : List ℕ} {w : Written} {out′ : List ℕ}
-      → MoveWritten (z .n) (z .d) (z .s) g (take (z .n * z .d) (a .fwd)) (take (z .n * g .len) (a .perms))
+      → PanelWritten (z .n) (z .d) (z .s) g (take (z .n * z .d) (a .fwd)) (take (z .n * g .len) (a .perms))
       (buffersRead z (a .spins) labels counts sizes) out w out′
       → RunAs text out w out′
   unfolding table
-  panel-answers v = record {
+  panel-answers (inl v) = record {
+    answer = refusal 3;
+    answers = inl (record { number = 3; why = misvalued text 3 (h .spelt) (inl (all-told false (v .not-all), refl)); written = refl });
+    written = v .written;
+  }
+  panel-answers (inr v) = record {
     answer = answerText (v .answer) (v .after .labels) (v .after .counts) (v .after .spins);
-    answers = moves-answer text (v .bwd) (h .spelt) (moved .long) (moved .reversed) (v .answer)
+    answers = moves-answer text (v .bwd) (h .spelt) (moved .long) (moved .reversed) (all-told true (v .all)) (v .answer)
         (buffersOf (v .after .spins) (v .after .labels) (moved .grey) (v .after .counts) (v .after .sizes) (moved .members)
         (moved .found) (moved .grey-found)) (moved .answers);
     written = v .written;

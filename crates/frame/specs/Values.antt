@@ -1,4 +1,5 @@
--- The library's rules on the move that a text asks for: of a text that is spelt well, they are broken just where the program's other rules are.
+-- The library's rules on the move that a text asks for: of a text that is spelt well, and has a spin at every site of every
+-- system, they are broken just where the program's other rules are.
 use Prim.Native.Nat.{ℕ, _+_, _*_, _<_}
 use mathlib.Core.Path.{_≡_, _∙_}
 use mathlib.Core.Logic.{inl, inr}
@@ -9,7 +10,7 @@ use Rattle.lemmas.specs.Bools.{never}
 use Rattle.lemmas.specs.Cells.{table-at, length-table}
 use Rattle.paper.specs.declared.Mode.the-variants.{Perm}
 use Rattle.paper.specs.Refusal.Rule.{Rule, Kept, Broken}
-use Rattle.paper.specs.Refusal.Rules.{Ranged, Exact, Inverse, Pins, Chosen, rules}
+use Rattle.paper.specs.Refusal.Rules.{AllSystems, Spins, Named, groupNames, Ranged, Exact, Inverse, Pins, Chosen, rules}
 use Rattle.paper.specs.Answer.Frame.{bytes, signed, frameLattice, frameCall, frameChoices, frameBuffers, groupBytes, HasBack}
 use Rattle.frame_lines.specs.Spelling.{line2, line3, Spelling, valueRules}
 use Rattle.frame_lines.specs.Words.{words-length}
@@ -18,7 +19,8 @@ use Rattle.frame_lines.specs.Words.{words-length}
 abbrev pub frameMoveRules : List ℕ → List ℕ → List Rule
 frameMoveRules text bwd = rules (frameCall text bwd) (frameChoices text) (frameBuffers text)
 
-module _ (text bwd : List ℕ) (s : Spelling text) (long : length bwd ≡ frameLattice text [] .n * frameLattice text [] .d) where
+module _ (text bwd : List ℕ) (s : Spelling text) (long : length bwd ≡ frameLattice text [] .n * frameLattice text [] .d)
+    (spun : Spins (frameLattice text [] .n) (AllSystems (frameLattice text [] .s)) (frameBuffers text .spins)) where
   ranged : Ranged (frameLattice text [] .n) (frameLattice text [] .d) (frameLattice text [] .s) Perm (length (groupBytes text))
   ranged = record {
     lattice = record {
@@ -53,6 +55,10 @@ module _ (text bwd : List ℕ) (s : Spelling text) (long : length bwd ≡ frameL
     grey-found = λ e. never e;
   }
 
+  -- the group's rows are among those of all systems
+  group-spun : Spins (frameLattice text [] .n) (Named (frameLattice text [] .s) (groupNames (frameCall text [] .group))) (frameBuffers text .spins)
+  group-spun t i h l = spun t i (h .inside) l
+
   free : Pins (frameCall text bwd .pins)
   free i h =
       let low : i < frameLattice text [] .n = rw (length-table (frameLattice text [] .n) (λ k. 0)) at h in
@@ -83,7 +89,7 @@ module _ (text bwd : List ℕ) (s : Spelling text) (long : length bwd ≡ frameL
 
   -- a move that is accepted keeps the program's rules
   pub values-kept : Kept (frameMoveRules text bwd) → Kept (valueRules text)
-  values-kept k = (k .1 .1 .1 .0, (back-of (k .1 .1 .1 .1 .0), (k .1 .1 .1 .1 .1 .1 .0, (chosen-of (k .1 .1 .1 .1 .1 .1 .1 .1 .1 .1 .0), tt))))
+  values-kept k = (spun, (back-of (k .1 .1 .1 .1 .0), (k .1 .1 .1 .1 .1 .1 .0, (chosen-of (k .1 .1 .1 .1 .1 .1 .1 .1 .1 .1 .0), tt))))
 
   -- one that is refused breaks them with the same number, if the backward table is right wherever there is one
   module _ (complete : HasBack text → Inverse (frameLattice text [] .n) (frameLattice text [] .d) (frameLattice text [] .fwd) bwd) (c : ℕ) where
@@ -122,8 +128,8 @@ module _ (text bwd : List ℕ) (s : Spelling text) (long : length bwd ≡ frameL
     from4 (inr p) = inr (back-of (p .0), from-pins (p .1))
 
     from3 : Broken (drop 3 (frameMoveRules text bwd)) c → Broken (valueRules text) c
-    from3 (inl p) = inl p
-    from3 (inr p) = inr (p .0, from4 (p .1))
+    from3 (inl p) = absurd (p .0 group-spun)
+    from3 (inr p) = inr (spun, from4 (p .1))
 
     from2 : Broken (drop 2 (frameMoveRules text bwd)) c → Broken (valueRules text) c
     from2 (inl p) = absurd (p .0 exact)

@@ -13,7 +13,7 @@ ghost use Rattle.neighbours.specs.Backward.{Turnable};
 ghost use Rattle.paper.specs.Panel.Made.{buffersOf};
 ghost use Rattle.frame_lines.specs.Reading.{Held, Readout};
 ghost use Rattle.frame_lines.specs.Writing.{WrittenAs};
-ghost use Rattle.frame.specs.Run.{PermMoved, Writable, answerText, MoveWritten, PanelGiven, RunAs};
+ghost use Rattle.frame.specs.Run.{PermMoved, Writable, answerText, PanelWritten, PanelGiven, RunAs};
 
 // The move keeps no totals, and takes no couplings, cuts, grey numbers or members: they are empty. No site is pinned. How many components it finds is
 // not written out.
@@ -90,6 +90,7 @@ fn write_answer(r: Answer, labels: &[u32], counts: &[u32], spins: &[i8], out: &m
     }
 }
 
+// A move looks at the spins of its group alone; the program refuses a text for any of them.
 fn move_and_write(
     n: usize,
     d: usize,
@@ -105,10 +106,13 @@ fn move_and_write(
     out: &mut [u8],
 ) -> Written
     requires { ⌜ Turnable n d (now fwd) (now bwd) ⌝ }
-    ensures { λ w. ⌜ MoveWritten n d s group (now (fwd .entry)) (now (perms .entry))
+    ensures { λ w. ⌜ PanelWritten n d s group (now (fwd .entry)) (now (perms .entry))
         (buffersOf (now (spins .entry)) (now (labels .entry)) [] (now (counts .entry)) (now (sizes .entry)) [] (0 ∷ []) [])
         (now (out .entry)) w (now (out .exit)) ⌝ }
 {
+    if !lattice::spins_ok(spins) {
+        return frame_lines::write_refusal(3, out);
+    }
     let r = perm_move(
         n,
         d,

@@ -16,13 +16,14 @@ use Rattle.lemmas.specs.Places.{Placed, Unplaced, place}
 use Rattle.lemmas.specs.Stores.{AfterSet, AfterSet.here, AfterSet.there, after-set, lt-of-ne}
 use Rattle.paper.specs.declared.Group.{Group}
 use Rattle.paper.specs.declared.Task.{Task}
-use Rattle.paper.specs.Panel.Input.{Lattice, member, spin, patternOf}
+use Rattle.paper.specs.Panel.Input.{Lattice, member, patternOf}
 use Rattle.paper.specs.Panel.Made.{callOf, choicesOf}
 use Rattle.paper.specs.Panel.Takes.{keepsBy}
 use Rattle.paper.specs.Site.Energy.{energy}
 use Rattle.paper.specs.Refusal.Rules.{Spin, Distinct}
 use Rattle.paper.specs.Answer.Totals.{total, TotalsReady, TotalsAfter}
-use Rattle.columns.specs.Column.{Inside, shown, shown-column}
+use Rattle.laws.specs.Entries.{spin-of}
+use Rattle.columns.specs.Column.{Inside, Spinning, shown, shown-column}
 use Rattle.totals.specs.Contract.{latticeFor, Bringable, Spun}
 use Rattle.totals.specs.Listed.{SitesIn, columnsBy, Listing, Unturned, BringsListed}
 use Rattle.turn.specs.Turned.{Turned}
@@ -73,7 +74,7 @@ read-more {n} {g} {xs} {list} {m} {news₀} {news} {i} {v} was l is e = record {
     at a al (there q f) (no d) = f ∙ was .each a (lt-of-ne al d)
 
 -- ---- from the members' columns to the totals
-module _ {g : Lattice} {group : Group} {totals ys : List ℤ} (h : Bringable g group totals) (r : Spun g ys) where
+module _ {g : Lattice} {group : Group} {totals ys : List ℤ} (h : Bringable g group totals) (r : Spun g group ys) where
   rows-inside : Inside (g .n) group ys
   rows-inside k l = omega (arith, r .long, suc-mul (member group k) (g .n), mul-le-mul-right (g .n) (h .grouped .below k l))
 
@@ -102,7 +103,7 @@ module _ {g : Lattice} {group : Group} {totals ys : List ℤ} (h : Bringable g g
             let column : getD news′ i 0 ≡ columnsBy (g .n) group ys i = rw (p .2) (read .each (p .0) (p .1)) in
             sym
             (ap (λ (x : ℕ). shown x k) column
-            ∙ shown-column (group .len) (patternOf (g .n) group ys i) k kl (r .spins (member group k) i (h .grouped .below k kl) il))
+            ∙ shown-column (group .len) (patternOf (g .n) group ys i) k kl (r .spins i k il kl))
 
 -- ---- one task
 module _ (t : Task) (fwd bwd pins : List ℕ) (js : List ℤ) (cuts : List Float) (choices greys : List ℕ) (xs : List ℤ) (members : List ℕ)
@@ -145,30 +146,26 @@ module _ (t : Task) (fwd bwd pins : List ℕ) (js : List ℤ) (cuts : List Float
       }
 
       module _ {grey : List ℕ} {ys : List ℤ} (turned : Turned t choices grey l blue len xs ys) where
-        -- every spin is one again
-        pub spun : Spun g ys
+        was : Spinning (t .n) (t .group) xs
+        was i k il kl = spin-of (asks .valid) i il k kl
+
+        -- every spin of the group is one again
+        pub spun : Spun g (t .group) ys
         spun = record {
           long = turned .long ∙ asks .valid .sound .exact .spins;
-          spins = λ s i sl il. at s i sl il (place len (siteAt l) i) (place (t .group .len) (member (t .group)) s);
+          spins = λ i k il kl. at i k il kl (place len (siteAt l) i);
         }
           where
-            was : (s i : ℕ) → s < t .s → i < t .n → Spin (spin (t .n) xs s i)
-            was = asks .valid .sound .spins
-
-            at :
-                (s i : ℕ) → s < t .s → i < t .n → Placed len (siteAt l) i ⊎ Unplaced len (siteAt l) i
-                → Placed (t .group .len) (member (t .group)) s ⊎ Unplaced (t .group .len) (member (t .group)) s → Spin (spin (t .n) ys s i)
-            at s i sl il (inl p) (inl q) = rw (p .2, q .2) (turned .spins (p .0) (q .0) (p .1) (q .1))
-            at s i sl il (inr p) q = rw (turned .others i s il p) (was s i sl il)
-            at s i sl il (inl p) (inr q) = rw (turned .systems i s il q) (was s i sl il)
+            at : (i k : ℕ) → i < t .n → k < t .group .len → Placed len (siteAt l) i ⊎ Unplaced len (siteAt l) i → Spin (patternOf (t .n) (t .group) ys i k)
+            at i k il kl (inl p) = rw (p .2) (turned .spins (p .0) k (p .1) kl)
+            at i k il kl (inr p) = rw (turned .others i (member (t .group) k) il p) (was i k il kl)
 
         unturned : Unturned (t .n) (t .group) m cols xs ys
         unturned = record {
           before = λ i k il on kl.
               sym
               (ap (λ (x : ℕ). shown x k) (kept .at i on)
-              ∙ shown-column (t .group .len) (patternOf (t .n) (t .group) xs i) k kl
-              (asks .valid .sound .spins (member (t .group) k) i (asks .valid .sound .grouped .below k kl) il));
+              ∙ shown-column (t .group .len) (patternOf (t .n) (t .group) xs i) k kl (was i k il kl));
           sites = λ i s il off. turned .others i s il (λ x xl e. off (rw e (grew .cluster .listed .each x xl)));
           systems = turned .systems;
         }

@@ -36,7 +36,7 @@ pub(crate) fn keep_totals(
     olds: &mut [u8],
 )
     requires { ⌜ Bringable (latticeFor t (now fwd) (now bwd) (now couplings)) (t .group) (now totals) ⌝ }
-    requires { ⌜ Spun (latticeFor t (now fwd) (now bwd) (now couplings)) (now spins) ⌝ }
+    requires { ⌜ Spun (latticeFor t (now fwd) (now bwd) (now couplings)) (t .group) (now spins) ⌝ }
     requires { ⌜ Changed (t .n) (now members) (now list) len (length (now olds)) ⌝ }
     ensures { λ _. ⌜ BringsListed
         (latticeFor t (now (fwd .entry)) (now (bwd .entry)) (now (couplings .entry))) (t .group) (now (spins .entry)) (now (members .entry))

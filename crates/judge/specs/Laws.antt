@@ -17,7 +17,7 @@ use Rattle.paper.specs.Panel.Made.{callOf}
 use Rattle.paper.specs.Panel.Takes.{isGperm, isCmr}
 use Rattle.paper.specs.Site.Acting.{acts}
 use Rattle.paper.specs.Site.Bonds.{holdsBy, holds, holdsGrey}
-use Rattle.paper.specs.Refusal.Kept.{Sound}
+use Rattle.paper.specs.Refusal.Kept.{named, Sound}
 use Rattle.columns.specs.Column.{Inside}
 use Rattle.judge.specs.declared.Rule.{Rule}
 use Rattle.judge.specs.Judged.{Growable, Prepared, Ready, judgedBy, judged}
@@ -59,7 +59,7 @@ growable t fwd bwd pins js cuts p b s site = record {
     size-low = omega (arith, s .ranged .size-low);
     size-high = s .ranged .size-high;
     inside = inside;
-    spins = λ i k hi hk. s .spins (member (t .group) k) i (s .grouped .below k hk) hi;
+    spins = λ i k hi hk. s .spins (member (t .group) k) i (named k hk (s .grouped)) hi;
     reference = site;
   };
   directions = s .ranged .lattice .d-high;

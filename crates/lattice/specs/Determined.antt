@@ -10,8 +10,7 @@ use Rattle.lemmas.specs.Tells.{Tells, tells-determined}
 use Rattle.paper.specs.declared.Group.{Group}
 use Rattle.paper.specs.declared.Mode.{Mode}
 use Rattle.paper.specs.declared.Form.{Form}
-use Rattle.paper.specs.Refusal.Rules.{When, Sizes, Ranged, HoudOfTwo, Grouped, SmallCouplings, Warm, Cuts, Permutes, NotIdentity}
-use Rattle.paper.specs.Answer.Totals.{SmallTotals}
+use Rattle.paper.specs.Refusal.Rules.{When, Sizes, Ranged, HoudOfTwo, orderNames, Listed, Grouped, SmallCouplings, Warm, Cuts, Permutes, NotIdentity}
 use Rattle.lattice.specs.Spinning.{AllSpins}
 
 -- any two answers r and r′ that tell of P are equal
@@ -39,9 +38,6 @@ couplings-ok-determined js = tells-determined _
 pub couplings-fit-determined : (taken : Bool) (js : List ℤ) → OneAnswer (When taken (SmallCouplings js))
 couplings-fit-determined taken js = tells-determined _
 
-pub totals-fit-determined : (keeping : Bool) (totals : List ℤ) → OneAnswer (When keeping (SmallTotals totals))
-totals-fit-determined keeping totals = tells-determined _
-
 pub temperature-ok-determined : (t : Float) → OneAnswer (Warm t)
 temperature-ok-determined t = tells-determined _
 
@@ -57,7 +53,7 @@ bytes-at-most-determined xs top = tells-determined _
 pub group-ok-determined : (s : ℕ) (g : Group) → OneAnswer (Grouped s g)
 group-ok-determined s g = tells-determined _
 
-pub order-ok-determined : (s : ℕ) (order : List ℕ) → OneAnswer (Permutes s (λ k. getD order k 0))
+pub order-ok-determined : (s : ℕ) (order : List ℕ) → OneAnswer (Listed s (orderNames order))
 order-ok-determined s order = tells-determined _
 
 pub permutations-ok-determined : (rows m : ℕ) (perms : List ℕ) → OneAnswer ((r : ℕ) → r < rows → Permutes m (λ k. getD perms (r * m + k) 0))

@@ -213,9 +213,9 @@ pub record RowsBelow (rows m : ℕ) (perms : List ℕ) : Type 0 where
 abbrev pub rowAt : ℕ → List ℕ → ℕ → ℕ → ℕ
 rowAt m perms r k = getD perms (r * m + k) 0
 
--- an order of s systems
+-- an order of at most s systems
 pub record OrderOf (s : ℕ) (order : List ℕ) : Type 0 where
-  pub long : length order ≡ s
+  pub long : length order ≤ s
   pub few : s ≤ 64
 
 pub full-marks : (w m : ℕ) → m < w → (1 * 2 ^ m) % 2 ^ w - 1 ≡ 2 ^ m - 1

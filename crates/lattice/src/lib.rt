@@ -17,12 +17,13 @@ ghost use Rattle.paper.specs.Refusal.Rules.{
   Warm,
   isCut,
   Cuts,
+  orderNames,
+  Listed,
   Grouped,
   Permutes,
   NotIdentity,
 };
-ghost use Rattle.paper.specs.Answer.Totals.{SmallTotals};
-ghost use Rattle.lattice.specs.Groups.{Fresh, Alone};
+ghost use Rattle.lattice.specs.Groups.{Fresh, Alone, Free};
 ghost use Rattle.lattice.specs.Marking.{Marked, MarkedBelow, RowIn, Rows, RowsBelow, rowAt, OrderOf};
 ghost use Rattle.lattice.specs.Spinning.{AllSpins};
 use lemmas::wide;
@@ -109,7 +110,7 @@ fn fresh(group: Group, k: usize) -> bool
 
 fn alone(s: usize, group: Group, k: usize) -> bool
     requires { ⌜ k < 8 ⌝ }
-    ensures { λ r. ⌜ Tells r (Alone s group k) ⌝ }
+    ensures { λ r. ⌜ Tells r (Alone s (member group) k) ⌝ }
 {
     let systems = group.systems;
     (systems[k] < s) & fresh(group, k)
@@ -136,35 +137,32 @@ fn marked_below(s: usize, x: usize, marks: u64) -> u64
     if x < s { marks | (1u64 << x) } else { marks }
 }
 
-fn order_marks(s: usize, order: &[u32]) -> u64
-    requires { ⌜ OrderOf s (now order) ⌝ }
-    ensures { λ r. ⌜ Marked s (λ k. getD (now (order .entry)) k 0) s r ⌝ }
-{
-    let mut marks = 0u64;
-    let mut k = 0;
-    while k < s {
-        marks = marked_below(s, wide(order[k]), marks);
-        k += 1;
-    }
-    marks
-}
-
-fn full(s: usize) -> u64
+// One of s, and not marked yet.
+fn free_below(s: usize, x: usize, marks: u64) -> bool
     requires { ⌜ s ≤ 64 ⌝ }
-    ensures { λ r. ⌜ r ≡ 2 ^ s - 1 ⌝ }
+    ensures { λ r. ⌜ Tells r (Free s x marks) ⌝ }
 {
-    if s < 64 {
-        (1u64 << s) - 1
-    } else {
-        0xffff_ffff_ffff_ffff
+    if x < s {
+        return (marks >> x) % 2 == 0;
     }
+    false
 }
 
+// One pass: each system is marked when it is met.
 pub fn order_ok(s: usize, order: &[u32]) -> bool
     requires { ⌜ OrderOf s (now order) ⌝ }
-    ensures { λ r. ⌜ Tells r (Permutes s (λ k. getD (now (order .entry)) k 0)) ⌝ }
+    ensures { λ r. ⌜ Tells r (Listed s (orderNames (now (order .entry)))) ⌝ }
 {
-    order_marks(s, order) == full(s)
+    let mut ok = true;
+    let mut marks = 0u64;
+    let mut k = 0;
+    while k < order.len() {
+        let x = wide(order[k]);
+        ok = ok & free_below(s, x, marks);
+        marks = marked_below(s, x, marks);
+        k += 1;
+    }
+    ok
 }
 
 // ---- test 6
@@ -310,23 +308,4 @@ pub fn not_identity(row: &[u8]) -> bool
         k += 1;
     }
     moved
-}
-
-// ---- test 14
-
-// Totals that are not kept are not looked at.
-pub fn totals_fit(keeping: bool, totals: &[i64]) -> bool
-    ensures { λ r. ⌜ Tells r (When keeping (SmallTotals (now (totals .entry)))) ⌝ }
-{
-    if !keeping {
-        return true;
-    }
-    let mut ok = true;
-    let mut i = 0;
-    while i < totals.len() {
-        let x = totals[i];
-        ok = ok & ((x <= 16384000000) & (-16384000000 <= x));
-        i += 1;
-    }
-    ok
 }

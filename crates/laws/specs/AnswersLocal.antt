@@ -1,6 +1,6 @@
 -- A move's answer on one list of spins is its answer on another with the same rows of its group.
 use Prim.Native.Nat.{ℕ, _<_}
-use mathlib.Core.Path.{_≡_, refl, sym, _∙_, ap}
+use mathlib.Core.Path.{_≡_, refl, sym, _∙_, ap, subst}
 use mathlib.Core.Bool.{Bool, true, false}
 use mathlib.Core.List.{List}
 use native.Mathlib.Omega.{arith}
@@ -9,15 +9,15 @@ use lib.IntN.{ℤ}
 use Rattle.lemmas.specs.Bools.{and-right}
 use Rattle.paper.specs.declared.Answer.{Answer}
 use Rattle.paper.specs.declared.Answer.the-variants.{Idle, Held, Moved}
-use Rattle.paper.specs.Panel.Input.{graph, Call, Choices, Buffers, pattern, size}
+use Rattle.paper.specs.Panel.Input.{graph, Call, Choices, Buffers, pattern, spin, size, system}
 use Rattle.paper.specs.Panel.Takes.{isCmr, isPerm, growsBy, moves}
 use Rattle.paper.specs.Site.Acting.{acts, SomeActs}
 use Rattle.paper.specs.Site.Bonds.{holds, holdsGrey}
 use Rattle.paper.specs.Component.Labels.{Labels}
 use Rattle.paper.specs.Component.Sizes.{labelOf}
 use Rattle.paper.specs.Move.Moving.{reached, Moves}
-use Rattle.paper.specs.Refusal.Rules.{AllSystems, Spins, Exact, Seeded, Permutes}
-use Rattle.paper.specs.Refusal.Kept.{Valid, valid-of, valid-kept}
+use Rattle.paper.specs.Refusal.Rules.{Spin, groupNames, Named, Spins, Exact, Seeded, Permutes}
+use Rattle.paper.specs.Refusal.Kept.{named, Valid, valid-of, valid-kept}
 use Rattle.paper.specs.Answer.Move.{SeenAll, SeenOne, Seen, memberBonds, SeedHeld, Turns, Answers, Accepted, Accepted.idle, Accepted.held, Accepted.moved}
 use Rattle.laws.specs.Forms.{grows-one, grows-moves}
 use Rattle.laws.specs.Unique.{HoldAlike, GroupIs, OthersOf, label-lt, spins-equal, joined-ext, numbered-ext, members-ext, counts-ext, sizes-ext}
@@ -42,10 +42,9 @@ pub record Rows (c : Call) (xs to ys : List ℤ) : Type 0 where
   pub group : (i : ℕ) → i < c .lattice .n → Agree (size c) (pattern c ys i) (pattern c to i)
   pub others : OthersOf c xs ys
 
--- xs are spins with the group's rows of the buffers b
+-- xs has the group's rows of the buffers b
 pub record Instead (c : Call) (b : Buffers) (xs : List ℤ) : Type 0 where
   pub long : length xs ≡ length (b .spins)
-  pub spinning : Spins (c .lattice .n) (AllSystems (c .lattice .s)) xs
   pub same : (i : ℕ) → i < c .lattice .n → Agree (size c) (pattern c xs i) (pattern c (b .spins) i)
 
 module _ {c : Call} {p : Choices} {b : Buffers} {xs : List ℤ} (s : Instead c b xs) (v : Valid c p b) where
@@ -86,6 +85,11 @@ module _ {c : Call} {p : Choices} {b : Buffers} {xs : List ℤ} (s : Instead c b
     grey-found = e .grey-found;
   }
 
+  spins-there : Spins (c .lattice .n) (Named (c .lattice .s) (groupNames (c .group))) xs
+  spins-there t i h hi =
+      subst (λ (u : ℕ). Spin (spin (c .lattice .n) xs u i)) (h .is)
+      (rw (s .same i hi (h .place) (h .below)) (v .sound .spins (system c (h .place)) i (named (h .place) (h .below) (v .sound .grouped)) hi))
+
   seeded-there : Seeded c xs
   seeded-there = let h = v .fit .seeded in record {
     below = h .below;
@@ -98,7 +102,7 @@ module _ {c : Call} {p : Choices} {b : Buffers} {xs : List ℤ} (s : Instead c b
       ranged = v .sound .ranged;
       houd = v .sound .houd;
       exact = exact-there;
-      spins = s .spinning;
+      spins = spins-there;
       inverse = v .sound .inverse;
       pins = v .sound .pins;
       grouped = v .sound .grouped;
@@ -206,11 +210,10 @@ module _ {c : Call} {p : Choices} {b : Buffers} {xs : List ℤ} (s : Instead c b
 -- whatever the other systems' rows are
 module _
     (c : Call) (p : Choices) (b b′ : Buffers) (xs : List ℤ) (long : length xs ≡ length (b .spins))
-    (spinning : Spins (c .lattice .n) (AllSystems (c .lattice .s)) xs)
     (same : (i : ℕ) → i < c .lattice .n → Agree (size c) (pattern c xs i) (pattern c (b .spins) i))
   where
     s : Instead c b xs
-    s = record { long = long; spinning = spinning; same = same }
+    s = record { long = long; same = same }
 
     -- spins that stay stay here too
     stays : {ys : List ℤ} → Valid c p b → b′ .spins ≡ b .spins → Rows c xs (b′ .spins) ys → ys ≡ xs

@@ -14,7 +14,7 @@ use Rattle.paper.specs.declared.Form.the-variants.{Sw, Wolff, Observe, Grow}
 use Rattle.paper.specs.Panel.Takes.{growsBy, moves, takesPerms, entry, entries}
 use Rattle.paper.specs.Refusal.Rule.{Kept}
 use Rattle.paper.specs.Refusal.Rules.{Permutes, rules}
-use Rattle.paper.specs.Refusal.Kept.{Valid, valid-of}
+use Rattle.paper.specs.Refusal.Kept.{named, Valid, valid-of}
 use Rattle.laws.specs.Patterns.{Spinning}
 
 -- the permutation chosen on the component r
@@ -51,7 +51,7 @@ grown-entry Grow n r g = omega arith
 
 module _ {c : Call} {p : Choices} {b : Buffers} (valid : Valid c p b) where
   pub spin-of : (i : ℕ) → i < c .lattice .n → Spinning (size c) (pattern c (b .spins) i)
-  spin-of i h k l = valid .sound .spins (system c k) i (valid .sound .grouped .below k l) h
+  spin-of i h k l = valid .sound .spins (system c k) i (named k l (valid .sound .grouped)) h
 
   pub perms-of : takesPerms c ≡ true → (r : ℕ) → r < c .lattice .n → Permutes (size c) (permOf c p r)
   perms-of e r h = valid .fit .chosen .perms e (entry (c .form) r) (entry-lt (c .form) (c .lattice .n) r (and-left (moves (c .form)) _ e) h)

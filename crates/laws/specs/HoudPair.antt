@@ -25,9 +25,9 @@ use Rattle.paper.specs.Site.Acting.{pairDiffers, acts, SomeActs}
 use Rattle.paper.specs.Site.Bonds.{holds}
 use Rattle.paper.specs.Component.Sizes.{labelOf}
 use Rattle.paper.specs.Move.Moving.{other, partner, flipBy, reachedBy, held, reached, after, final, Moves}
-use Rattle.paper.specs.Refusal.Rules.{Ranged, HoudOfTwo, Exact, Spin, AllSystems, Spins, Inverse, Grouped, Chosen, Seeded, rules}
+use Rattle.paper.specs.Refusal.Rules.{Ranged, HoudOfTwo, Exact, Spin, groupNames, Named, Spins, Inverse, Grouped, Chosen, Seeded, rules}
 use Rattle.paper.specs.Refusal.Rule.{Rule, rule}
-use Rattle.paper.specs.Refusal.Kept.{Valid, valid-of}
+use Rattle.paper.specs.Refusal.Kept.{named, Valid, valid-of}
 use Rattle.paper.specs.Answer.Move.{SeenAll, SeenOne, Seen, SeedHeld, Turns, Answers}
 use Rattle.laws.specs.Forms.{grows-one}
 use Rattle.laws.specs.Unique.{HoldAlike, joined-ext, numbered-ext, members-ext, counts-ext, sizes-ext}
@@ -325,13 +325,13 @@ module _ (c : Call) (two : size c ≡ 2) (p : Choices) where
         acting = λ e q. sym (w .acting (c .seed) (h .below e)) ∙ h .acting e (some-there o m c p b b (twins-back w) q);
       }
 
-    sane : Spins (c .lattice .n) (AllSystems (c .lattice .s)) (b .spins)
+    sane : Spins (c .lattice .n) (Named (c .lattice .s) (groupNames (c .group))) (b .spins)
         → Inverse (c .lattice .n) (c .lattice .d) (c .lattice .fwd) (c .lattice .bwd)
         → Grouped (c .lattice .s) (c .group)
         → Sane (b .spins)
     sane spins inverse grouped = record {
-      first = λ i h. spins (system c 0) i (grouped .below 0 (rw two (omega arith))) h;
-      second = λ i h. spins (system c 1) i (grouped .below 1 (rw two (omega arith))) h;
+      first = λ i h. spins (system c 0) i (named 0 (rw two (omega arith)) grouped) h;
+      second = λ i h. spins (system c 1) i (named 1 (rw two (omega arith)) grouped) h;
       inside = λ i e hi he. inverse .there i e hi he .inside;
     }
 

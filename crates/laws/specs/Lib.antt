@@ -1,4 +1,4 @@
--- Laws of the definitions: forms, patterns, choices and tests, then moves and their answers, sweeps, totals and frames. Each file uses those above it.
+-- Laws of the definitions: forms, patterns, choices and tests, then moves and their answers, sweeps, totals, teams and frames. Each file uses those above it.
 pub mod Forms
 pub mod Choices
 pub mod Patterns
@@ -40,5 +40,18 @@ pub mod KeepDetermined
 pub mod KeepsPlain
 pub mod Observed
 pub mod Day
+pub mod Pigeonhole
+pub mod Owners
+pub mod SameView
+pub mod NamedOnly
+pub mod SweepNamedOnly
+pub mod Isolated
+pub mod TeamDay
+pub mod Turns
+pub mod MixedDay
+pub mod AloneDay
+pub mod BeforeTeams
+pub mod OneOwner
+pub mod SweepOneOwner
 pub mod FrameKept
 pub mod FramesDetermined

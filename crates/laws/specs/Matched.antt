@@ -136,3 +136,30 @@ ahead-of qs rs xs s = record {
     back : (r : ℕ) → Broken rs r ⊎ (Kept rs × Broken xs r) → Broken (qs ++ xs) r
     back r (inl w) = broken-first qs xs r (s .broken r .1 w)
     back r (inr w) = broken-later qs xs r (s .kept .1 (w .0)) (w .1)
+
+-- ---- one after another
+pub verdict-then : {ps qs rs : List Rule} → SameVerdict ps qs → SameVerdict qs rs → SameVerdict ps rs
+verdict-then s t = record {
+  kept = ((λ k. t .kept .0 (s .kept .0 k)), (λ k. s .kept .1 (t .kept .1 k)));
+  broken = λ r. ((λ w. t .broken r .0 (s .broken r .0 w)), (λ w. s .broken r .1 (t .broken r .1 w)));
+}
+
+pub joined-same : (qs rs xs ys : List Rule) → SameVerdict qs rs → SameVerdict xs ys → SameVerdict (qs ++ xs) (rs ++ ys)
+joined-same qs rs xs ys s t = verdict-then (ahead-of qs rs xs s) (behind-all rs xs ys t)
+
+-- a rule in other words, which may be leant on
+pub reworded-if : (k : ℕ) {P Q : Type 0} (qs rs : List Rule) → P ↔ Q → (P → SameVerdict qs rs) → SameVerdict (rule k P ∷ qs) (rule k Q ∷ rs)
+reworded-if k {P} {Q} qs rs e s = verdict-then (behind-if (rule k P) qs rs s) (reworded k rs rs e (unchanged rs))
+
+-- rules that match one by one
+matched-back : (rs qs : List Rule) → Matched rs qs → Matched qs rs
+matched-back [] [] m = tt
+matched-back [] (q ∷ qs) m = absurd m
+matched-back (r ∷ rs) [] m = absurd m
+matched-back (r ∷ rs) (q ∷ qs) m = (sym (m .0), (m .1 .1, m .1 .0), matched-back rs qs (m .2))
+
+pub matched-same : (rs qs : List Rule) → Matched rs qs → SameVerdict rs qs
+matched-same rs qs m = record {
+  kept = (matched-kept rs qs m, matched-kept qs rs (matched-back rs qs m));
+  broken = λ c. (matched-broken rs qs c m, matched-broken qs rs c (matched-back rs qs m));
+}

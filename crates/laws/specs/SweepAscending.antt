@@ -13,7 +13,6 @@ use Rattle.lemmas.specs.Cells.{row-of, tabulate, length-tabulate, tabulate-at, 
 use Rattle.paper.specs.declared.Answer.{Answer}
 use Rattle.paper.specs.Panel.Input.{Call, Buffers, pattern, spin, size, system}
 use Rattle.paper.specs.Refusal.Rule.{Kept}
-use Rattle.paper.specs.Refusal.Rules.{AllSystems, Spins}
 use Rattle.paper.specs.Answer.Move.{Answers, Accepted}
 use Rattle.paper.specs.Answer.Task.{Sweep, groups, tasks, temperatureOf, taskCall, taskChoices, areas}
 use Rattle.paper.specs.Answer.Sweep.{sweepRules, Done}
@@ -21,7 +20,7 @@ use Rattle.laws.specs.Unique.{Outside}
 use Rattle.laws.specs.Local.{Agree}
 use Rattle.laws.specs.AnswersLocal.{Rows, local}
 use Rattle.laws.specs.SweepKept.{sweep-valid-of}
-use Rattle.laws.specs.SweepTasks.{system-is, entry-lt}
+use Rattle.laws.specs.SweepTasks.{system-is, listed}
 
 -- ---- two tasks have no system in common
 at-most : (r a b u v : ℕ) → v < r → a * r + u ≡ b * r + v → a ≤ b
@@ -61,7 +60,7 @@ module _ (w : Sweep) (b : Buffers) (v : Kept (sweepRules w b)) where
     where
       index : temperatureOf w k * w .r + (k % groups w) * w .members + x ≡ temperatureOf w m * w .r + (m % groups w) * w .members + y
       index =
-          sweep-valid-of w b v .order .distinct _ _ (entry-lt w b v k hk x hx) (entry-lt w b v m hm y hy)
+          sweep-valid-of w b v .order .distinct _ _ (listed w b v k hk x hx) (listed w b v m hm y hy)
           (sym (system-is w b v k hk x hx) ∙ (e ∙ system-is w b v m hm y hy))
 
       same-t : k / groups w ≡ m / groups w
@@ -138,7 +137,6 @@ module _ (c : Call) (xs to : List ℤ) (same : length to ≡ length xs) where
 -- task k ran on the spins xs, whose rows of its group were still those before the sweep, and left ys; its rows stayed so until the end, b′
 pub done :
     (w : Sweep) (b b′ : Buffers) (k : ℕ) (a : Answer) (xs ys : List ℤ)
-    → Spins (w .lattice .n) (AllSystems (w .lattice .s)) (b .spins)
     → length (b .spins) ≡ length xs
     → length ys ≡ length xs
     → ((i : ℕ) → i < w .lattice .n → Agree (w .members) (pattern (taskCall w k) (b .spins) i) (pattern (taskCall w k) xs i))
@@ -146,10 +144,10 @@ pub done :
     → Answers (taskCall w k) (taskChoices w k) (areas w b xs k) a (areas w b′ ys k)
     → ((i x : ℕ) → i < w .lattice .n → x < w .members → pattern (taskCall w k) (b′ .spins) i x ≡ pattern (taskCall w k) ys i x)
     → Done w b b′ k a
-done w b b′ k a xs ys spinning long long′ own acc ans stays = record {
+done w b b′ k a xs ys long long′ own acc ans stays = record {
   spins = merged (taskCall w k) (b .spins) ys;
   answers =
-      local (taskCall w k) (taskChoices w k) (areas w b xs k) (areas w b′ ys k) (b .spins) long spinning own a acc ans
+      local (taskCall w k) (taskChoices w k) (areas w b xs k) (areas w b′ ys k) (b .spins) long own a acc ans
       (merged (taskCall w k) (b .spins) ys) rows;
   rows = λ i x hi hx. stays i x hi hx ∙ sym (rows .group i hi x hx);
 }

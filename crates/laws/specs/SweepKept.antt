@@ -11,7 +11,7 @@ use Rattle.lemmas.specs.Bools.{never}
 use Rattle.paper.specs.Panel.Input.{Buffers}
 use Rattle.paper.specs.Panel.Takes.{takesCuts}
 use Rattle.paper.specs.Refusal.Rule.{Rule, Kept}
-use Rattle.paper.specs.Refusal.Rules.{When, HoudOfTwo, AllSystems, Spins, Inverse, Pins, Permutes, SmallCouplings, Warm, choiceRules}
+use Rattle.paper.specs.Refusal.Rules.{When, HoudOfTwo, orderNames, Named, Spins, Inverse, Pins, Listed, SmallCouplings, Warm, choiceRules}
 use Rattle.paper.specs.Refusal.Kept.{Fit, fit-of, fit-kept}
 use Rattle.paper.specs.Refusal.Verdict.{kept-both}
 use Rattle.paper.specs.Answer.Task.{Sweep, tasks, masked, taskCall, taskChoices}
@@ -22,10 +22,10 @@ pub record SweepValid (w : Sweep) (b : Buffers) : Type 0 where
   pub ranged : SweepRanged w
   pub houd : HoudOfTwo (w .mode) (w .form) (w .members)
   pub exact : SweepExact w b
-  pub spins : Spins (w .lattice .n) (AllSystems (w .lattice .s)) (b .spins)
+  pub spins : Spins (w .lattice .n) (Named (w .lattice .s) (orderNames (w .order))) (b .spins)
   pub inverse : Inverse (w .lattice .n) (w .lattice .d) (w .lattice .fwd) (w .lattice .bwd)
   pub pins : Pins (w .pins)
-  pub order : Permutes (w .lattice .s) (λ k. getD (w .order) k 0)
+  pub order : Listed (w .lattice .s) (orderNames (w .order))
   pub couplings : When (takesCuts (common w)) (SmallCouplings (w .lattice .couplings))
   pub warm : When (takesCuts (common w)) ((j : ℕ) → j < w .t → Warm (getD (w .temperatures) j nan))
   pub masks : (j : ℕ) → j < w .t → getD (w .masks) j 0 ≤ 1

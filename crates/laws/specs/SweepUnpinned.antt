@@ -17,7 +17,7 @@ use Rattle.paper.specs.declared.SweepAnswer.the-variants.{Fault, Swept}
 use Rattle.paper.specs.Panel.Input.{Buffers}
 use Rattle.paper.specs.Site.Acting.{acts}
 use Rattle.paper.specs.Refusal.Rule.{Kept, broken-not-kept}
-use Rattle.paper.specs.Refusal.Rules.{More, rules}
+use Rattle.paper.specs.Refusal.Rules.{orderNames, More, rules}
 use Rattle.paper.specs.Answer.Task.{Sweep, tasks, masked, taskCall, taskChoices, areas, isIdle, isMoved, isHeld, tasksThat}
 use Rattle.paper.specs.Answer.Sweep.{SweepExact, taskRules, sweepRules, sweepRulesWith, Done, Sweeps}
 use Rattle.paper.specs.Answer.Totals.{totalsAsk, SweepKeepAnswers}
@@ -90,11 +90,11 @@ module _ (w : Sweep) (none : NoPins (w .lattice .n) (w .pins)) (b b′ : Buffers
       (behind-all (m .lengths) _ _ (behind _ _ _ (behind _ _ _ (past _ _ _ (pins-kept none) (unchanged _))))))))
 
   -- what is kept with totals is kept without them
-  plain-kept : (keeping : Bool) (ts : List ℤ) → Kept (sweepRulesWith (totalsAsk keeping (w .lattice) ts) w b) → Kept (sweepRules w b)
+  plain-kept : (keeping : Bool) (ts : List ℤ) → Kept (sweepRulesWith (totalsAsk keeping (w .lattice) (orderNames (w .order)) ts) w b) → Kept (sweepRules w b)
   plain-kept keeping ts k =
       let q = k .1 .1 .1 .1 in
       let h = q .1 .1 .1 .1 .1 .1 in
-      let each = kept-left (taskRules w b (tasks w)) (totalsAsk keeping (w .lattice) ts .last) (h .1 .1) in
+      let each = kept-left (taskRules w b (tasks w)) (totalsAsk keeping (w .lattice) (orderNames (w .order)) ts .last) (h .1 .1) in
       (k .0, (k .1 .0, (k .1 .1 .0, (q .0, (q .1 .0, (q .1 .1 .0, (q .1 .1 .1 .0, (q .1 .1 .1 .1 .0, (h .0, (h .1 .0, each))))))))))
 
   -- ---- each task
@@ -179,7 +179,7 @@ module _ (w : Sweep) (none : NoPins (w .lattice .n) (w .pins)) (b b′ : Buffers
     was i m h f = let s = f .answers in record {
       none-held = ap (λ (vs : List ℕ). getD vs 2 0) (s .counts) ∙ held-counts (s .answered) (each s);
       sweeps = record {
-        valid = sweep-rules-was (totalsAsk keeping (w .lattice) ts) .kept .0 (f .valid);
+        valid = sweep-rules-was (totalsAsk keeping (w .lattice) (orderNames (w .order)) ts) .kept .0 (f .valid);
         counts = cc (
           ap (λ (vs : List ℕ). getD vs 0 0) (s .counts) ∙ idle-counts (s .answered) (each s),
           ap (λ (vs : List ℕ). getD vs 1 0) (s .counts) ∙ moved-counts (s .answered) (each s),
@@ -218,8 +218,8 @@ module _ (w : Sweep) (none : NoPins (w .lattice .n) (w .pins)) (b b′ : Buffers
       totals = s .totals;
     }
       where
-        valid : Kept (sweepRulesWith (totalsAsk keeping (w .lattice) ts) w b)
-        valid = sweep-rules-was (totalsAsk keeping (w .lattice) ts) .kept .1 (f .sweeps .valid)
+        valid : Kept (sweepRulesWith (totalsAsk keeping (w .lattice) (orderNames (w .order)) ts) w b)
+        valid = sweep-rules-was (totalsAsk keeping (w .lattice) (orderNames (w .order)) ts) .kept .1 (f .sweeps .valid)
 
         task-kept : (k : ℕ) → k < tasks w → masked w k ≡ false → TaskKept k
         task-kept = task-valid w b (plain-kept keeping ts valid)
@@ -237,7 +237,7 @@ module _ (w : Sweep) (none : NoPins (w .lattice .n) (w .pins)) (b b′ : Buffers
     sweep-unpinned i m h = (was i m h, is i m h)
 
     pub sweep-unpinned-refused : (r : ℕ) → SweepKeepAnswers keeping w b ts (Fault r) b′ ts′ ↔ SweepRefusesWas keeping w b ts r b′ ts′
-    sweep-unpinned-refused r = let rs = sweep-rules-was (totalsAsk keeping (w .lattice) ts) in (
+    sweep-unpinned-refused r = let rs = sweep-rules-was (totalsAsk keeping (w .lattice) (orderNames (w .order)) ts) in (
       (λ f. record { why = rs .broken r .0 (f .why); kept = f .kept; totals-kept = f .totals-kept }),
       (λ f. record { why = rs .broken r .1 (f .why); kept = f .kept; totals-kept = f .totals-kept }),
     )

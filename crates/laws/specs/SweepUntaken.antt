@@ -36,6 +36,7 @@ over w v = record {
     couplings = v .lattice .couplings;
   };
   pins = w .pins;
+  systems = w .systems;
   t = w .t;
   r = w .r;
   members = w .members;
@@ -62,6 +63,7 @@ is-over {w} {v} h = λ i. record {
     couplings = v .lattice .couplings;
   };
   pins = h .pins i;
+  systems = h .systems i;
   t = h .t i;
   r = h .r i;
   members = h .members i;
@@ -82,8 +84,8 @@ module _ {w v : Sweep} (same : SameSwept w v) where
   -- ---- the rules
   ranged-same : SweepRanged w ↔ SweepRanged (over w v)
   ranged-same = (
-    (λ h. record { ranged = h .ranged; all = h .all; enough = h .enough }),
-    (λ h. record { ranged = h .ranged; all = h .all; enough = h .enough }),
+    (λ h. record { ranged = h .ranged; few = h .few; some = h .some; all = h .all; enough = h .enough }),
+    (λ h. record { ranged = h .ranged; few = h .few; some = h .some; all = h .all; enough = h .enough }),
   )
 
   module _ (b : Buffers) where
@@ -211,6 +213,7 @@ module _ {w v : Sweep} (same : SameSwept w v) where
     form = refl;
     panel = record { n = refl; d = refl; s = refl; fwd = refl; bwd = refl; couplings = λ t. sym (same .panel .couplings t) };
     pins = refl;
+    systems = refl;
     t = refl;
     r = refl;
     members = refl;

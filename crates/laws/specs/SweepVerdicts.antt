@@ -10,19 +10,21 @@ use Rattle.lemmas.specs.Bools.{and-left, and-right}
 use Rattle.paper.specs.Panel.Input.{Buffers}
 use Rattle.paper.specs.Panel.Takes.{growsBy, labelsBy, takesCuts, takesChoices, takesGreys, takesGreyLabels, takesReference, takesSeed, entries, choiceBytes}
 use Rattle.paper.specs.Refusal.Rule.{Rule, Kept, Broken}
-use Rattle.paper.specs.Refusal.Rules.{choiceRules}
+use Rattle.paper.specs.Refusal.Rules.{orderNames, choiceRules}
 use Rattle.paper.specs.Refusal.Verdict.{Verdict}
 use Rattle.paper.specs.Answer.Task.{Sweep, tasks, masked, taskCall, taskChoices}
 use Rattle.paper.specs.Answer.Sweep.{common, SweepRanged, SweepExact, taskRules, sweepRules}
 use Rattle.laws.specs.Decided.{Decided, le, eq, iff, both, when, all, DecidedAll, refusal, numbered, verdict-by, joined}
-use Rattle.laws.specs.Verdicts.{houdOfTwo, ranged, spins, inverse, pins, permutes, smallCouplings, warm, choices}
+use Rattle.laws.specs.Verdicts.{houdOfTwo, ranged, spins, inverse, pins, listed, smallCouplings, warm, choices}
 
 abbrev pub sweepRanged : (w : Sweep) → Decided (SweepRanged w)
 sweepRanged w =
-    iff (λ (a, (b, c)). record { ranged = a; all = b; enough = c }) (λ r. (r .ranged, (r .all, r .enough)))
+    iff (λ (a, (f, (o, (b, c)))). record { ranged = a; few = f; some = o; all = b; enough = c }) (λ r. (r .ranged, (r .few, (r .some, (r .all, r .enough)))))
     (both (ranged (w .lattice .n) (w .lattice .d) (w .lattice .s) (w .mode) (w .members))
-    (both (eq (w .t * w .r) (w .lattice .s))
-    (le (w .members) (w .r))))
+    (both (le (w .systems) (w .lattice .s))
+    (both (le 1 (w .t))
+    (both (eq (w .t * w .r) (w .systems))
+    (le (w .members) (w .r))))))
 
 abbrev pub sweepExact : (w : Sweep) (b : Buffers) → Decided (SweepExact w b)
 sweepExact w b =
@@ -93,7 +95,7 @@ sweepExact w b =
     (both (eq (length (w .lattice .fwd)) (w .lattice .n * w .lattice .d))
     (both (eq (length (w .lattice .bwd)) (w .lattice .n * w .lattice .d))
     (both (eq (length (w .pins)) (w .lattice .n))
-    (both (eq (length (w .order)) (w .lattice .s))
+    (both (eq (length (w .order)) (w .systems))
     (both (eq (length (w .masks)) (w .t))
     (both (when (takesCuts (common w)) (eq (length (w .lattice .couplings)) (w .lattice .n * w .lattice .d)))
     (both (when (takesCuts (common w)) (eq (length (w .temperatures)) (w .t)))
@@ -129,13 +131,13 @@ sweepDecided w b = (
     (
       sweepExact w b,
       (
-        spins (w .lattice .n) (w .lattice .s) (b .spins),
+        spins (w .lattice .n) (w .lattice .s) (orderNames (w .order)) (b .spins),
         (
           inverse (w .lattice .n) (w .lattice .d) (w .lattice .fwd) (w .lattice .bwd),
           (
             pins (w .pins),
             (
-              permutes (w .lattice .s) (λ k. getD (w .order) k 0),
+              listed (w .lattice .s) (orderNames (w .order)),
               (
                 when (takesCuts (common w)) (smallCouplings (w .lattice .couplings)),
                 (

@@ -16,7 +16,7 @@ use Rattle.paper.specs.declared.Answer.the-variants.{Refused, Idle, Held, Moved
 use Rattle.paper.specs.Panel.Input.{Call, Choices, Buffers, pinned}
 use Rattle.paper.specs.Component.Sizes.{labelOf}
 use Rattle.paper.specs.Move.Moving.{reachedBy, hasOne, reached, final, Moves}
-use Rattle.paper.specs.Refusal.Rules.{Exact, Pins, More, noMore, rulesWith}
+use Rattle.paper.specs.Refusal.Rules.{groupNames, Exact, Pins, More, noMore, rulesWith}
 use Rattle.paper.specs.Answer.Move.{SeedHeld, Turns, Answers}
 use Rattle.paper.specs.Answer.Totals.{totalsAsk, KeepAnswers}
 use Rattle.laws.specs.Matched.{SameVerdict, unchanged, behind, behind-all, reworded, past}
@@ -149,16 +149,16 @@ module _ (c : Call) (none : NoPins (c .lattice .n) (c .pins)) where
       )
 
       pub unpinned-kept : (keeping : Bool) (ts ts′ : List ℤ) (a : Answer) → KeepAnswers keeping c p b ts a b′ ts′ ↔ KeepAnswersWas keeping c p b ts a b′ ts′
-      unpinned-kept keeping ts ts′ (Refused r) = let rs = rules-was (totalsAsk keeping (c .lattice) ts) in (
+      unpinned-kept keeping ts ts′ (Refused r) = let rs = rules-was (totalsAsk keeping (c .lattice) (groupNames (c .group)) ts) in (
         (λ w. record { why = rs .broken r .0 (w .why); kept = w .kept; totals-kept = w .totals-kept }),
         (λ w. record { why = rs .broken r .1 (w .why); kept = w .kept; totals-kept = w .totals-kept }),
       )
-      unpinned-kept keeping ts ts′ Idle = let rs = rules-was (totalsAsk keeping (c .lattice) ts) in (
+      unpinned-kept keeping ts ts′ Idle = let rs = rules-was (totalsAsk keeping (c .lattice) (groupNames (c .group)) ts) in (
         (λ w. record { valid = rs .kept .0 (w .valid); answers = unpinned Idle .0 (w .answers); totals = w .totals }),
         (λ w. record { valid = rs .kept .1 (w .valid); answers = unpinned Idle .1 (w .answers); totals = w .totals }),
       )
       unpinned-kept keeping ts ts′ Held = ((λ w. seed-free (b .spins) (w .answers .held)), (λ w. absurd w))
-      unpinned-kept keeping ts ts′ Moved = let rs = rules-was (totalsAsk keeping (c .lattice) ts) in (
+      unpinned-kept keeping ts ts′ Moved = let rs = rules-was (totalsAsk keeping (c .lattice) (groupNames (c .group)) ts) in (
         (λ w. record { valid = rs .kept .0 (w .valid); answers = unpinned Moved .0 (w .answers); totals = w .totals }),
         (λ w. record { valid = rs .kept .1 (w .valid); answers = unpinned Moved .1 (w .answers); totals = w .totals }),
       )

@@ -10,7 +10,8 @@ use Rattle.lemmas.specs.Bools.{and-left}
 use Rattle.paper.specs.Panel.Input.{Call, Choices, Buffers, size}
 use Rattle.paper.specs.Panel.Takes.{oneCluster, entries, choiceBytes, takesCuts, takesFlips, takesPerms, takesChoices, takesGreys, takesReference, takesSeed}
 use Rattle.paper.specs.Site.Acting.{acts, SomeActs}
-use Rattle.paper.specs.Refusal.Rules.{Exact, Grouped, Permutes, SmallCouplings, Warm, Cuts, NotIdentity, Chosen, Seeded, choiceRules, rules}
+use Rattle.paper.specs.Refusal.Rules.{Exact, groupNames, Named, Spins, Grouped, Permutes, SmallCouplings, Warm, Cuts, NotIdentity, Chosen}
+use Rattle.paper.specs.Refusal.Rules.{Seeded, choiceRules, rules}
 use Rattle.paper.specs.Answer.Same.{SameTaken, SameLent}
 use Rattle.laws.specs.Choices.{flips-taken, perms-taken}
 use Rattle.laws.specs.Matched.{Matched, taken-same, itself}
@@ -28,6 +29,19 @@ module _ {c a : Call} {p o : Choices} (same : SameTaken c p a o) where
       distinct = λ x y hx hy e. h .distinct x y hx hy (same .call .systems x hx ∙ (e ∙ sym (same .call .systems y hy)));
     }),
   )
+
+  -- the same systems are named
+  named-same : (t : ℕ) → Named (c .lattice .s) (groupNames (c .group)) t ↔ Named (c .lattice .s) (groupNames (over c a .group)) t
+  named-same t = (
+    (λ h. record { place = h .place; below = h .below; is = same .call .systems (h .place) (h .below) ∙ h .is; inside = h .inside }),
+    (λ h. record { place = h .place; below = h .below; is = sym (same .call .systems (h .place) (h .below)) ∙ h .is; inside = h .inside }),
+  )
+
+  spins-same :
+      (xs : List ℤ)
+      → Spins (c .lattice .n) (Named (c .lattice .s) (groupNames (c .group))) xs
+      ↔ Spins (c .lattice .n) (Named (c .lattice .s) (groupNames (over c a .group))) xs
+  spins-same xs = ((λ h t i l. h t i (named-same t .1 l)), (λ h t i l. h t i (named-same t .0 l)))
 
   -- ---- the choices: what is asked of each kind
   abbrev AllPermute : List ℕ → Type 0
@@ -148,7 +162,8 @@ module _ {c a : Call} {p o : Choices} (same : SameTaken c p a o) where
 
     pub rules-same : Matched (rules c p b) (rules (over c a) o (onto b d))
     rules-same =
-        let couplings = taken-same (takesCuts c) SmallCouplings (same .call .panel .couplings) in
+        let js = taken-same (takesCuts c) SmallCouplings (same .call .panel .couplings) in
         let warm = taken-same (takesCuts c) Warm (same .call .temperature) in
-        let choices = choice-rules-same (b .spins) in
-        (refl, itself, (refl, itself, (refl, exact-same, (refl, itself, (refl, itself, (refl, itself, (refl, grouped-same, (refl, couplings, (refl, warm, choices)))))))))
+        let own = choice-rules-same (b .spins) in
+        let spins = spins-same (b .spins) in
+        (refl, itself, (refl, itself, (refl, exact-same, (refl, spins, (refl, itself, (refl, itself, (refl, grouped-same, (refl, js, (refl, warm, own)))))))))

@@ -1,6 +1,6 @@
 -- Each test of the table of refusals is decided, so every move, sweep and metering has a verdict, and it is computed.
 use Prim.Native.Nat.{ℕ, suc, _+_, _*_, _<_}
-use mathlib.Core.Path.{_≡_, refl, subst}
+use mathlib.Core.Path.{_≡_, refl, sym, subst}
 use mathlib.Core.Bool.{_&&_}
 use mathlib.Core.List.{List}
 use lib.ListN.{length, getD}
@@ -15,7 +15,8 @@ use Rattle.paper.specs.Panel.Takes.{isHoud, isCmr, moves, oneCluster, growsBy, 
 use Rattle.paper.specs.Panel.Takes.{takesFlips, takesPerms, takesGreys, takesReference, takesSeed}
 use Rattle.paper.specs.Site.Acting.{acts, SomeActs}
 use Rattle.paper.specs.Refusal.Rule.{Kept, Broken}
-use Rattle.paper.specs.Refusal.Rules.{Sizes, Ranged, HoudOfTwo, Fits, lengthsOf, AllSystems, Spins, Back, Inverse, Pins, Distinct, Grouped, SmallCouplings, Warm, isCut}
+use Rattle.paper.specs.Refusal.Rules.{Sizes, Ranged, HoudOfTwo, Fits, lengthsOf, Spin, Names, groupNames, oneName, Named, Spins}
+use Rattle.paper.specs.Refusal.Rules.{Back, Inverse, Pins, Distinct, Listed, SmallCouplings, Warm, isCut}
 use Rattle.paper.specs.Refusal.Rules.{Cuts, Permutes, NotIdentity, permRow, Chosen, Seeded, choiceRules, rules}
 use Rattle.paper.specs.Refusal.Verdict.{Verdict}
 use Rattle.paper.specs.Answer.Meter.{meterRules}
@@ -93,10 +94,14 @@ fits mode form n d s m l =
     (when (greyLabelsBy mode form) (eq (l .«grey_found») 1))))))))))))))))
 
 -- ---- 3 to 7
-abbrev pub spins : (n s : ℕ) (xs : List ℤ) → Decided (Spins n (AllSystems s) xs)
-spins n s xs =
-    iff (λ h t i ht hi. h t ht i hi) (λ h t ht i hi. h t i ht hi)
-    (all s (λ t. all n (λ i. either (same (spin n xs t i) (pos 1)) (same (spin n xs t i) (negsuc 0)))))
+abbrev pub spins : (n s : ℕ) (names : Names) (xs : List ℤ) → Decided (Spins n (Named s names) xs)
+spins n s names xs =
+    iff
+    (λ h t i ht hi. subst (λ (u : ℕ). Spin (spin n xs u i)) (ht .is) (h (ht .place) (ht .below) (subst (λ (u : ℕ). u < s) (sym (ht .is)) (ht .inside)) i hi))
+    (λ h k hk hs i hi. h (names .at k) i (record { place = k; below = hk; is = refl; inside = hs }) hi)
+    (all (names .count)
+    (λ k. implies (lt (names .at k) s)
+    (all n (λ i. either (same (spin n xs (names .at k) i) (pos 1)) (same (spin n xs (names .at k) i) (negsuc 0))))))
 
 abbrev pub goesBack : (n d : ℕ) (a b : List ℕ) → Decided ((i e : ℕ) → i < n → e < d → Back n d a b i e)
 goesBack n d a b =
@@ -116,10 +121,10 @@ distinct m f =
     iff (λ h a b ha hb. h a ha b hb) (λ h a ha b hb. h a b ha hb)
     (all m (λ a. all m (λ b. implies (eq (f a) (f b)) (eq a b))))
 
-abbrev pub grouped : (s : ℕ) (g : Group) → Decided (Grouped s g)
-grouped s g =
+abbrev pub listed : (s : ℕ) (names : Names) → Decided (Listed s names)
+listed s names =
     iff (λ (b, d). record { below = b; distinct = d }) (λ r. (r .below, r .distinct))
-    (both (all (g .len) (λ k. lt (member g k) s)) (distinct (g .len) (member g)))
+    (both (all (names .count) (λ k. lt (names .at k) s)) (distinct (names .count) (names .at)))
 
 abbrev pub smallCouplings : (js : List ℤ) → Decided (SmallCouplings js)
 smallCouplings js = all (length js) (λ k. le (natAbs (getD js k (pos 0))) 1000000)
@@ -176,13 +181,13 @@ decided c p b = (
     (
       fits (c .mode) (c .form) (c .lattice .n) (c .lattice .d) (c .lattice .s) (size c) (lengthsOf c p b),
       (
-        spins (c .lattice .n) (c .lattice .s) (b .spins),
+        spins (c .lattice .n) (c .lattice .s) (groupNames (c .group)) (b .spins),
         (
           inverse (c .lattice .n) (c .lattice .d) (c .lattice .fwd) (c .lattice .bwd),
           (
             pins (c .pins),
             (
-              grouped (c .lattice .s) (c .group),
+              listed (c .lattice .s) (groupNames (c .group)),
               (
                 when (takesCuts c) (smallCouplings (c .lattice .couplings)),
                 (when (takesCuts c) (warm (c .temperature)), choices c p (b .spins)),
@@ -217,7 +222,7 @@ meterDecided t xs k = (
         (both (eq (length (t .fwd)) (t .n * t .d))
         (both (eq (length (t .bwd)) (t .n * t .d))
         (eq (length (t .couplings)) (t .n * t .d))))),
-    (spins (t .n) (t .s) xs, (inverse (t .n) (t .d) (t .fwd) (t .bwd), (lt k (t .s), (smallCouplings (t .couplings), tt)))),
+    (spins (t .n) (t .s) (oneName k) xs, (inverse (t .n) (t .d) (t .fwd) (t .bwd), (lt k (t .s), (smallCouplings (t .couplings), tt)))),
   ),
 )
 

@@ -1,5 +1,5 @@
--- Moves and sweeps as they were before any site could be pinned (9/14), but for 15, which came later: no pins are lent, no component is held, a task is idle
--- or moved. Unpinned.antt says that with all pins 0 they still are.
+-- Moves and sweeps as they were before any site could be pinned (9/14), but for what came later: 15, and which systems 3 and 14 look at. No pins are
+-- lent, no component is held, a task is idle or moved. Unpinned.antt says that with all pins 0 they still are.
 use Prim.Native.Nat.{ℕ, _+_, _*_, _≤_, _<_}
 use mathlib.Core.Path.{_≡_}
 use mathlib.Core.Logic.{_≢_}
@@ -20,7 +20,8 @@ use Rattle.paper.specs.Component.Members.{Members}
 use Rattle.paper.specs.Component.Sizes.{labelOf}
 use Rattle.paper.specs.Move.Moving.{actBy, flipSome, greyBit, greyAt, reachedBy}
 use Rattle.paper.specs.Refusal.Rule.{Rule, rule, Kept, Broken}
-use Rattle.paper.specs.Refusal.Rules.{When, Ranged, HoudOfTwo, AllSystems, Spins, Inverse, Grouped, Permutes, SmallCouplings, Warm, choiceRules, More, noMore}
+use Rattle.paper.specs.Refusal.Rules.{When, Ranged, HoudOfTwo, groupNames, orderNames, Named, Spins, Inverse, Listed, Grouped}
+use Rattle.paper.specs.Refusal.Rules.{SmallCouplings, Warm, choiceRules, More, noMore}
 use Rattle.paper.specs.Answer.Move.{Seen}
 use Rattle.paper.specs.Answer.Task.{Sweep, tasks, masked, taskCall, taskChoices, areas}
 use Rattle.paper.specs.Answer.Sweep.{common, SweepRanged, taskRules, Unmoved, SameLengths, Unwritten}
@@ -73,7 +74,7 @@ rulesWas m c p b =
     ∷ rule 15 (HoudOfTwo (c .mode) (c .form) (size c))
     ∷ rule 2 (ExactWas c p b)
     ∷ (m .lengths ++ (
-    rule 3 (Spins (c .lattice .n) (AllSystems (c .lattice .s)) (b .spins))
+    rule 3 (Spins (c .lattice .n) (Named (c .lattice .s) (groupNames (c .group))) (b .spins))
     ∷ rule 4 (Inverse (c .lattice .n) (c .lattice .d) (c .lattice .fwd) (c .lattice .bwd))
     ∷ rule 5 (Grouped (c .lattice .s) (c .group))
     ∷ rule 6 (When (takesCuts c) (SmallCouplings (c .lattice .couplings)))
@@ -107,12 +108,12 @@ AnswersWas c p b Moved b′ = GoesWas c p b b′
 
 -- and of a call that may keep totals
 pub record KeepRefusesWas (keeping : Bool) (c : Call) (p : Choices) (b : Buffers) (ts : List ℤ) (r : ℕ) (b′ : Buffers) (ts′ : List ℤ) : Type 0 where
-  pub why : Broken (rulesWas (totalsAsk keeping (c .lattice) ts) c p b) r
+  pub why : Broken (rulesWas (totalsAsk keeping (c .lattice) (groupNames (c .group)) ts) c p b) r
   pub kept : b′ ≡ b
   pub totals-kept : ts′ ≡ ts
 
 pub record KeepAcceptsWas (keeping : Bool) (c : Call) (p : Choices) (b : Buffers) (ts : List ℤ) (a : Answer) (b′ : Buffers) (ts′ : List ℤ) : Type 0 where
-  pub valid : Kept (rulesWas (totalsAsk keeping (c .lattice) ts) c p b)
+  pub valid : Kept (rulesWas (totalsAsk keeping (c .lattice) (groupNames (c .group)) ts) c p b)
   pub answers : AnswersWas c p b a b′
   pub totals : TotalsAfter keeping (c .lattice) (b .spins) ts (b′ .spins) ts′
 
@@ -127,7 +128,7 @@ pub record SweepExactWas (w : Sweep) (b : Buffers) : Type 0 where
   pub spins : length (b .spins) ≡ w .lattice .s * w .lattice .n
   pub fwd : length (w .lattice .fwd) ≡ w .lattice .n * w .lattice .d
   pub bwd : length (w .lattice .bwd) ≡ w .lattice .n * w .lattice .d
-  pub order : length (w .order) ≡ w .lattice .s
+  pub order : length (w .order) ≡ w .systems
   pub masks : length (w .masks) ≡ w .t
   pub couplings : When (takesCuts (common w)) (length (w .lattice .couplings) ≡ w .lattice .n * w .lattice .d)
   pub temperatures : When (takesCuts (common w)) (length (w .temperatures) ≡ w .t)
@@ -150,9 +151,9 @@ sweepRulesWas m w b =
     ∷ rule 15 (HoudOfTwo (w .mode) (w .form) (w .members))
     ∷ rule 2 (SweepExactWas w b)
     ∷ ((m .lengths ++ (
-    rule 3 (Spins (w .lattice .n) (AllSystems (w .lattice .s)) (b .spins))
+    rule 3 (Spins (w .lattice .n) (Named (w .lattice .s) (orderNames (w .order))) (b .spins))
     ∷ rule 4 (Inverse (w .lattice .n) (w .lattice .d) (w .lattice .fwd) (w .lattice .bwd))
-    ∷ rule 5 (Permutes (w .lattice .s) (λ k. getD (w .order) k 0))
+    ∷ rule 5 (Listed (w .lattice .s) (orderNames (w .order)))
     ∷ rule 6 (When (takesCuts (common w)) (SmallCouplings (w .lattice .couplings)))
     ∷ (m .couplings ++ (
     rule 7 (When (takesCuts (common w)) ((j : ℕ) → j < w .t → Warm (getD (w .temperatures) j nan)))
@@ -176,7 +177,7 @@ pub record DoneWas (w : Sweep) (b b′ : Buffers) (k : ℕ) : Type 0 where
 
 -- it swept, and these were its counts
 pub record SweepsWas (keeping : Bool) (w : Sweep) (b : Buffers) (ts : List ℤ) (idle moved : ℕ) (b′ : Buffers) (ts′ : List ℤ) : Type 0 where
-  pub valid : Kept (sweepRulesWas (totalsAsk keeping (w .lattice) ts) w b)
+  pub valid : Kept (sweepRulesWas (totalsAsk keeping (w .lattice) (orderNames (w .order)) ts) w b)
   pub counts : idle ∷ moved ∷ [] ≡ idleTasks w (b .spins) ∷ movedTasks w (b .spins) ∷ []
   pub lengths : SameLengths b b′
   pub each : (k : ℕ) → k < tasks w → masked w k ≡ false → DoneWas w b b′ k
@@ -186,6 +187,6 @@ pub record SweepsWas (keeping : Bool) (w : Sweep) (b : Buffers) (ts : List ℤ) 
   pub totals : TotalsAfter keeping (w .lattice) (b .spins) ts (b′ .spins) ts′
 
 pub record SweepRefusesWas (keeping : Bool) (w : Sweep) (b : Buffers) (ts : List ℤ) (r : ℕ) (b′ : Buffers) (ts′ : List ℤ) : Type 0 where
-  pub why : Broken (sweepRulesWas (totalsAsk keeping (w .lattice) ts) w b) r
+  pub why : Broken (sweepRulesWas (totalsAsk keeping (w .lattice) (orderNames (w .order)) ts) w b) r
   pub kept : b′ ≡ b
   pub totals-kept : ts′ ≡ ts

@@ -1,7 +1,8 @@
 -- A system's row, as a part of all spins: its energy is the system's. Then what the tests show of such rows.
-use Prim.Native.Nat.{ℕ, _+_, _-_, _*_, _<_}
-use mathlib.Core.Path.{_≡_, ap}
-use mathlib.Core.List.{List, []}
+use Prim.Native.Nat.{ℕ, zero, suc, _+_, _-_, _*_, _<_}
+use mathlib.Core.Path.{_≡_, refl, ap}
+use mathlib.Core.Bool.{true}
+use mathlib.Core.List.{List, [], _∷_}
 use native.Mathlib.Nat.{mul-le-mul-right, suc-mul}
 use native.Mathlib.Omega.{arith}
 use lib.ListN.{length, getD, take, drop, length-take, length-drop}
@@ -10,10 +11,13 @@ use lib.IntN.{ℤ, pos, negℤ, _*ℤ_}
 use Rattle.lemmas.specs.Sums.{sum-ext}
 use Rattle.paper.specs.Panel.Input.{Lattice, spin, aheadOf}
 use Rattle.paper.specs.Panel.Made.{latticeOf}
-use Rattle.paper.specs.Refusal.Rule.{Kept}
-use Rattle.paper.specs.Refusal.Rules.{Sizes, AllSystems, Spins, Inverse, SmallCouplings}
+use Rattle.paper.specs.Refusal.Rule.{Rule, rule, Kept}
+use Rattle.paper.specs.Refusal.Verdict.{Verdict, broken-first}
+use Rattle.paper.specs.Refusal.Rules.{Sizes, oneName, Named, Spins, Inverse, SmallCouplings}
 use Rattle.paper.specs.Site.Energy.{energy}
 use Rattle.paper.specs.Answer.Meter.{MeterExact, meterRules}
+use Rattle.paper.specs.Answer.Totals.{total, Current, HandOverExact}
+use Rattle.paper.specs.Answer.Team.{Team, own, Ours, ownerRules, handOverRules}
 use Rattle.meter.specs.Row.{Lengths, Row, RowAt, bondTerm, rowSum}
 
 -- the lengths as numbers, and of the lists
@@ -64,17 +68,17 @@ module _ (n d : ℕ) (fwd : List ℕ) (js xs : List ℤ) (k : ℕ) (h : RowAt n 
 
 -- ---- from the rules
 
--- what the meter and the hand-over both ask
-pub record Sound (t : Lattice) (xs : List ℤ) : Type 0 where
+-- what the meter and the hand-over both ask, of the rows of some systems
+pub record Sound (t : Lattice) (Which : ℕ → Type 0) (xs : List ℤ) : Type 0 where
   pub sizes : Sizes (t .n) (t .d) (t .s)
   pub exact : MeterExact t xs
-  pub spins : Spins (t .n) (AllSystems (t .s)) xs
+  pub spins : Spins (t .n) Which xs
   pub inverse : Inverse (t .n) (t .d) (t .fwd) (t .bwd)
   pub small : SmallCouplings (t .couplings)
 
-module _ (t : Lattice) (xs : List ℤ) (h : Sound t xs) where
-  pub sound-row : (k : ℕ) → k < t .s → RowAt (t .n) (t .d) (t .fwd) (t .couplings) xs k
-  sound-row k l = record {
+module _ (t : Lattice) (Which : ℕ → Type 0) (xs : List ℤ) (h : Sound t Which xs) where
+  pub sound-row : (k : ℕ) → k < t .s → Which k → RowAt (t .n) (t .d) (t .fwd) (t .couplings) xs k
+  sound-row k l w = record {
     n-high = h .sizes .n-high;
     d-high = h .sizes .d-high;
     ends = omega (arith, h .exact .spins, suc-mul k (t .n), mul-le-mul-right (t .n) l);
@@ -82,13 +86,36 @@ module _ (t : Lattice) (xs : List ℤ) (h : Sound t xs) where
     js-long = h .exact .couplings;
     inside = λ i e li le. h .inverse .there i e li le .inside;
     small = h .small;
-    spins = λ i li. h .spins k i l li;
+    spins = λ i li. h .spins k i w li;
   }
 
-  pub meter-kept : (k : ℕ) → k < t .s → Kept (meterRules t xs k)
-  meter-kept k l = (h .sizes, (h .exact, (h .spins, (h .inverse, (l, (h .small, tt))))))
+pub meter-kept : (t : Lattice) (xs : List ℤ) (k : ℕ) → Sound t (Named (t .s) (oneName k)) xs → k < t .s → Kept (meterRules t xs k)
+meter-kept t xs k h l = (h .sizes, (h .exact, (h .spins, (h .inverse, (l, (h .small, tt))))))
 
--- the rows of all s systems, and a total for each
-pub record Handed (n d s : ℕ) (fwd : List ℕ) (js xs ts : List ℤ) : Type 0 where
-  pub totals-long : length ts ≡ s
-  pub rows : (k : ℕ) → k < s → RowAt n d fwd js xs k
+-- a row, and a total for it
+pub record Holding (n d : ℕ) (fwd : List ℕ) (js xs ts : List ℤ) (k : ℕ) : Type 0 where
+  pub total-there : k < length ts
+  pub row : RowAt n d fwd js xs k
+
+abbrev pub CurrentAt : ℕ → ℕ → List ℕ → List ℤ → List ℤ → List ℤ → ℕ → Type 0
+CurrentAt n d fwd js xs ts k = total ts k ≡ energy (metered n d fwd js) xs k
+
+-- those of the team's systems
+pub record Handed (n d s : ℕ) (o : Team) (fwd : List ℕ) (js xs ts : List ℤ) : Type 0 where
+  pub each : (k : ℕ) → k < s → own o k ≡ true → Holding n d fwd js xs ts k
+
+-- ---- the hand-over's rules behind the owner tests
+abbrev pub metersRules : Team → Lattice → List ℤ → List ℤ → List Rule
+metersRules o g xs ts =
+    rule 1 (Sizes (g .n) (g .d) (g .s))
+    ∷ rule 2 (HandOverExact g xs ts)
+    ∷ rule 3 (Spins (g .n) (Ours o (g .s)) xs)
+    ∷ rule 4 (Inverse (g .n) (g .d) (g .fwd) (g .bwd))
+    ∷ rule 6 (SmallCouplings (g .couplings))
+    ∷ rule 14 (Current (Ours o (g .s)) g xs ts)
+    ∷ []
+
+pub owner-first :
+    (o : Team) (g : Lattice) (xs ts : List ℤ) (r : ℕ) → (r ≡ 0 → ⊥) → Verdict (ownerRules o (g .s)) r → Verdict (handOverRules o g xs ts) r
+owner-first o g xs ts zero e v = absurd (e refl)
+owner-first o g xs ts (suc r) e v = broken-first (ownerRules o (g .s)) (metersRules o g xs ts) (suc r) v

@@ -3,13 +3,15 @@ ghost use mathlib.Core.Path.{_≡_};
 ghost use mathlib.Core.List.{[]};
 ghost use lib.IntN.{_*ℤ_};
 ghost use Rattle.lemmas.specs.Tells.{Tells};
-ghost use Rattle.paper.specs.Refusal.Rules.{Sizes};
+ghost use Rattle.paper.specs.Refusal.Rules.{When, Sizes};
 ghost use Rattle.paper.specs.Answer.Meter.{MeterAnswers};
-ghost use Rattle.paper.specs.Answer.Totals.{Current, handOverRules};
+ghost use Rattle.paper.specs.Answer.Totals.{Current};
+ghost use Rattle.paper.specs.Answer.Team.{own, Ours, handOverRules};
 ghost use Rattle.paper.specs.Panel.Made.{latticeOf};
 ghost use Rattle.paper.specs.Refusal.Verdict.{Verdict};
 ghost use Rattle.paper.specs.Site.Energy.{energy};
-ghost use Rattle.meter.specs.Part.{Handed, metered};
+ghost use Rattle.systems.specs.Owners.{teamOf};
+ghost use Rattle.meter.specs.Part.{Holding, Handed, CurrentAt, metered};
 ghost use Rattle.meter.specs.Row.{Lengths, Row, RowAt, RowSite, RowBond, RowSum, Bond, bondTerm, siteTerm};
 use lemmas::wide;
 use paper::MeterAnswer;
@@ -99,7 +101,7 @@ pub fn energy(
     if !exact(n, d, s, spins.len(), fwd.len(), bwd.len(), couplings.len()) {
         return MeterAnswer::Unmetered(2);
     }
-    if !lattice::spins_ok(spins) {
+    if !systems::row_ok(n, s, spins, system) {
         return MeterAnswer::Unmetered(3);
     }
     if !lattice::tables_ok(n, d, fwd, bwd) {
@@ -114,48 +116,94 @@ pub fn energy(
     MeterAnswer::Energy(system_energy(n, d, fwd, couplings, spins, system))
 }
 
+fn current(
+    n: usize,
+    d: usize,
+    fwd: &[u32],
+    js: &[i32],
+    spins: &[i8],
+    totals: &[i64],
+    t: usize,
+) -> bool
+    requires { ⌜ Holding n d (now fwd) (now js) (now spins) (now totals) t ⌝ }
+    ensures { λ r. ⌜ Tells r (CurrentAt n d (now (fwd .entry)) (now (js .entry)) (now (spins .entry)) (now (totals .entry)) t) ⌝ }
+{
+    system_energy(n, d, fwd, js, spins, t) == totals[t]
+}
+
+// A foreign system's total may be anything.
+fn settled(
+    n: usize,
+    d: usize,
+    team: u8,
+    owners: &[u8],
+    fwd: &[u32],
+    js: &[i32],
+    spins: &[i8],
+    totals: &[i64],
+    t: usize,
+) -> bool
+    requires { ⌜ When (own (teamOf team (now owners)) t) (Holding n d (now fwd) (now js) (now spins) (now totals) t) ⌝ }
+    ensures { λ r. ⌜ Tells r (When (own (teamOf team (now (owners .entry))) t)
+        (CurrentAt n d (now (fwd .entry)) (now (js .entry)) (now (spins .entry)) (now (totals .entry)) t)) ⌝ }
+{
+    if systems::owners::own(team, owners, t) {
+        return current(n, d, fwd, js, spins, totals, t);
+    }
+    true
+}
+
 fn all_current(
     n: usize,
     d: usize,
     s: usize,
+    team: u8,
+    owners: &[u8],
     fwd: &[u32],
     js: &[i32],
     spins: &[i8],
     totals: &[i64],
 ) -> bool
-    requires { ⌜ Handed n d s (now fwd) (now js) (now spins) (now totals) ⌝ }
-    ensures { λ r. ⌜ Tells r (Current (latticeOf n d s (now (fwd .entry)) [] (now (js .entry))) (now (spins .entry)) (now (totals .entry))) ⌝ }
+    requires { ⌜ Handed n d s (teamOf team (now owners)) (now fwd) (now js) (now spins) (now totals) ⌝ }
+    ensures { λ r. ⌜ Tells r (Current (Ours (teamOf team (now (owners .entry))) s) (latticeOf n d s (now (fwd .entry)) [] (now (js .entry)))
+        (now (spins .entry)) (now (totals .entry))) ⌝ }
 {
     let mut ok = true;
     let mut t = 0;
     while t < s {
-        ok = ok & (system_energy(n, d, fwd, js, spins, t) == totals[t]);
+        ok = ok & settled(n, d, team, owners, fwd, js, spins, totals, t);
         t += 1;
     }
     ok
 }
 
-// Whether each total is its system's energy: the number of the first test that fails, or 0.
+// Whether each total of the team's systems is its system's energy: the number of the first test that fails, or 0.
 pub fn hand_over(
     n: usize,
     d: usize,
     s: usize,
+    team: u8,
+    owners: &[u8],
     spins: &[i8],
     totals: &[i64],
     fwd: &[u32],
     bwd: &[u32],
     couplings: &[i32],
 ) -> u8
-    ensures { λ r. ⌜ Verdict (handOverRules (latticeOf n d s (now (fwd .entry)) (now (bwd .entry)) (now (couplings .entry)))
-        (now (spins .entry)) (now (totals .entry))) r ⌝ }
+    ensures { λ r. ⌜ Verdict (handOverRules (teamOf team (now (owners .entry)))
+        (latticeOf n d s (now (fwd .entry)) (now (bwd .entry)) (now (couplings .entry))) (now (spins .entry)) (now (totals .entry))) r ⌝ }
 {
+    let fault = systems::owners::test_owners(s, team, owners);
+    if fault != 0 {
+        return fault;
+    }
     if !lattice::sizes_ok(n, d, s) {
         return 1;
     }
     if !(exact(n, d, s, spins.len(), fwd.len(), bwd.len(), couplings.len()) & (totals.len() == s)) {
         return 2;
     }
-    if !lattice::spins_ok(spins) {
+    if !systems::owners::own_rows_ok(n, s, team, owners, spins) {
         return 3;
     }
     if !lattice::tables_ok(n, d, fwd, bwd) {
@@ -164,7 +212,7 @@ pub fn hand_over(
     if !lattice::couplings_ok(couplings) {
         return 6;
     }
-    if !all_current(n, d, s, fwd, couplings, spins, totals) {
+    if !all_current(n, d, s, team, owners, fwd, couplings, spins, totals) {
         return 14;
     }
     0

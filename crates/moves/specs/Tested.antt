@@ -12,7 +12,7 @@ use Rattle.paper.specs.declared.Mode.{Mode}
 use Rattle.paper.specs.Panel.Input.{Call, Choices, Buffers, member, system}
 use Rattle.paper.specs.Panel.Takes.{isGperm, isCmr}
 use Rattle.paper.specs.Refusal.Rules.{Distinct}
-use Rattle.paper.specs.Refusal.Kept.{Sound}
+use Rattle.paper.specs.Refusal.Kept.{named, Sound}
 use Rattle.columns.specs.Column.{Inside, Spinning}
 use Rattle.column_rules.specs.Sight.{Sighted}
 
@@ -66,6 +66,6 @@ module _ (c : Call) (p : Choices) (b : Buffers) (s : Sound c p b) where
     fwd-long = s .exact .fwd;
     ahead-lt = λ i e hi he. s .inverse .there i e hi he .inside;
     inside = row-inside;
-    spins = λ i k hi hk. s .spins (system c k) i (s .grouped .below k hk) hi;
+    spins = λ i k hi hk. s .spins (system c k) i (named k hk (s .grouped)) hi;
     distinct = s .grouped .distinct;
   }

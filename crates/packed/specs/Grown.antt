@@ -21,7 +21,7 @@ use Rattle.columns.specs.Rows.{Written}
 use Rattle.grow.specs.Task.{Outputs, noOutputs, withOutputs, GrowAsks}
 use Rattle.perform.specs.Spinning.{spins-after, length-after}
 use Rattle.packing.specs.Bytes.{rowsOf, bytesOf, Narrow, ownGroup}
-use Rattle.packing.specs.Laws.{rows-long, columns-bytes, bytes-narrow, pack-unpack, written-rows}
+use Rattle.packing.specs.Laws.{member-own, rows-long, columns-bytes, bytes-narrow, pack-unpack, written-rows}
 
 -- the rows that the bytes stand for are tested, and the task is one on rows of its own
 pub record GrownAsks (c : Call) (p : Choices) (xs members : List ℕ) : Type 0 where
@@ -88,8 +88,13 @@ module _ (c : Call) (p : Choices) (xs members : List ℕ) (k : GrownAsks c p xs 
 
         after-spins : Spins n (AllSystems m) ys
         after-spins =
-            subst (λ (s : ℕ). Spins n (AllSystems s) ys) (k .systems)
-            (spins-after c p (before noOutputs) (after noOutputs) a (accepted a (answers noOutputs)) (answers noOutputs))
+            λ t i l hi. spins-after c p (before noOutputs) (after noOutputs) a (accepted a (answers noOutputs)) (answers noOutputs) t i
+            (record {
+              place = t;
+              below = l;
+              is = subst (λ (g : Group). member g t ≡ t) (sym (k .own)) (member-own m t (omega (arith, l, few)));
+              inside = rw (k .systems) l;
+            }) hi
 
         -- the bytes of the rows after stand for them
         module _ (bytes : List ℕ) (packed : Columns n m (patternOf n (c .group) ys) bytes) where

@@ -8,14 +8,14 @@ use native.Mathlib.Omega.{arith}
 use lib.ListN.{length, getD}
 use lib.Pow.{pow-pos}
 use lib.IntN.{ℤ}
-use Rattle.lemmas.specs.Tells.{Tells}
+use Rattle.lemmas.specs.Tells.{Tells, said, same}
 use Rattle.paper.specs.declared.Group.{Group}
 use Rattle.paper.specs.declared.Task.{Task}
 use Rattle.paper.specs.declared.Lengths.{Lengths}
-use Rattle.paper.specs.Panel.Input.{Call, Choices, patternOf}
+use Rattle.paper.specs.Panel.Input.{Call, Choices, member, patternOf}
 use Rattle.paper.specs.Panel.Takes.{isGperm, keepsBy}
 use Rattle.paper.specs.Refusal.Rule.{Rule, rule}
-use Rattle.paper.specs.Refusal.Rules.{When, Ranged, HoudOfTwo, Fits, AllSystems, Spins, Seeded}
+use Rattle.paper.specs.Refusal.Rules.{When, Ranged, HoudOfTwo, Fits, groupNames, Named, AllSystems, Spins, Seeded}
 use Rattle.paper.specs.Refusal.Verdict.{Verdict}
 use Rattle.paper.specs.Answer.Totals.{TotalLengths, SmallTotals}
 use Rattle.tests.specs.Panel.{TotalsFit, shapeRules, tableRules}
@@ -23,7 +23,7 @@ use Rattle.tests.specs.Choices.{chosenRules}
 use Rattle.columns.specs.Column.{Columns, Inside, Spinning}
 use Rattle.column_rules.specs.Sight.{Sighted}
 use Rattle.packing.specs.Bytes.{rowsOf, Narrow, ownGroup}
-use Rattle.packing.specs.Laws.{length-rows, rows-long, rows-spins, spins-narrow, own-inside, own-pattern, rows-columns}
+use Rattle.packing.specs.Laws.{length-rows, rows-long, rows-spins, spins-narrow, member-own, own-inside, own-pattern, rows-columns}
 use Rattle.packed.specs.Lengths.{spinsFor, withSpins, cancel, clipped-fits, fits-clipped}
 
 -- a task on rows of its own, and the lengths of what the tests look at
@@ -47,7 +47,7 @@ headRules t xs ts c l =
     ∷ []
 
 abbrev pub spinRules : Task → List ℤ → List Rule
-spinRules t xs = rule 3 (Spins (t .n) (AllSystems (t .s)) xs) ∷ []
+spinRules t xs = rule 3 (Spins (t .n) (Named (t .s) (groupNames (t .group))) xs) ∷ []
 
 abbrev pub panelTables : Task → Call → List Rule
 panelTables t c = tableRules t (c .lattice .fwd) (c .lattice .bwd) (c .pins) (c .lattice .couplings)
@@ -56,7 +56,7 @@ abbrev pub seedRules : Call → List ℤ → List Rule
 seedRules c xs = rule 10 (Seeded c xs) ∷ []
 
 abbrev pub totalRules : Task → List ℤ → List Rule
-totalRules t ts = rule 14 (When (keepsBy (t .keeps) (t .form)) (SmallTotals ts)) ∷ []
+totalRules t ts = rule 14 (When (keepsBy (t .keeps) (t .form)) (SmallTotals (Named (t .s) (groupNames (t .group))) ts)) ∷ []
 
 -- all of them, in the order of a call on rows
 abbrev pub packedRules : Task → List ℕ → List ℤ → Call → Choices → Lengths → List Rule
@@ -146,6 +146,23 @@ module _ (t : Task) (columns : List ℕ) (ts : List ℤ) (c : Call) (l : Lengths
     head-of (suc r) (inr (a, inr (h, inr (f, inl w)))) =
         inr (a, inr (h, inr (fits-rows a f, inl ((λ q. w .0 (totals-fit q)), w .1))))
     head-of (suc r) (inr (a, inr (h, inr (f, inr w)))) = absurd (w .1)
+
+-- a task on rows of its own names them all
+module _ (t : Task) (own : t .s ≡ t .group .len) (group : t .group ≡ ownGroup (t .group .len)) (few : t .group .len ≤ 8) where
+  all-named : (k : ℕ) → k < t .s → Named (t .s) (groupNames (t .group)) k
+  all-named k l = let h : k < t .group .len = rw own at l in record {
+    place = k;
+    below = h;
+    is = subst (λ (g : Group). member g k ≡ k) (sym group) (member-own (t .group .len) k (omega (arith, h, few)));
+    inside = l;
+  }
+
+  pub own-spins : (xs : List ℤ) (r : Bool) → Tells r (Spins (t .n) (AllSystems (t .s)) xs) → Tells r (Spins (t .n) (Named (t .s) (groupNames (t .group))) xs)
+  own-spins xs r h =
+      same (Spins (t .n) (Named (t .s) (groupNames (t .group))) xs) (λ f k i w. f k i (w .inside)) (λ f k i l. f k i (all-named k l)) (said r _ h) .says
+
+  pub spins-own : (xs : List ℤ) → Spins (t .n) (Named (t .s) (groupNames (t .group))) xs → Spins (t .n) (AllSystems (t .s)) xs
+  spins-own xs f k i l = f k i (all-named k l)
 
 -- ---- 3: a byte is at most the largest of its group just where the rows show spins
 module _ (m n top : ℕ) (columns : List ℕ) (long : length columns ≡ n) (some : 1 ≤ m) (is : top ≡ 2 ^ m - 1) where

@@ -67,7 +67,7 @@ pub(crate) fn test_packed(
     }
     let keeps = t.keeps;
     let form = t.form;
-    if !lattice::totals_fit(keeps.totals(form), totals) {
+    if !systems::group_totals_fit(keeps.totals(form), totals, group) {
         return 14;
     }
     0

@@ -237,7 +237,7 @@ pub struct Task {
     pub seed: usize,
 }
 
-// The numbers of a sweep over t temperatures of r replicas, in groups of `members`.
+// The numbers of a sweep over t temperatures of r replicas, `systems` of the panel's s in all, in groups of `members`.
 pub struct Plan {
     pub mode: Mode,
     pub form: Form,
@@ -245,6 +245,7 @@ pub struct Plan {
     pub n: usize,
     pub d: usize,
     pub s: usize,
+    pub systems: usize,
     pub t: usize,
     pub r: usize,
     pub members: usize,

@@ -1,20 +1,19 @@
--- A task keeps every spin +1 or -1.
+-- A task keeps its group's spins +1 or -1.
 use Prim.Native.Nat.{ℕ, _<_}
-use mathlib.Core.Path.{_≡_, ap}
-use mathlib.Core.Logic.{_⊎_, inl, inr, _≢_}
+use mathlib.Core.Path.{_≡_, ap, subst}
+use mathlib.Core.Logic.{_⊎_, inl, inr}
 use mathlib.Core.Bool.{true}
 use mathlib.Core.List.{List}
 use lib.ListN.{length}
 use lib.IntN.{ℤ}
-use Rattle.lemmas.specs.Places.{Placed, place}
 use Rattle.paper.specs.declared.Answer.{Answer}
 use Rattle.paper.specs.declared.Answer.the-variants.{Refused, Idle, Held, Moved}
-use Rattle.paper.specs.Panel.Input.{graph, Call, Choices, Buffers, spin, size, system}
+use Rattle.paper.specs.Panel.Input.{graph, Call, Choices, Buffers, spin}
 use Rattle.paper.specs.Panel.Takes.{growsBy, labelsBy, moves}
 use Rattle.paper.specs.Site.Bonds.{holds}
 use Rattle.paper.specs.Component.Sizes.{labelOf}
 use Rattle.paper.specs.Move.Moving.{Moves}
-use Rattle.paper.specs.Refusal.Rules.{Spin, AllSystems, Spins}
+use Rattle.paper.specs.Refusal.Rules.{Spin, groupNames, Named, Spins}
 use Rattle.paper.specs.Refusal.Kept.{Valid, valid-of}
 use Rattle.paper.specs.Answer.Move.{Answers, Goes, Accepted, Accepted.idle, Accepted.held, Accepted.moved}
 use Rattle.laws.specs.Unique.{label-lt}
@@ -25,26 +24,26 @@ use Rattle.moves.specs.Tested.{ready}
 use Rattle.moves.specs.Moved.{Rows}
 use Rattle.moves.specs.Finish.{final-spin}
 
--- ---- every spin is +1 or -1 after a task
+-- ---- the group's spins are +1 or -1 after a task
+abbrev GroupSpins : Call → List ℤ → Type 0
+GroupSpins c xs = Spins (c .lattice .n) (Named (c .lattice .s) (groupNames (c .group))) xs
+
 -- moved by the lists l and g, with the permutations that l asks for
 moved-spins :
     (c : Call) (p : Choices) (b : Buffers) → Valid c p b → (l g : List ℕ) (ys : List ℤ) → (moves (c .form) ≡ true → Rows c p l)
-    → Moves c p (b .spins) l g ys → Spins (c .lattice .n) (AllSystems (c .lattice .s)) ys
-moved-spins c p b v l g ys perms m t i below hi = at (place (size c) (system c) t)
-  where
-    at : Placed (size c) (system c) t ⊎ ((k : ℕ) → k < size c → t ≢ system c k) → Spin (spin (c .lattice .n) ys t i)
-    at (inl r) =
-        rw (r .2, m .group i (r .0) hi (r .1))
-        (final-spin c p (b .spins) l g (ready c p b (v .sound)) (v .fit .chosen .reference) perms i (r .0) hi (r .1))
-    at (inr r) = rw (m .others i t hi r) (v .sound .spins t i below hi)
+    → Moves c p (b .spins) l g ys → GroupSpins c ys
+moved-spins c p b v l g ys perms m t i w hi =
+    subst (λ (u : ℕ). Spin (spin (c .lattice .n) ys u i)) (w .is)
+    (rw (m .group i (w .place) hi (w .below))
+    (final-spin c p (b .spins) l g (ready c p b (v .sound)) (v .fit .chosen .reference) perms i (w .place) hi (w .below)))
 
-gone-spins : (c : Call) (p : Choices) (b b′ : Buffers) → Goes c p b b′ → Spins (c .lattice .n) (AllSystems (c .lattice .s)) (b′ .spins)
+gone-spins : (c : Call) (p : Choices) (b b′ : Buffers) → Goes c p b b′ → GroupSpins c (b′ .spins)
 gone-spins c p b b′ w = go (by-form (c .form))
   where
     v : Valid c p b
     v = valid-of c p b (w .valid)
 
-    go : (labelsBy (c .form) ≡ true) ⊎ (growsBy (c .form) ≡ true) → Spins (c .lattice .n) (AllSystems (c .lattice .s)) (b′ .spins)
+    go : (labelsBy (c .form) ≡ true) ⊎ (growsBy (c .form) ≡ true) → GroupSpins c (b′ .spins)
     go (inl f) = moved-spins c p b v (b′ .labels) (b′ .greyLabels) (b′ .spins) perms (w .moved f)
       where
         perms : moves (c .form) ≡ true → Rows c p (b′ .labels)
@@ -55,8 +54,7 @@ gone-spins c p b b′ w = go (by-form (c .form))
         perms : moves (c .form) ≡ true → Rows c p (w .turned f .blue)
         perms e q i hi = perms-grown v f (rw (e, q)) (labelOf (w .turned f .blue) i)
 
-pub spins-after :
-    (c : Call) (p : Choices) (b b′ : Buffers) (a : Answer) → Accepted a → Answers c p b a b′ → Spins (c .lattice .n) (AllSystems (c .lattice .s)) (b′ .spins)
+pub spins-after : (c : Call) (p : Choices) (b b′ : Buffers) (a : Answer) → Accepted a → Answers c p b a b′ → GroupSpins c (b′ .spins)
 spins-after c p b b′ Idle idle w = rw (w .still) (w .valid .1 .1 .1 .0)
 spins-after c p b b′ Held held w = rw (w .still) (w .valid .1 .1 .1 .0)
 spins-after c p b b′ Moved moved w = gone-spins c p b b′ w

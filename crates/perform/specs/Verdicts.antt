@@ -1,6 +1,6 @@
 -- From the verdict of the tests, and what a task leaves, to a call's answer.
 use Prim.Native.Nat.{ℕ, zero, suc, _<_, _≤_}
-use mathlib.Core.Path.{_≡_, refl, sym}
+use mathlib.Core.Path.{_≡_, refl}
 use mathlib.Core.Bool.{Bool}
 use mathlib.Core.List.{List}
 use lib.IntN.{ℤ, natAbs}
@@ -8,8 +8,8 @@ use Rattle.paper.specs.declared.Answer.{Answer}
 use Rattle.paper.specs.declared.Answer.the-variants.{Refused, Idle, Held, Moved}
 use Rattle.paper.specs.Panel.Input.{Call, Choices, Buffers, member}
 use Rattle.paper.specs.Refusal.Rule.{Rule, Kept, Broken, broken-not-kept}
-use Rattle.paper.specs.Refusal.Rules.{When, rules}
-use Rattle.paper.specs.Refusal.Kept.{Valid, valid-kept}
+use Rattle.paper.specs.Refusal.Rules.{When, groupNames, rules}
+use Rattle.paper.specs.Refusal.Kept.{named, Valid, valid-kept}
 use Rattle.paper.specs.Refusal.Verdict.{Verdict}
 use Rattle.paper.specs.Answer.Move.{Answers}
 use Rattle.paper.specs.Answer.Totals.{total, keptRules, TotalsAsked, kept-valid, kept-asked, TotalsReady, TotalsAfter, KeepAnswers}
@@ -23,18 +23,18 @@ module _ (keeping : Bool) (c : Call) (p : Choices) (b : Buffers) (ts : List ℤ)
   pub refused-by : (r : ℕ) → Broken (keptRules keeping c p b ts) r → KeepAnswers keeping c p b ts (Refused r) b ts
   refused-by r w = record { why = w; kept = refl; totals-kept = refl }
 
-  -- the group's totals are among all, which are small
+  -- the group's totals are named, so they are small
   pub ready-of : Kept (keptRules keeping c p b ts) → TotalsReady keeping (c .lattice) (c .group) ts
   ready-of k = record { lengths = a .lengths; couplings = a .couplings; small = small }
     where
-      a : TotalsAsked keeping (c .lattice) ts
+      a : TotalsAsked keeping (c .lattice) (groupNames (c .group)) ts
       a = kept-asked keeping c p b ts k
 
       v : Valid c p b
       v = kept-valid keeping c p b ts k
 
       small : When keeping ((j : ℕ) → j < c .group .len → natAbs (total ts (member (c .group) j)) ≤ 16384000000)
-      small e j h = a .small e (member (c .group) j) (rw (sym (a .lengths e .totals)) at (v .sound .grouped .below j h))
+      small e j h = a .small e (member (c .group) j) (named j h (v .sound .grouped))
 
   pub accepted-by :
       (a : Answer) (b′ : Buffers) (ts′ : List ℤ)

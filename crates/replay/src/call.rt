@@ -150,6 +150,7 @@ fn plan_of(h: Head) -> Plan {
         n: h.n,
         d: h.d,
         s: h.s,
+        systems: h.s,
         t: h.t,
         r: h.r,
         members: h.members,

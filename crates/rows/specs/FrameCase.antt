@@ -1,5 +1,5 @@
 -- Row 13's text, by computing.
-use Prim.Native.Nat.{ℕ}
+use Prim.Native.Nat.{ℕ, zero, suc, _<_}
 use mathlib.Core.Path.{_≡_, refl}
 use mathlib.Core.Logic.{inr}
 use mathlib.Core.Bool.{Bool, true}
@@ -10,6 +10,7 @@ use Rattle.lemmas.specs.Cells.{table}
 use Rattle.lemmas.specs.Bools.{every, belowTest, below-by}
 use Rattle.paper.specs.declared.Mode.the-variants.{Perm}
 use Rattle.paper.specs.declared.Answer.the-variants.{Moved}
+use Rattle.paper.specs.Refusal.Rules.{groupNames, Named}
 use Rattle.paper.specs.Refusal.Kept.{Valid, valid-of}
 use Rattle.paper.specs.Answer.Frame.{Spelt, hex, unhex, firstLine, next, bytes, words, twoBytes, HasBack, FrameAnswers}
 use Rattle.paper.specs.Answer.Move.{Accepted.moved}
@@ -19,6 +20,12 @@ use Rattle.rows.specs.Worked.{answer13}
 
 valid13 : Valid (frame Perm) framePerms before13
 valid13 = valid-of (frame Perm) framePerms before13 (answer13 .valid)
+
+-- the case's group names both systems, so its rows are all
+both-named : (t : ℕ) → t < 2 → Named 2 (groupNames (frame Perm .group)) t
+both-named zero h = record { place = 0; below = omega arith; is = refl; inside = h }
+both-named (suc zero) h = record { place = 1; below = omega arith; is = refl; inside = h }
+both-named (suc (suc t)) h = absurd (omega arith)
 
 caseBack : HasBack caseText
 unfolding codes unhex firstLine next words
@@ -47,7 +54,7 @@ whole-case = inr (record {
     group-size = record { low = omega arith; high = omega arith };
     perms-line = record { spelt = spelt-by 0x14 (next (next (next (next caseText)))) refl refl; long = refl };
     ended = refl;
-    spins = valid13 .sound .spins;
+    spins = λ t i h hi. valid13 .sound .spins t i (both-named t h) hi;
     back = caseBack;
     grouped = record { below = valid13 .sound .grouped .below; distinct = valid13 .sound .grouped .distinct };
     chosen = record {

@@ -6,6 +6,7 @@ use mathlib.Core.List.{List, [], _∷_}
 use lib.Dec.{eqb, ltb}
 use lib.IntN.{ℤ, pos, negsuc}
 use lib.Ieee.{nan, div, le, ofInt}
+use Rattle.lemmas.specs.Cells.{table}
 use Rattle.lemmas.specs.Bools.{every}
 use Rattle.paper.specs.declared.Mode.the-variants.{Perm, Cmr}
 use Rattle.paper.specs.declared.Form.the-variants.{Wolff}
@@ -15,12 +16,12 @@ use Rattle.paper.specs.Site.Bonds.{whole}
 use Rattle.paper.specs.Refusal.Rule.{Kept, Broken}
 use Rattle.paper.specs.Refusal.Rules.{rules}
 use Rattle.paper.specs.Answer.Meter.{meterRules}
-use Rattle.paper.specs.Rows.Cases.{+, -, line, first}
+use Rattle.paper.specs.Rows.Cases.{+, -, line, plain, first}
 use Rattle.laws.specs.Decided.{eq, all, any}
 use Rattle.laws.specs.Verdicts.{refusalOf, accepted-by, refused-by, meter-verdict}
 
 -- a CMR Wolff move of two sites, which takes an input for each test. Where `ok j` is false it has the fault j: three systems (1), a short buffer of
--- counts (2), a spin 0 (3), two sites with one forward neighbour (4), a system twice (5), a coupling of 1,000,001 (6), the temperature 0 (7), a
+-- counts (2), a spin 0 of system 0 (3), two sites with one forward neighbour (4), a system twice (5), a coupling of 1,000,001 (6), the temperature 0 (7), a
 -- cut that is no number (8), the grey number 0 (9), the seed 2 (10)
 abbrev pinning : List ℕ → (ℕ → Bool) → Call
 pinning pins ok = record {
@@ -50,7 +51,7 @@ choices ok = record { choices = []; greys = cond (ok 9) (3 ∷ []) (0 ∷ []) }
 
 abbrev buffers : (ℕ → Bool) → Buffers
 buffers ok = record {
-  spins = cond (ok 3) (+ ∷ - ∷ + ∷ + ∷ []) (+ ∷ - ∷ + ∷ pos 0 ∷ []);
+  spins = cond (ok 3) (+ ∷ - ∷ + ∷ + ∷ []) (+ ∷ pos 0 ∷ + ∷ + ∷ []);
   labels = 0 ∷ 0 ∷ [];
   greyLabels = 0 ∷ 0 ∷ [];
   counts = cond (ok 2) (0 ∷ 0 ∷ 0 ∷ []) (0 ∷ 0 ∷ []);
@@ -158,6 +159,43 @@ seeds = record {
   identity = refused-by (seeding 2) (permuting (0 ∷ 1 ∷ [])) (lent (+ ∷ + ∷ + ∷ + ∷ [])) 8 refl;
 }
 
+-- ---- rows that a call does not name hold anything (12/14)
+
+-- the first call with a spin 0 of system 1
+abbrev elsewhere : Buffers
+elsewhere = record {
+  spins = + ∷ - ∷ + ∷ pos 0 ∷ [];
+  labels = 0 ∷ 0 ∷ [];
+  greyLabels = 0 ∷ 0 ∷ [];
+  counts = 0 ∷ 0 ∷ 0 ∷ [];
+  sizes = 0 ∷ 0 ∷ 0 ∷ 0 ∷ [];
+  members = [];
+  found = 0 ∷ [];
+  greyFound = 0 ∷ [];
+}
+
+-- three systems, of which the group has two
+abbrev besides : ℕ → Call
+besides second =
+    plain Perm Wolff (line 2 3 (1 ∷ 0 ∷ []) (1 ∷ 0 ∷ []) []) (record { len = 2; systems = 0 ∷ second ∷ 2 ∷ 9 ∷ 9 ∷ 9 ∷ 9 ∷ 9 ∷ [] })
+
+pub record Unnamed : Type 0 where
+  pub named : Broken (rules (call (λ j. true)) (choices (λ j. true)) elsewhere) 3
+  -- system 0 stands twice, so system 1 is not named: 5, which was 3 before
+  pub twice : Broken (rules (call (lone 4)) (choices (lone 4)) elsewhere) 5
+  -- the third system's row holds no spins: accepted, which was 3 before
+  pub third : Kept (rules (besides 1) (permuting (1 ∷ 0 ∷ [])) (lent (+ ∷ + ∷ - ∷ + ∷ pos 0 ∷ pos 7 ∷ [])))
+  pub third-named : Broken (rules (besides 2) (permuting (1 ∷ 0 ∷ [])) (lent (+ ∷ + ∷ - ∷ + ∷ pos 0 ∷ pos 7 ∷ []))) 3
+
+pub unnamed : Unnamed
+unfolding every any acts differs div le ofInt table
+unnamed = record {
+  named = refused-by (call (λ j. true)) (choices (λ j. true)) elsewhere 2 refl;
+  twice = refused-by (call (lone 4)) (choices (lone 4)) elsewhere 4 refl;
+  third = accepted-by (besides 1) (permuting (1 ∷ 0 ∷ [])) (lent (+ ∷ + ∷ - ∷ + ∷ pos 0 ∷ pos 7 ∷ [])) refl;
+  third-named = refused-by (besides 2) (permuting (1 ∷ 0 ∷ [])) (lent (+ ∷ + ∷ - ∷ + ∷ pos 0 ∷ pos 7 ∷ [])) 2 refl;
+}
+
 -- ---- the meter: a system that is not there goes before a coupling that is too large
 abbrev metered : List ℤ → Lattice
 metered couplings = line 1 2 (0 ∷ []) (0 ∷ []) couplings
@@ -166,6 +204,10 @@ pub record Metered : Type 0 where
   pub accepted : Kept (meterRules (metered (pos 1000000 ∷ [])) (+ ∷ - ∷ []) 1)
   pub no-system : Broken (meterRules (metered (pos 1000001 ∷ [])) (+ ∷ - ∷ []) 2) 5
   pub coupling : Broken (meterRules (metered (negsuc 1000000 ∷ [])) (+ ∷ - ∷ []) 1) 6
+  -- of the spins the metered system's alone are looked at; where it is not there, none
+  pub beside : Kept (meterRules (metered (pos 1 ∷ [])) (+ ∷ pos 0 ∷ []) 0)
+  pub its-own : Broken (meterRules (metered (pos 1 ∷ [])) (+ ∷ pos 0 ∷ []) 1) 3
+  pub none : Broken (meterRules (metered (pos 1 ∷ [])) (+ ∷ pos 0 ∷ []) 2) 5
 
 pub metered-so : Metered
 unfolding every
@@ -173,4 +215,7 @@ metered-so = record {
   accepted = meter-verdict (metered (pos 1000000 ∷ [])) (+ ∷ - ∷ []) 1;
   no-system = meter-verdict (metered (pos 1000001 ∷ [])) (+ ∷ - ∷ []) 2;
   coupling = meter-verdict (metered (negsuc 1000000 ∷ [])) (+ ∷ - ∷ []) 1;
+  beside = meter-verdict (metered (pos 1 ∷ [])) (+ ∷ pos 0 ∷ []) 0;
+  its-own = meter-verdict (metered (pos 1 ∷ [])) (+ ∷ pos 0 ∷ []) 1;
+  none = meter-verdict (metered (pos 1 ∷ [])) (+ ∷ pos 0 ∷ []) 2;
 }

@@ -25,6 +25,7 @@ pinning pins masks temperatures cuts seeds = record {
   form = Wolff;
   lattice = line 1 4 (0 ∷ []) (0 ∷ []) (pos 1 ∷ []);
   pins = pins;
+  systems = 4;
   t = 2;
   r = 2;
   members = 2;
@@ -81,4 +82,60 @@ sweep-refusals = record {
   unmasked = sweep-refused-by (sweep (0 ∷ 1 ∷ []) warm (nan ∷ whole 0 ∷ []) (9 ∷ 0 ∷ [])) lent 7 refl;
   pin-first = sweep-refused-by (pinning (2 ∷ []) (1 ∷ 1 ∷ []) (nan ∷ whole 1 ∷ []) (whole 0 ∷ whole 0 ∷ []) (0 ∷ 0 ∷ [])) lent 3 refl;
   pins-long = sweep-refused-by (pinning (2 ∷ 0 ∷ []) (0 ∷ 0 ∷ []) warm (whole 0 ∷ whole 0 ∷ []) (0 ∷ 0 ∷ [])) lent 1 refl;
+}
+
+-- ---- a sweep over some of the panel's systems (12/14). Systems 0 and 1 hold no spins
+abbrev over : ℕ → ℕ → List ℕ → Sweep
+over systems t order = record {
+  mode = Jorg;
+  form = Wolff;
+  lattice = line 1 4 (0 ∷ []) (0 ∷ []) (pos 1 ∷ []);
+  pins = 0 ∷ [];
+  systems = systems;
+  t = t;
+  r = 2;
+  members = 2;
+  order = order;
+  masks = 0 ∷ [];
+  temperatures = whole 1 ∷ [];
+  cuts = whole 0 ∷ [];
+  references = [];
+  seeds = 0 ∷ [];
+  choices = [];
+  greys = [];
+}
+
+abbrev lent1 : Buffers
+lent1 = record {
+  spins = pos 0 ∷ pos 7 ∷ + ∷ - ∷ [];
+  labels = 0 ∷ [];
+  greyLabels = [];
+  counts = 0 ∷ 0 ∷ [];
+  sizes = 0 ∷ 0 ∷ 0 ∷ 0 ∷ [];
+  members = [];
+  found = 0 ∷ [];
+  greyFound = [];
+}
+
+pub record SweepUnnamed : Type 0 where
+  pub beside : Kept (sweepRules (over 2 1 (2 ∷ 3 ∷ [])) lent1)
+  pub named : Broken (sweepRules (over 2 1 (2 ∷ 1 ∷ [])) lent1) 3
+  -- a system that is not there, and one that stands twice, name no other
+  pub no-system : Broken (sweepRules (over 2 1 (2 ∷ 4 ∷ [])) lent1) 5
+  pub twice : Broken (sweepRules (over 2 1 (3 ∷ 3 ∷ [])) lent1) 5
+  -- t * r is their number, and t is 1 at least
+  pub too-many : Broken (sweepRules (over 3 1 (2 ∷ 3 ∷ [])) lent1) 1
+  pub no-temperature : Broken (sweepRules (over 0 0 []) lent1) 1
+  pub too-long : Broken (sweepRules (over 2 1 (2 ∷ 3 ∷ 0 ∷ [])) lent1) 2
+
+pub sweep-unnamed : SweepUnnamed
+unfolding table every any acts pairDiffers div le ofInt
+sweep-unnamed = record {
+  beside = sweep-accepted-by (over 2 1 (2 ∷ 3 ∷ [])) lent1 refl;
+  named = sweep-refused-by (over 2 1 (2 ∷ 1 ∷ [])) lent1 2 refl;
+  no-system = sweep-refused-by (over 2 1 (2 ∷ 4 ∷ [])) lent1 4 refl;
+  twice = sweep-refused-by (over 2 1 (3 ∷ 3 ∷ [])) lent1 4 refl;
+  too-many = sweep-refused-by (over 3 1 (2 ∷ 3 ∷ [])) lent1 0 refl;
+  no-temperature = sweep-refused-by (over 0 0 []) lent1 0 refl;
+  too-long = sweep-refused-by (over 2 1 (2 ∷ 3 ∷ 0 ∷ [])) lent1 1 refl;
 }

@@ -14,12 +14,13 @@ use Rattle.lemmas.specs.Ints.{same-is}
 use Rattle.paper.specs.declared.Mode.the-variants.{Pair}
 use Rattle.paper.specs.declared.Form.the-variants.{Wolff}
 use Rattle.paper.specs.declared.Answer.the-variants.{Moved}
-use Rattle.paper.specs.Panel.Input.{Call, Buffers}
+use Rattle.paper.specs.Panel.Input.{Call, Buffers, member}
 use Rattle.paper.specs.Site.Acting.{pairDiffers, acts}
 use Rattle.paper.specs.Site.Bonds.{holds}
 use Rattle.paper.specs.Site.Energy.{energy}
 use Rattle.paper.specs.Component.Sizes.{sizeOf, isFirst}
 use Rattle.paper.specs.Move.Moving.{other, hasOne, reached, final}
+use Rattle.paper.specs.Refusal.Rules.{groupNames, Named, AllSystems}
 use Rattle.paper.specs.Refusal.Kept.{valid-of}
 use Rattle.paper.specs.Answer.Move.{Answers}
 use Rattle.paper.specs.Answer.Totals.{total, Brought, TotalsAsked, asked-kept, KeepAnswers, Current}
@@ -52,9 +53,9 @@ pub record TotalsCase : Type 0 where
   -- a total that was wrong changes by as much
   pub wrong : KeepAnswers true two noChoices unlike (pos 7 ∷ pos 0 ∷ []) Moved exchanged (pos 17 ∷ negsuc 9 ∷ [])
   -- the smallest day that ends the claim: one call that moves and keeps none
-  pub before : Current (two .lattice) (unlike .spins) metered
+  pub before : Current (AllSystems 2) (two .lattice) (unlike .spins) metered
   pub kept-none : KeepAnswers false two noChoices unlike metered Moved exchanged metered
-  pub after : Current (two .lattice) (exchanged .spins) metered → ⊥
+  pub after : Current (AllSystems 2) (two .lattice) (exchanged .spins) metered → ⊥
 
 answer : Answers two noChoices unlike Moved exchanged
 unfolding every any holds acts pairDiffers sizeOf isFirst countWhere other hasOne reached final table
@@ -81,11 +82,11 @@ kept x y x′ y′ hx hy brought = record {
   totals = record { brought = λ _. brought; left = λ e. never (sym e) };
 }
   where
-    asked : TotalsAsked true (two .lattice) (x ∷ y ∷ [])
+    asked : TotalsAsked true (two .lattice) (groupNames (two .group)) (x ∷ y ∷ [])
     asked = record {
       lengths = λ _. record { couplings = refl; totals = refl };
       couplings = λ _. both (λ k. natAbs (getD (two .lattice .couplings) k (pos 0)) ≤ 1000000) (omega arith) (omega arith);
-      small = λ _. both (λ t. natAbs (total (x ∷ y ∷ []) t) ≤ 16384000000) hx hy;
+      small = λ _ t h. both (λ t. natAbs (total (x ∷ y ∷ []) t) ≤ 16384000000) hx hy t (h .inside);
     }
 
 abbrev Changes : List ℤ → List ℤ → ℕ → Type 0
@@ -99,11 +100,11 @@ turned-wrong : Turned (pos 7 ∷ pos 0 ∷ []) (pos 17 ∷ negsuc 9 ∷ [])
 unfolding sum
 turned-wrong = record { long = refl; each = both (Changes (pos 7 ∷ pos 0 ∷ []) (pos 17 ∷ negsuc 9 ∷ [])) refl refl }
 
-current-before : Current (two .lattice) (unlike .spins) metered
+current-before : Current (AllSystems 2) (two .lattice) (unlike .spins) metered
 unfolding sum
 current-before = both (λ t. total metered t ≡ energy (two .lattice) (unlike .spins) t) refl refl
 
-not-after : Current (two .lattice) (exchanged .spins) metered → ⊥
+not-after : Current (AllSystems 2) (two .lattice) (exchanged .spins) metered → ⊥
 unfolding sum
 not-after h = never (same-is (negsuc 4) (pos 5) (h 0 (omega arith)))
 
@@ -115,3 +116,57 @@ totals-case = record {
   kept-none = none-kept two noChoices unlike metered Moved exchanged answer;
   after = not-after;
 }
+
+-- ---- a third system, which the group does not have: its row holds no spins and its total is too large, and both stay (12/14)
+abbrev pub beside : Call
+beside = plain Pair Wolff (line 2 3 (1 ∷ 0 ∷ []) (1 ∷ 0 ∷ []) (pos 5 ∷ pos 0 ∷ [])) (first 2)
+
+abbrev pub besideBefore : Buffers
+besideBefore = buffers (+ ∷ + ∷ - ∷ + ∷ pos 0 ∷ pos 7 ∷ []) (0 ∷ 0 ∷ []) (0 ∷ 0 ∷ 0 ∷ []) (0 ∷ 0 ∷ 0 ∷ 0 ∷ []) 0
+
+abbrev pub besideAfter : Buffers
+besideAfter = buffers (- ∷ + ∷ + ∷ + ∷ pos 0 ∷ pos 7 ∷ []) (0 ∷ 1 ∷ []) (0 ∷ 1 ∷ 0 ∷ []) (1 ∷ 0 ∷ 0 ∷ 0 ∷ []) 2
+
+abbrev pub large : List ℤ → List ℤ
+large ts = getD ts 0 (pos 0) ∷ getD ts 1 (pos 0) ∷ pos 16384000001 ∷ []
+
+beside-answer : Answers beside noChoices besideBefore Moved besideAfter
+unfolding every any holds acts pairDiffers sizeOf isFirst countWhere other hasOne reached final table
+beside-answer = goes-by beside noChoices besideBefore besideAfter [] [] refl (λ _. (refl, refl)) refl
+
+-- the first two systems alone are named
+two-named : (t : ℕ) → Named 3 (groupNames (first 2)) t → t < 2
+two-named t h = at (h .place) (h .below) (h .is)
+  where
+    at : (k : ℕ) → k < 2 → member (first 2) k ≡ t → t < 2
+    at zero l e = omega (arith, e)
+    at (suc zero) l e = omega (arith, e)
+    at (suc (suc k)) l e = absurd (omega arith)
+
+beside-brought : Brought (beside .lattice) (besideBefore .spins) (large metered) (besideAfter .spins) (large meteredAfter)
+unfolding sum
+beside-brought = record { long = refl; each = each }
+  where
+    each :
+        (t : ℕ)
+        → t < 3
+        → total (large meteredAfter) t
+        ≡ total (large metered) t +ℤ (energy (beside .lattice) (besideAfter .spins) t +ℤ negℤ (energy (beside .lattice) (besideBefore .spins) t))
+    each zero h = refl
+    each (suc zero) h = refl
+    each (suc (suc zero)) h = refl
+    each (suc (suc (suc t))) h = absurd (omega arith)
+
+pub beside-kept : KeepAnswers true beside noChoices besideBefore (large metered) Moved besideAfter (large meteredAfter)
+beside-kept = record {
+  valid = asked-kept true beside noChoices besideBefore (large metered) (valid-of beside noChoices besideBefore (beside-answer .valid)) asked;
+  answers = beside-answer;
+  totals = record { brought = λ _. beside-brought; left = λ e. never (sym e) };
+}
+  where
+    asked : TotalsAsked true (beside .lattice) (groupNames (beside .group)) (large metered)
+    asked = record {
+      lengths = λ _. record { couplings = refl; totals = refl };
+      couplings = λ _. both (λ k. natAbs (getD (beside .lattice .couplings) k (pos 0)) ≤ 1000000) (omega arith) (omega arith);
+      small = λ _ t h. both (λ t. natAbs (total (large metered) t) ≤ 16384000000) (omega arith) (omega arith) t (two-named t h);
+    }

@@ -9,7 +9,7 @@ use Rattle.paper.specs.declared.Task.{Task}
 use Rattle.paper.specs.Panel.Input.{Call, Choices}
 use Rattle.paper.specs.Panel.Takes.{keepsBy}
 use Rattle.paper.specs.Refusal.Rule.{Rule, rule, Kept}
-use Rattle.paper.specs.Refusal.Rules.{When, choiceRules}
+use Rattle.paper.specs.Refusal.Rules.{When, groupNames, Named, choiceRules}
 use Rattle.paper.specs.Refusal.Verdict.{Verdict, broken-first}
 use Rattle.paper.specs.Answer.Totals.{SmallTotals}
 use Rattle.tests.specs.Panel.{panelRules}
@@ -29,7 +29,7 @@ abbrev pub soundRules : Task → Call → List ℤ → List ℤ → Lengths → 
 soundRules t c xs ts l = panelRules t xs ts (c .lattice .fwd) (c .lattice .bwd) (c .pins) (c .lattice .couplings) l
 
 abbrev pub totalRules : Task → List ℤ → List Rule
-totalRules t ts = rule 14 (When (keepsBy (t .keeps) (t .form)) (SmallTotals ts)) ∷ []
+totalRules t ts = rule 14 (When (keepsBy (t .keeps) (t .form)) (SmallTotals (Named (t .s) (groupNames (t .group))) ts)) ∷ []
 
 abbrev pub callRules : Task → Call → Choices → List ℤ → List ℤ → Lengths → List Rule
 callRules t c p xs ts l = soundRules t c xs ts l ++ (choiceRules c p xs ++ totalRules t ts)
@@ -55,8 +55,8 @@ module _ (t : Task) (c : Call) (p : Choices) (xs ts : List ℤ) (l : Lengths) wh
         n-high = ranged .lattice .n-high;
         size-low = ranged .size-low;
         size-high = ranged .size-high;
-        inside = rows-inside (t .n) (t .s) (t .group) xs long (grouped .below);
-        spins = rows-spins (t .n) (t .s) (t .group) xs long (grouped .below) spins;
+        inside = rows-inside (t .n) (t .s) (t .group) xs long grouped;
+        spins = rows-spins (t .n) (t .s) (t .group) xs long grouped spins;
         choices-long = λ e. sym (m .choices-is) ∙ fits .choices e;
         greys-long = λ e. sym (m .greys-is) ∙ fits .greys e;
       }

@@ -37,7 +37,8 @@ pub fn test_call(
     }
     let keeps = t.keeps;
     let form = t.form;
-    if !lattice::totals_fit(keeps.totals(form), totals) {
+    let group = t.group;
+    if !systems::group_totals_fit(keeps.totals(form), totals, group) {
         return 14;
     }
     0

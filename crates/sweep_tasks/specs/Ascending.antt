@@ -12,7 +12,7 @@ use Rattle.paper.specs.declared.Answer.{Answer}
 use Rattle.paper.specs.declared.Answer.the-variants.{Refused, Idle, Held, Moved}
 use Rattle.paper.specs.Panel.Input.{Call, Choices, Buffers, pattern, spin, system}
 use Rattle.paper.specs.Refusal.Rule.{Kept}
-use Rattle.paper.specs.Refusal.Rules.{AllSystems, Spins, rules}
+use Rattle.paper.specs.Refusal.Rules.{rules}
 use Rattle.paper.specs.Refusal.Kept.{Valid, valid-of, valid-kept}
 use Rattle.paper.specs.Answer.Move.{Answers, Accepted, Accepted.idle, Accepted.held, Accepted.moved}
 use Rattle.paper.specs.Answer.Task.{Sweep, tasks, masked, taskCall, taskChoices, areas, isIdle, isMoved, isHeld}
@@ -25,7 +25,6 @@ use Rattle.laws.specs.SweepTasks.{task-valid}
 use Rattle.laws.specs.SweepAscending.{tasks-apart, done}
 use Rattle.laws.specs.SweepCounts.{countTo, andThen, then-here, then-before, then-counts, skipped-counts}
 use Rattle.outcomes.specs.Adding.{movedBy}
-use Rattle.perform.specs.Spinning.{spins-after}
 
 moved-by : {a : Answer} → Accepted a → movedBy a ≡ bit (isMoved a)
 moved-by idle = refl
@@ -44,7 +43,6 @@ pub record Ran (w : Sweep) (b : Buffers) (K idle moved held : ℕ) (b′ : Buffe
   pub moveds : moved ≡ countTo isMoved w answered K
   pub helds : held ≡ countTo isHeld w answered K
   pub lengths : SameLengths b b′
-  pub spins : Spins (w .lattice .n) (AllSystems (w .lattice .s)) (b′ .spins)
   pub each : (k : ℕ) → k < K → masked w k ≡ false → Done w b b′ k (answered k)
   pub still : (k : ℕ) → k < tasks w → (masked w k ≡ true) ⊎ (K ≤ k) → areas w b′ (b .spins) k ≡ areas w b (b .spins) k
   pub others : (i t : ℕ) → i < w .lattice .n → UnmovedTo w K t → spin (w .lattice .n) (b′ .spins) t i ≡ spin (w .lattice .n) (b .spins) t i
@@ -126,7 +124,6 @@ module _ (w : Sweep) (b : Buffers) (v : Kept (sweepRules w b)) where
     moveds = count-start _;
     helds = count-start _;
     lengths = same-lengths b;
-    spins = v .1 .1 .1 .0;
     each = λ k l e. absurd (omega arith);
     still = λ k l q. refl;
     others = λ i t l o. refl;
@@ -159,7 +156,6 @@ module _ (w : Sweep) (b : Buffers) (v : Kept (sweepRules w b)) where
       moveds = h .moveds ∙ sym (skipped-counts isMoved w (h .answered) K e);
       helds = h .helds ∙ sym (skipped-counts isHeld w (h .answered) K e);
       lengths = h .lengths;
-      spins = h .spins;
       each = λ k l q. before k l q (ℕ-discrete k K);
       still = λ k l q. h .still k l (weaker k q);
       others = λ i t l o. h .others i t l (λ k x q. o k x (omega arith));
@@ -182,7 +178,7 @@ module _ (w : Sweep) (b : Buffers) (v : Kept (sweepRules w b)) where
     pub ran-valid : masked w K ≡ false → Valid (taskCall w K) (taskChoices w K) (areas w b′ (b′ .spins) K)
     ran-valid e =
         rw own-areas
-        (valid-there (record { long = h .lengths .spins; spinning = h .spins; same = own-rows })
+        (valid-there (record { long = h .lengths .spins; same = own-rows })
         (valid-of (taskCall w K) (taskChoices w K) (areas w b (b .spins) K) (task-valid w b v K below e)))
 
     module _ (e : masked w K ≡ false) (a : Answer) (b″ : Buffers) (s : Steps w K b′ a b″) where
@@ -199,7 +195,7 @@ module _ (w : Sweep) (b : Buffers) (v : Kept (sweepRules w b)) where
 
       done-now : Done w b b″ K a
       done-now =
-          done w b b″ K a (b′ .spins) (b″ .spins) (v .1 .1 .1 .0) (sym (h .lengths .spins)) (s .lengths .spins)
+          done w b b″ K a (b′ .spins) (b″ .spins) (sym (h .lengths .spins)) (s .lengths .spins)
           (λ i hi x hx. sym (own-rows i hi x hx)) accepted (rw own-areas at (s .answers)) (λ i x hi hx. refl)
 
       done-before : (k : ℕ) → k < K → masked w k ≡ false → Done w b b″ k (h .answered k)
@@ -226,7 +222,6 @@ module _ (w : Sweep) (b : Buffers) (v : Kept (sweepRules w b)) where
         moveds = ap (λ (z : ℕ). nm + z) (moved-by accepted) ∙ more isMoved nm (h .moveds);
         helds = more isHeld nh (h .helds);
         lengths = then-lengths (h .lengths) (s .lengths);
-        spins = spins-after (taskCall w K) (taskChoices w K) (areas w b′ (b′ .spins) K) (areas w b″ (b″ .spins) K) a accepted (s .answers);
         each = λ k l q. at k l q (ℕ-discrete k K);
         still = λ k l q. respun w b′ b″ (b′ .spins) (b .spins) k (s .apart k (ahead k q)) ∙ h .still k l (weaker k q);
         others = λ i t l o. out i t l (λ x q. o K x (omega arith) e q) ∙ h .others i t l (λ k x q. o k x (omega arith));

@@ -5,6 +5,7 @@ use lib.IntN.{ℤ}
 use Rattle.paper.specs.declared.SweepAnswer.{SweepAnswer}
 use Rattle.paper.specs.Panel.Input.{Buffers}
 use Rattle.paper.specs.Refusal.Rule.{Kept}
+use Rattle.paper.specs.Refusal.Rules.{orderNames}
 use Rattle.paper.specs.Answer.Task.{Sweep}
 use Rattle.paper.specs.Answer.Sweep.{sweepRules, SweepAnswers}
 use Rattle.paper.specs.Answer.Totals.{TotalsAsked, TotalsAfter}
@@ -14,7 +15,7 @@ use Rattle.sweep_tasks.specs.Updating.{asked-swept, swept-answers}
 module _ (keeping : Bool) (w : Sweep) (b : Buffers) (ts : List ℤ) (y z : Buffers) (us vs : List ℤ) (a a′ : SweepAnswer) where
   pub run-tasks-determined :
       Kept (sweepRules w b)
-      → TotalsAsked keeping (w .lattice) ts
+      → TotalsAsked keeping (w .lattice) (orderNames (w .order)) ts
       → SweepAnswers w b a y
       → TotalsAfter keeping (w .lattice) (b .spins) ts (y .spins) us
       → SweepAnswers w b a′ z

@@ -9,12 +9,12 @@ use Rattle.lemmas.specs.Sums.{sum-ext}
 use Rattle.paper.specs.Panel.Input.{Lattice, Buffers, spin, system, aheadOf}
 use Rattle.paper.specs.Site.Energy.{energy}
 use Rattle.paper.specs.Refusal.Rule.{Kept}
-use Rattle.paper.specs.Refusal.Rules.{Inverse}
+use Rattle.paper.specs.Refusal.Rules.{orderNames, Named, Inverse}
 use Rattle.paper.specs.Answer.Task.{Sweep, tasks, groupOf, taskCall}
 use Rattle.paper.specs.Answer.Sweep.{sweepRules}
 use Rattle.paper.specs.Answer.Totals.{total, TotalsAsked, TotalsReady, Brought, TotalsAfter}
 use Rattle.laws.specs.SweepKept.{sweep-valid-of}
-use Rattle.laws.specs.SweepTasks.{system-is, entry-lt}
+use Rattle.laws.specs.SweepTasks.{system-is, listed, named-in}
 use Rattle.sweep_tasks.specs.Ascending.{Ran, own-rows}
 
 -- ---- one change after another
@@ -68,11 +68,14 @@ pub record RanKeeping (keeping : Bool) (w : Sweep) (b : Buffers) (ts : List ℤ)
   pub totals : TotalsAfter keeping (w .lattice) (b .spins) ts (b′ .spins) us
 
 module _
-    (keeping : Bool) (w : Sweep) (b : Buffers) (ts : List ℤ) (v : Kept (sweepRules w b)) (a : TotalsAsked keeping (w .lattice) ts)
+    (keeping : Bool) (w : Sweep) (b : Buffers) (ts : List ℤ) (v : Kept (sweepRules w b)) (a : TotalsAsked keeping (w .lattice) (orderNames (w .order)) ts)
     (K ni nm nh : ℕ) (b′ : Buffers) (us : List ℤ) (below : K < tasks w) (h : RanKeeping keeping w b ts K ni nm nh b′ us)
   where
     own-system : (x : ℕ) → x < w .members → system (taskCall w K) x < w .lattice .s
-    own-system x l = rw (system-is w b v K below x l) (sweep-valid-of w b v .order .within _ (entry-lt w b v K below x l))
+    own-system x l = rw (system-is w b v K below x l) (sweep-valid-of w b v .order .below _ (listed w b v K below x l))
+
+    own-named : (x : ℕ) → x < w .members → Named (w .lattice .s) (orderNames (w .order)) (system (taskCall w K) x)
+    own-named x l = named-in w b v K below _ (record { place = x; below = l; is = refl; inside = own-system x l })
 
     own-energy :
         (x : ℕ) → x < w .members
@@ -92,5 +95,5 @@ module _
     task-ready = record {
       lengths = λ e. record { couplings = a .lengths e .couplings; totals = h .totals .brought e .long ∙ a .lengths e .totals };
       couplings = a .couplings;
-      small = λ e x l. rw (own-total e x l) (a .small e (system (taskCall w K) x) (rw (a .lengths e .totals) (own-system x l)));
+      small = λ e x l. rw (own-total e x l) (a .small e (system (taskCall w K) x) (own-named x l));
     }

@@ -8,6 +8,7 @@ use Rattle.paper.specs.declared.SweepAnswer.{SweepAnswer}
 use Rattle.paper.specs.declared.SweepAnswer.the-variants.{Fault, Swept}
 use Rattle.paper.specs.Panel.Input.{Buffers}
 use Rattle.paper.specs.Refusal.Rule.{Rule, Kept, broken-not-kept}
+use Rattle.paper.specs.Refusal.Rules.{orderNames}
 use Rattle.paper.specs.Refusal.Verdict.{Verdict, kept-both}
 use Rattle.paper.specs.Answer.Task.{Sweep, tasks}
 use Rattle.paper.specs.Answer.Sweep.{taskRules, sweepRules, SweepAnswers}
@@ -32,16 +33,16 @@ module _ (keeping : Bool) (w : Sweep) (b : Buffers) (ts : List ℤ) where
       let rest = kept-left (taskRules w b (tasks w)) _ (h .1 .1 .1) in
       (k .0, (k .1 .0, (k .1 .1 .0, (q .0, (q .1 .0, (q .1 .1 .0, (q .1 .1 .1 .0, (q .1 .1 .1 .1 .0, (h .1 .0, (h .1 .1 .0, rest))))))))))
 
-  pub swept-asked : Kept (sweptRules keeping w b ts) → TotalsAsked keeping (w .lattice) ts
+  pub swept-asked : Kept (sweptRules keeping w b ts) → TotalsAsked keeping (w .lattice) (orderNames (w .order)) ts
   swept-asked k =
       let h = k .1 .1 .1 .1 .1 .1 .1 .1 .1 in
       record { lengths = k .1 .1 .1 .0; couplings = h .0; small = kept-last (taskRules w b (tasks w)) _ (h .1 .1 .1) .0 }
 
-  pub asked-swept : Kept (sweepRules w b) → TotalsAsked keeping (w .lattice) ts → Kept (sweptRules keeping w b ts)
+  pub asked-swept : Kept (sweepRules w b) → TotalsAsked keeping (w .lattice) (orderNames (w .order)) ts → Kept (sweptRules keeping w b ts)
   asked-swept v a =
       let q = v .1 .1 .1 in
       let h = q .1 .1 .1 .1 .1 in
-      let r = kept-both (taskRules w b (tasks w)) (totalsAsk keeping (w .lattice) ts .last) (h .1 .1) (a .small, tt) in
+      let r = kept-both (taskRules w b (tasks w)) (totalsAsk keeping (w .lattice) (orderNames (w .order)) ts .last) (h .1 .1) (a .small, tt) in
       (v .0, (v .1 .0, (v .1 .1 .0, (a .lengths, (q .0, (q .1 .0, (q .1 .1 .0, (q .1 .1 .1 .0, (q .1 .1 .1 .1 .0, (a .couplings, (h .0, (h .1 .0, r))))))))))))
 
   pub swept-answers :

@@ -6,6 +6,7 @@ use paper::Plan;
 use paper::SweepAnswer;
 ghost use Rattle.paper.specs.Panel.Takes.{keepsBy};
 ghost use Rattle.paper.specs.Refusal.Rule.{Kept};
+ghost use Rattle.paper.specs.Refusal.Rules.{orderNames};
 ghost use Rattle.paper.specs.Answer.Sweep.{sweepRules, SweepAnswers};
 ghost use Rattle.paper.specs.Answer.Totals.{TotalsAsked, TotalsAfter};
 ghost use Rattle.paper.specs.Panel.Made.{latticeOf, buffersOf};
@@ -133,7 +134,7 @@ pub fn run_tasks(
         (now references) (now seeds) (now choices) (now greys))
         (buffersOf (now spins) (now labels) (now «grey_labels») (now counts) (now sizes) (now members) (now found) (now «grey_found»))) ⌝ }
     requires { ⌜ TotalsAsked (keepsBy (plan .keeps) (plan .form))
-        (latticeOf (plan .n) (plan .d) (plan .s) (now fwd) (now bwd) (now couplings)) (now totals) ⌝ }
+        (latticeOf (plan .n) (plan .d) (plan .s) (now fwd) (now bwd) (now couplings)) (orderNames (now order)) (now totals) ⌝ }
     ensures { λ r. ⌜ SweepAnswers
         (sweepOf plan (now (fwd .entry)) (now (bwd .entry)) (now (pins .entry)) (now (couplings .entry)) (now (order .entry)) (now (masks .entry))
         (now (temperatures .entry)) (now (cuts .entry)) (now (references .entry)) (now (seeds .entry))

@@ -8,7 +8,7 @@ use lib.Ieee.{Float, nan}
 use Rattle.paper.specs.Panel.Input.{Buffers}
 use Rattle.paper.specs.Panel.Takes.{drawsBonds, keepsBy}
 use Rattle.paper.specs.Refusal.Rule.{Rule, rule}
-use Rattle.paper.specs.Refusal.Rules.{When, HoudOfTwo, AllSystems, Spins, Inverse, Pins, Permutes, SmallCouplings, Warm}
+use Rattle.paper.specs.Refusal.Rules.{When, HoudOfTwo, orderNames, Named, Spins, Inverse, Pins, Listed, SmallCouplings, Warm}
 use Rattle.paper.specs.Refusal.Verdict.{Verdict, broken-first}
 use Rattle.paper.specs.Answer.Task.{Sweep}
 use Rattle.paper.specs.declared.Plan.{Plan}
@@ -21,10 +21,11 @@ use Rattle.sweep_tests.specs.Lengths.{Fitting}
 -- what the tests on the panel and on the temperatures lean on
 pub record PanelLong (q : Plan) (spins : List ℤ) (fwd bwd order : List ℕ) : Type 0 where
   pub few : q .s ≤ 64
+  pub n-high : q .n ≤ 4096
   pub spins-long : length spins ≡ q .s * q .n
   pub fwd-long : length fwd ≡ q .n * q .d
   pub bwd-long : length bwd ≡ q .n * q .d
-  pub order-long : length order ≡ q .s
+  pub order-long : length order ≤ q .s
 
 pub record HeatLong (q : Plan) (temperatures : List Float) (masks : List ℕ) : Type 0 where
   pub temperatures-long : When (drawsBonds (q .mode)) (length temperatures ≡ q .t)
@@ -41,10 +42,10 @@ lengthRules q l o =
 
 abbrev pub panelRules : Plan → List ℤ → List ℕ → List ℕ → List ℕ → List ℕ → List Rule
 panelRules q spins fwd bwd pins order =
-    rule 3 (Spins (q .n) (AllSystems (q .s)) spins)
+    rule 3 (Spins (q .n) (Named (q .s) (orderNames order)) spins)
     ∷ rule 4 (Inverse (q .n) (q .d) fwd bwd)
     ∷ rule 4 (Pins pins)
-    ∷ rule 5 (Permutes (q .s) (λ k. getD order k 0))
+    ∷ rule 5 (Listed (q .s) (orderNames order))
     ∷ []
 
 abbrev pub AllWarm : ℕ → List Float → Type 0

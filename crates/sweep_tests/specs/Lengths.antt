@@ -11,7 +11,7 @@ use Rattle.sweep_tests.specs.declared.SweepLengths.{SweepLengths}
 -- what the panel and each task is lent, and the sweep's own inputs
 pub record Fitting (q : Plan) (l : Lengths) (o : SweepLengths) : Type 0 where
   pub each : FitsEach (q .mode) (q .form) (q .n) (q .d) (q .s) (q .members) (tasksOf q) l
-  pub order : o .order ≡ q .s
+  pub order : o .order ≡ q .systems
   pub masks : o .masks ≡ q .t
   pub temperatures : When (drawsBonds (q .mode)) (o .temperatures ≡ q .t)
   pub references : When (isGperm (q .mode)) (o .references ≡ tasksOf q)

@@ -1,6 +1,6 @@
 -- Tests 8, 9 and 10 of unmasked tasks in ascending order.
-use Prim.Native.Nat.{ℕ, zero, suc, _+_, _*_, _<_}
-use mathlib.Core.Path.{_≡_, refl, _∙_}
+use Prim.Native.Nat.{ℕ, zero, suc, _+_, _*_, _/_, _%_, _<_}
+use mathlib.Core.Path.{_≡_, refl, sym, _∙_}
 use mathlib.Core.Logic.{_⊎_, inl, inr}
 use mathlib.Core.Bool.{true, false, cond}
 use mathlib.Core.List.{List, []}
@@ -16,7 +16,7 @@ use Rattle.lemmas.specs.Cells.{table-at}
 use Rattle.paper.specs.Panel.Input.{Buffers, member}
 use Rattle.paper.specs.Panel.Takes.{drawsBonds, choicesBy, greysBy, entries, choiceBytes}
 use Rattle.paper.specs.Refusal.Rule.{Rule, Kept, Broken}
-use Rattle.paper.specs.Refusal.Rules.{When, Ranged, AllSystems, Spins, Permutes, choiceRules}
+use Rattle.paper.specs.Refusal.Rules.{When, Ranged, groupNames, orderNames, Named, Spins, Listed, Grouped, choiceRules}
 use Rattle.paper.specs.Refusal.Verdict.{Verdict, kept-both, broken-first, broken-later}
 use Rattle.paper.specs.Answer.Task.{Sweep, orderAt, masked, part, taskCall, taskChoices}
 use Rattle.paper.specs.Answer.Sweep.{taskRules}
@@ -32,12 +32,12 @@ use Rattle.tasks.specs.Plan.{Planned, tasksOf, groupAt, maskedAt, taskAt, order
 pub record SweepTested (q : Plan) (spins : List ℤ) (order : List ℕ) (cuts : List Float) (choices greys : List ℕ) : Type 0 where
   pub planned : Planned q
   pub spins-long : length spins ≡ q .s * q .n
-  pub order-long : length order ≡ q .s
+  pub order-long : length order ≡ q .systems
   pub cuts-long : When (drawsBonds (q .mode)) (length cuts ≡ tasksOf q * (q .n * q .d))
   pub choices-long : When (choicesBy (q .mode) (q .form)) (length choices ≡ tasksOf q * choiceBytes (q .mode) (q .form) (q .n) (q .members))
   pub greys-long : When (greysBy (q .mode) (q .form)) (length greys ≡ tasksOf q * entries (q .form) (q .n))
-  pub spinning : Spins (q .n) (AllSystems (q .s)) spins
-  pub permuted : Permutes (q .s) (λ k. getD order k 0)
+  pub spinning : Spins (q .n) (Named (q .s) (orderNames order)) spins
+  pub listed : Listed (q .s) (orderNames order)
 
 pub record TaskTested (q : Plan) (k : ℕ) (spins : List ℤ) (order : List ℕ) (cuts : List Float) (choices greys : List ℕ) : Type 0 where
   pub tested : SweepTested q spins order cuts choices greys
@@ -54,8 +54,25 @@ module _ {q : Plan} {k : ℕ} {spins : List ℤ} {order : List ℕ} {cuts : List
       table-at 8 (λ x. cond (ltb x (q .members)) (orderAt (ordered q order []) k x) 0) x (omega (arith, ranged .size-high))
       ∙ rw (lt-ltb x (q .members) l) refl
 
-  member-lt : (x : ℕ) → x < q .members → member (groupAt q order k) x < q .s
-  member-lt x l = rw (member-is x l) (h .tested .permuted .within _ (entry-lt q (h .tested .planned) k (h .below) x l))
+  -- its place in the order
+  abbrev at : ℕ → ℕ
+  at x = k / (q .r / q .members) * q .r + (k % (q .r / q .members)) * q .members + x
+
+  at-lt : (x : ℕ) → x < q .members → at x < length order
+  at-lt x l = rw (h .tested .order-long) (entry-lt q (h .tested .planned) k (h .below) x l)
+
+  grouped : Grouped (q .s) (groupAt q order k)
+  grouped = record {
+    below = λ x l. rw (member-is x l) (h .tested .listed .below (at x) (at-lt x l));
+    distinct = λ x y lx ly e.
+        let z = h .tested .listed .distinct (at x) (at y) (at-lt x lx) (at-lt y ly) (sym (member-is x lx) ∙ (e ∙ member-is y ly)) in omega (arith, z);
+  }
+
+  -- the group's systems are named by the order
+  group-spins : Spins (q .n) (Named (q .s) (groupNames (groupAt q order k))) spins
+  group-spins t i w =
+      h .tested .spinning t i
+      (record { place = at (w .place); below = at-lt (w .place) (w .below); is = sym (member-is (w .place) (w .below)) ∙ w .is; inside = w .inside })
 
   pub task-tested :
       (temperatures : List Float) (references seeds : List ℕ)
@@ -66,8 +83,8 @@ module _ {q : Plan} {k : ℕ} {spins : List ℤ} {order : List ℕ} {cuts : List
     n-high = ranged .lattice .n-high;
     size-low = ranged .size-low;
     size-high = ranged .size-high;
-    inside = rows-inside (q .n) (q .s) (groupAt q order k) spins (h .tested .spins-long) member-lt;
-    spins = rows-spins (q .n) (q .s) (groupAt q order k) spins (h .tested .spins-long) member-lt (h .tested .spinning);
+    inside = rows-inside (q .n) (q .s) (groupAt q order k) spins (h .tested .spins-long) grouped;
+    spins = rows-spins (q .n) (q .s) (groupAt q order k) spins (h .tested .spins-long) grouped group-spins;
     choices-long = λ t.
         part-length (tasksOf q) (choiceBytes (q .mode) (q .form) (q .n) (q .members)) k choices (h .below) (h .tested .choices-long t);
     greys-long = λ t. part-length (tasksOf q) (entries (q .form) (q .n)) k greys (h .below) (h .tested .greys-long t);

@@ -4,6 +4,7 @@ use mathlib.Core.Path.{_≡_, refl}
 use mathlib.Core.Logic.{inl, inr}
 use mathlib.Core.Bool.{Bool}
 use mathlib.Core.List.{List, [], _∷_, _++_}
+use native.Mathlib.Omega.{arith}
 use lib.ListN.{length}
 use lib.IntN.{ℤ}
 use lib.Ieee.{Float}
@@ -13,7 +14,7 @@ use Rattle.paper.specs.Panel.Input.{Buffers}
 use Rattle.paper.specs.Panel.Made.{buffersOf}
 use Rattle.paper.specs.Panel.Takes.{drawsBonds, choicesBy, greysBy, keepsBy, entries, choiceBytes}
 use Rattle.paper.specs.Refusal.Rule.{Rule, rule, Kept, Broken}
-use Rattle.paper.specs.Refusal.Rules.{When, HoudOfTwo}
+use Rattle.paper.specs.Refusal.Rules.{When, HoudOfTwo, orderNames, Named}
 use Rattle.paper.specs.Refusal.Verdict.{Verdict}
 use Rattle.paper.specs.Answer.Task.{Sweep, tasks}
 use Rattle.paper.specs.Answer.Sweep.{SweepRanged, SweepExact, taskRules}
@@ -39,7 +40,7 @@ module _ (keeps : Keeps) (w : Sweep) (b : Buffers) (ts : List ℤ) where
   tasksRules = taskRules w b (tasks w)
 
   abbrev pub lastRule : List Rule
-  lastRule = rule 14 (When keeping (SmallTotals ts)) ∷ []
+  lastRule = rule 14 (When keeping (SmallTotals (Named (w .lattice .s) (orderNames (w .order))) ts)) ∷ []
 
   -- all but 1 and 2
   abbrev pub valueRules : List Rule
@@ -52,10 +53,10 @@ module _ (keeps : Keeps) (w : Sweep) (b : Buffers) (ts : List ℤ) where
   lengthsRules = lengthRules (planOf keeps w) (lengthsOf w b) (ownLengths w ts)
 
   planned-of : SweepRanged w → Planned (planOf keeps w)
-  planned-of r = record { ranged = r .ranged; all = r .all; enough = r .enough }
+  planned-of r = record { ranged = r .ranged; few = r .few; some = r .some; all = r .all; enough = r .enough }
 
   ranged-of : Planned (planOf keeps w) → SweepRanged w
-  ranged-of p = record { ranged = p .ranged; all = p .all; enough = p .enough }
+  ranged-of p = record { ranged = p .ranged; few = p .few; some = p .some; all = p .all; enough = p .enough }
 
   fitting-of : SweepExact w b → Fits
   fitting-of e = record {
@@ -141,9 +142,11 @@ module _ (keeps : Keeps) (w : Sweep) (b : Buffers) (ts : List ℤ) where
 
 -- what the tests on values lean on
 pub record Sized
-    (q : Plan) (spins : List ℤ) (fwd bwd order masks : List ℕ) (temperatures cuts : List Float) (choices greys : List ℕ) : Type 0
+    (q : Plan) (spins totals : List ℤ) (fwd bwd order masks : List ℕ) (temperatures cuts : List Float) (choices greys : List ℕ) : Type 0
   where
     pub planned : Planned q
+    pub totals-long : When (keepsBy (q .keeps) (q .form)) (length totals ≡ q .s)
+    pub order-long : length order ≡ q .systems
     pub panel : PanelLong q spins fwd bwd order
     pub heat : HeatLong q temperatures masks
     pub cuts-long : When (drawsBonds (q .mode)) (length cuts ≡ tasksOf q * (q .n * q .d))
@@ -162,32 +165,36 @@ pub record ValuesTold
         (buffersOf spins labels greyLabels counts sizes members found greyFound) totals)
         r
 
-module _ {q : Plan} {spins : List ℤ} {fwd bwd order masks : List ℕ} {temperatures cuts : List Float} {choices greys : List ℕ}
-    (h : Sized q spins fwd bwd order masks temperatures cuts choices greys) where
+module _ {q : Plan} {spins totals : List ℤ} {fwd bwd order masks : List ℕ} {temperatures cuts : List Float} {choices greys : List ℕ}
+    (h : Sized q spins totals fwd bwd order masks temperatures cuts choices greys) where
   pub tested-of : (pins : List ℕ) → Kept (panelRules q spins fwd bwd pins order) → SweepTested q spins order cuts choices greys
   tested-of pins k = record {
     planned = h .planned;
     spins-long = h .panel .spins-long;
-    order-long = h .panel .order-long;
+    order-long = h .order-long;
     cuts-long = h .cuts-long;
     choices-long = h .choices-long;
     greys-long = h .greys-long;
     spinning = k .0;
-    permuted = k .1 .1 .1 .0;
+    listed = k .1 .1 .1 .0;
   }
 
 pub sized-of :
     {keeps : Keeps} (w : Sweep) (b : Buffers) (ts : List ℤ) → Planned (planOf keeps w) → Fits keeps w b ts
-    → Sized (planOf keeps w) (b .spins) (w .lattice .fwd) (w .lattice .bwd) (w .order) (w .masks) (w .temperatures) (w .cuts) (w .choices) (w .greys)
-sized-of w b ts p f = record {
+    → Fit (keepsBy keeps (w .form)) (w .lattice) ts
+    → Sized (planOf keeps w) (b .spins) ts (w .lattice .fwd) (w .lattice .bwd) (w .order) (w .masks) (w .temperatures) (w .cuts) (w .choices) (w .greys)
+sized-of w b ts p f t = record {
   planned = p;
+  totals-long = t .totals-is;
+  order-long = f .order;
   panel =
       record {
         few = p .ranged .lattice .s-high;
+        n-high = p .ranged .lattice .n-high;
         spins-long = f .each .spins;
         fwd-long = f .each .fwd;
         bwd-long = f .each .bwd;
-        order-long = f .order;
+        order-long = omega (arith, f .order, p .few);
       };
   heat = record { temperatures-long = f .temperatures; masks-long = f .masks };
   cuts-long = f .each .cuts;

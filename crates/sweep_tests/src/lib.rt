@@ -38,10 +38,11 @@ pub fn plan_ok(plan: Plan) -> bool
     let s = plan.s;
     let t = plan.t;
     let r = plan.r;
+    let systems = plan.systems;
     if (s < t) | (s < r) {
         return false;
     }
-    (t * r == s) & (plan.members <= r)
+    (systems <= s) & (1 <= t) & (t * r == systems) & (plan.members <= r)
 }
 
 // Test 2.
@@ -56,9 +57,10 @@ fn lengths_ok(plan: Plan, l: Lengths, o: SweepLengths) -> bool
     let s = plan.s;
     let t = plan.t;
     let m = plan.members;
+    let systems = plan.systems;
     let count = tasks::task_count(plan);
     tests::panel::lengths_ok(mode, form, n, d, s, m, count, l)
-        & (o.order == s)
+        & (o.order == systems)
         & (o.masks == t)
         & lattice::fits(mode.is_drawn(), o.temperatures, t)
         & lattice::fits(mode.is_gperm(), o.references, count)
@@ -93,7 +95,7 @@ fn test_panel(plan: Plan, spins: &[i8], fwd: &[u32], bwd: &[u32], pins: &[u8], o
     ensures { λ r. ⌜ Verdict
         (panelRules plan (now (spins .entry)) (now (fwd .entry)) (now (bwd .entry)) (now (pins .entry)) (now (order .entry))) r ⌝ }
 {
-    if !lattice::spins_ok(spins) {
+    if !systems::order_rows_ok(plan.n, plan.s, spins, order) {
         return 3;
     }
     if !lattice::tables_ok(plan.n, plan.d, fwd, bwd) {
@@ -229,7 +231,7 @@ fn test_values(
     choices: &[u8],
     greys: &[u8],
 ) -> u8
-    requires { ⌜ Sized plan (now spins) (now fwd) (now bwd) (now order) (now masks) (now temperatures) (now cuts) (now choices) (now greys) ⌝ }
+    requires { ⌜ Sized plan (now spins) (now totals) (now fwd) (now bwd) (now order) (now masks) (now temperatures) (now cuts) (now choices) (now greys) ⌝ }
     ensures { λ r. ⌜ ValuesTold plan (now (spins .entry)) (now (totals .entry)) (now (fwd .entry)) (now (bwd .entry)) (now (pins .entry))
         (now (couplings .entry)) (now (order .entry)) (now (masks .entry)) (now (temperatures .entry)) (now (cuts .entry)) (now (references .entry))
         (now (seeds .entry)) (now (choices .entry)) (now (greys .entry)) r ⌝ }
@@ -256,7 +258,7 @@ fn test_values(
     );
     let form = plan.form;
     let keeps = plan.keeps;
-    let small = lattice::totals_fit(keeps.totals(form), totals);
+    let small = systems::order_totals_fit(keeps.totals(form), totals, order);
     if choice != 0 {
         return choice;
     }

@@ -1,5 +1,5 @@
 -- A sweep's numbers, and one task's share of its inputs.
-use Prim.Native.Nat.{ℕ, zero, suc, min, _+_, _*_, _/_, _%_, _≤_, _<_}
+use Prim.Native.Nat.{ℕ, min, _+_, _*_, _/_, _%_, _≤_, _<_}
 use mathlib.Core.Path.{_≡_}
 use mathlib.Core.Bool.{Bool, true, false, cond}
 use mathlib.Core.List.{List, []}
@@ -57,7 +57,9 @@ taskAt q order temperatures references seeds k = record {
 -- test 1 is kept
 pub record Planned (q : Plan) : Type 0 where
   pub ranged : Ranged (q .n) (q .d) (q .s) (q .mode) (q .members)
-  pub all : q .t * q .r ≡ q .s
+  pub few : q .systems ≤ q .s
+  pub some : 1 ≤ q .t
+  pub all : q .t * q .r ≡ q .systems
   pub enough : q .members ≤ q .r
 
 -- and k is one of its tasks
@@ -65,10 +67,10 @@ pub record TaskOf (q : Plan) (k : ℕ) : Type 0 where
   pub planned : Planned q
   pub below : k < tasksOf q
 
--- and the order is of all systems
+-- and the order is of all its systems
 pub record Placing (q : Plan) (k : ℕ) (order : List ℕ) : Type 0 where
   pub task : TaskOf q k
-  pub long : length order ≡ q .s
+  pub long : length order ≡ q .systems
 
 module _ (q : Plan) (h : Planned q) where
   pub some-members : 0 < q .members
@@ -77,29 +79,22 @@ module _ (q : Plan) (h : Planned q) where
   pub some-groups : 0 < q .r / q .members
   some-groups = le-div-iff-mul-le some-members .1 (omega (arith, h .enough))
 
-  some-t : 0 < q .t
-  some-t = go (q .t) (h .all)
-    where
-      go : (t : ℕ) → t * q .r ≡ q .s → 0 < t
-      go zero e = absurd (omega (arith, h .ranged .lattice .s-low))
-      go (suc t) e = omega arith
-
   pub r-fits : q .r ≤ q .s
-  r-fits = let l : 1 ≤ q .t = some-t in omega (arith, mul-le-mul-right (q .r) l, h .all)
+  r-fits = omega (arith, mul-le-mul-right (q .r) (h .some), h .all, h .few)
 
   pub t-fits : q .t ≤ q .s
-  t-fits = let l : 1 ≤ q .r = omega (arith, h .enough, some-members) in omega (arith, mul-le-mul-left (q .t) l, h .all)
+  t-fits = let l : 1 ≤ q .r = omega (arith, h .enough, some-members) in omega (arith, mul-le-mul-left (q .t) l, h .all, h .few)
 
   -- no more tasks than systems
   pub few-tasks : tasksOf q ≤ 64
-  few-tasks = omega (arith, mul-le-mul-left (q .t) (div-le-self (q .r) (q .members)), h .all, h .ranged .lattice .s-high)
+  few-tasks = omega (arith, mul-le-mul-left (q .t) (div-le-self (q .r) (q .members)), h .all, h .few, h .ranged .lattice .s-high)
 
   module _ (k : ℕ) (below : k < tasksOf q) where
     pub temperature-lt : k / (q .r / q .members) < q .t
     temperature-lt = div-lt-iff-lt-mul some-groups .1 below
 
     -- the order entry of the task's place x
-    pub entry-lt : (x : ℕ) → x < q .members → k / (q .r / q .members) * q .r + (k % (q .r / q .members)) * q .members + x < q .s
+    pub entry-lt : (x : ℕ) → x < q .members → k / (q .r / q .members) * q .r + (k % (q .r / q .members)) * q .members + x < q .systems
     entry-lt x l = omega (
       arith,
       mul-le-mul-right (q .r) temperature-lt,

@@ -14,7 +14,8 @@ use Rattle.paper.specs.Panel.Input.{Call, Choices, member, patternOf}
 use Rattle.paper.specs.Panel.Made.{callOf}
 use Rattle.paper.specs.Panel.Takes.{isGperm, choicesBy, greysBy, takesCuts, entries, choiceBytes}
 use Rattle.paper.specs.Refusal.Rule.{Rule, rule}
-use Rattle.paper.specs.Refusal.Rules.{When, AllSystems, Spins, Cuts, Permutes, NotIdentity, Chosen, Seeded, choiceRules}
+use Rattle.paper.specs.Refusal.Rules.{When, groupNames, Named, Spins, Listed, Cuts, Permutes, NotIdentity, Chosen, Seeded, choiceRules}
+use Rattle.paper.specs.Refusal.Kept.{named}
 use Rattle.paper.specs.Refusal.Verdict.{Verdict, broken-first}
 use Rattle.columns.specs.Column.{Inside, Spinning, Columns}
 use Rattle.column_rules.specs.Sight.{Sighted}
@@ -31,12 +32,12 @@ pub record Tested (t : Task) (xs : List ℤ) (choices greys : List ℕ) : Type 0
   pub greys-long : When (greysBy (t .mode) (t .form)) (length greys ≡ entries (t .form) (t .n))
 
 -- the rows of a group's systems lie within those of all s, and hold spins
-module _ (n s : ℕ) (g : Group) (xs : List ℤ) (long : length xs ≡ s * n) (below : (k : ℕ) → k < g .len → member g k < s) where
+module _ (n s : ℕ) (g : Group) (xs : List ℤ) (long : length xs ≡ s * n) (listed : Listed s (groupNames g)) where
   pub rows-inside : Inside n g xs
-  rows-inside k h = let l : suc (member g k) ≤ s = below k h in omega (arith, long, mul-le-mul-right n l, suc-mul (member g k) n)
+  rows-inside k h = let l : suc (member g k) ≤ s = listed .below k h in omega (arith, long, mul-le-mul-right n l, suc-mul (member g k) n)
 
-  pub rows-spins : Spins n (AllSystems s) xs → Spinning n g xs
-  rows-spins spins i k hi hk = spins (member g k) i (below k hk) hi
+  pub rows-spins : Spins n (Named s (groupNames g)) xs → Spinning n g xs
+  rows-spins spins i k hi hk = spins (member g k) i (named k hk listed) hi
 
 -- the task on a panel of other directions, systems and temperature
 abbrev pub elsewhere : Task → ℕ → ℕ → Float → Task

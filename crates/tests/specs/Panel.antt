@@ -13,7 +13,7 @@ use Rattle.paper.specs.Panel.Input.{Lattice}
 use Rattle.paper.specs.Panel.Made.{latticeOf}
 use Rattle.paper.specs.Panel.Takes.{drawsBonds, keepsBy}
 use Rattle.paper.specs.Refusal.Rule.{Rule, rule, Broken}
-use Rattle.paper.specs.Refusal.Rules.{When, Ranged, HoudOfTwo, Fits, AllSystems, Spins, Inverse, Pins, Grouped, SmallCouplings, Warm}
+use Rattle.paper.specs.Refusal.Rules.{When, Ranged, HoudOfTwo, Fits, groupNames, Named, Spins, Inverse, Pins, Grouped, SmallCouplings, Warm}
 use Rattle.paper.specs.Answer.Totals.{TotalLengths}
 use Rattle.neighbours.specs.Tables.{Tabled}
 
@@ -66,7 +66,7 @@ tableRules t fwd bwd pins couplings =
 
 -- 3 to 7
 abbrev pub contentRules : Task → List ℤ → List ℕ → List ℕ → List ℕ → List ℤ → List Rule
-contentRules t spins fwd bwd pins couplings = rule 3 (Spins (t .n) (AllSystems (t .s)) spins) ∷ tableRules t fwd bwd pins couplings
+contentRules t spins fwd bwd pins couplings = rule 3 (Spins (t .n) (Named (t .s) (groupNames (t .group))) spins) ∷ tableRules t fwd bwd pins couplings
 
 -- 1, 15 and 2, by the buffers
 abbrev pub lengthRules : Task → List ℤ → List ℕ → List ℕ → List ℤ → Lengths → List Rule

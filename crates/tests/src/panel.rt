@@ -135,7 +135,8 @@ pub fn test_panel(
     if shape != 0 {
         return shape;
     }
-    if !lattice::spins_ok(spins) {
+    let group = t.group;
+    if !systems::group_rows_ok(t.n, t.s, spins, group) {
         return 3;
     }
     test_tables(t, fwd, bwd, pins, couplings)

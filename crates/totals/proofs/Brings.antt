@@ -19,12 +19,12 @@ use Rattle.totals.specs.Gain.{siteGain, Ground, Sums}
 use Rattle.totals.specs.Law.{Shows, changeIn, energy-change, energy-same}
 use Rattle.totals.specs.Contract.{Payable, Paid, Bringable, Spun}
 
-module _ {g : Lattice} {group : Group} {totals xs : List ℤ} (h : Bringable g group totals) (r : Spun g xs) where
+module _ {g : Lattice} {group : Group} {totals xs : List ℤ} (h : Bringable g group totals) (r : Spun g group xs) where
   pub inside : Inside (g .n) group xs
   inside k l = omega (arith, r .long, suc-mul (member group k) (g .n), mul-le-mul-right (g .n) (h .grouped .below k l))
 
   pub spin-of : (i k : ℕ) → i < g .n → k < group .len → Spin (patternOf (g .n) group xs i k)
-  spin-of i k li lk = r .spins (member group k) i (h .grouped .below k lk) li
+  spin-of i k li lk = r .spins i k li lk
 
 module _ {g : Lattice} {group : Group} {totals : List ℤ} (h : Bringable g group totals) where
   pub ground : {olds news : List ℕ} → g .n ≤ length olds → g .n ≤ length news → Ground (g .n) (g .d) (g .fwd) (g .bwd) (g .couplings) olds news

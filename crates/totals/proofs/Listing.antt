@@ -62,7 +62,7 @@ module _ (members : List ℕ) (rows : ℕ → ℕ) where
     within = λ x l e. record { before = sym (seen-member olds x e); after = sym (seen-member news x e) };
   }
 
-module _ {g : Lattice} {group : Group} {ys totals : List ℤ} (h : Bringable g group totals) (r : Spun g ys)
+module _ {g : Lattice} {group : Group} {ys totals : List ℤ} (h : Bringable g group totals) (r : Spun g group ys)
     {members list : List ℕ} {m : ℕ} {olds news : List ℕ} (t : Listing (g .n) group ys members list m olds news) where
   abbrev rows : ℕ → ℕ
   rows = columnsBy (g .n) group ys

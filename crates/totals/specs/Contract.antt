@@ -10,8 +10,8 @@ use Rattle.paper.specs.declared.Group.{Group}
 use Rattle.paper.specs.declared.Task.{Task}
 use Rattle.paper.specs.Panel.Input.{Lattice, member, spin, patternOf}
 use Rattle.paper.specs.Panel.Made.{latticeOf}
-use Rattle.paper.specs.Refusal.Rules.{Sizes, AllSystems, Spins, Inverse, Distinct, Grouped, SmallCouplings}
-use Rattle.columns.specs.Column.{shown}
+use Rattle.paper.specs.Refusal.Rules.{Sizes, Inverse, Distinct, Grouped, SmallCouplings}
+use Rattle.columns.specs.Column.{shown, Spinning}
 use Rattle.paper.specs.Answer.Totals.{total, Brought}
 
 -- the lattice of a task, with the tables and couplings that are lent
@@ -55,10 +55,10 @@ pub record Columned (n : ℕ) (olds news : List ℕ) : Type 0 where
   pub olds-long : n ≤ length olds
   pub news-long : n ≤ length news
 
--- rows of spins
-pub record Spun (g : Lattice) (xs : List ℤ) : Type 0 where
+-- rows, and those of the group hold spins
+pub record Spun (g : Lattice) (group : Group) (xs : List ℤ) : Type 0 where
   pub long : length xs ≡ g .s * g .n
-  pub spins : Spins (g .n) (AllSystems (g .s)) xs
+  pub spins : Spinning (g .n) group xs
 
 -- the columns olds are of the spins xs, and news of ys; the systems outside the group keep theirs
 pub record Between (n : ℕ) (group : Group) (olds news : List ℕ) (xs ys : List ℤ) : Type 0 where

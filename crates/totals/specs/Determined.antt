@@ -84,7 +84,7 @@ module _ (g : Lattice) (group : Group) where
         brought-determined g (rowsOf olds) totals (rowsOf news) a b (h .totals-long) (p .each (rowsOf olds) (rowsOf news) between)
         (q .each (rowsOf olds) (rowsOf news) between)
 
-module _ (g : Lattice) (group : Group) (ys : List ℤ) (members olds : List ℕ) (totals : List ℤ) (h : Bringable g group totals) (spun : Spun g ys) where
+module _ (g : Lattice) (group : Group) (ys : List ℤ) (members olds : List ℕ) (totals : List ℤ) (h : Bringable g group totals) (spun : Spun g group ys) where
   -- the spin of the system t at the site i before a move of the members, which b tells of
   abbrev was : (t i : ℕ) → Placed (group .len) (member group) t ⊎ Unplaced (group .len) (member group) t → Bool → ℤ
   was t i (inl r) true = shown (getD olds i 0) (r .0)

@@ -305,7 +305,7 @@ pub fn bring_listed(
     totals: &mut [i64],
 )
     requires { ⌜ Bringable (latticeFor t (now fwd) (now bwd) (now couplings)) (t .group) (now totals) ⌝ }
-    requires { ⌜ Spun (latticeFor t (now fwd) (now bwd) (now couplings)) (now spins) ⌝ }
+    requires { ⌜ Spun (latticeFor t (now fwd) (now bwd) (now couplings)) (t .group) (now spins) ⌝ }
     requires { ⌜ Listing (t .n) (t .group) (now spins) (now members) (now list) len (now olds) (now news) ⌝ }
     ensures { λ _. ⌜ BringsListed
         (latticeFor t (now (fwd .entry)) (now (bwd .entry)) (now (couplings .entry))) (t .group) (now (spins .entry)) (now (members .entry))

@@ -2,6 +2,7 @@
 mod Told
 mod Packed
 mod Swept
+mod Teams
 mod Written
 mod Listed
 mod Numbered

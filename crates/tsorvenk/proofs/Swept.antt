@@ -37,10 +37,16 @@ counts-told a ts i m h e l =
 -- ---- without room for the counts
 module _ (k : Keeps) (coded : Bool) (w : Sweep) where
   plan-fits : Fits coded w → FitsPlan coded (planOf k w)
-  plan-fits h = record { planned = record { ranged = h .ranged .ranged; all = h .ranged .all; enough = h .ranged .enough }; five = h .five }
+  plan-fits h = let r = h .ranged in record {
+    planned = record { ranged = r .ranged; few = r .few; some = r .some; all = r .all; enough = r .enough };
+    five = h .five;
+  }
 
   sweep-fits : FitsPlan coded (planOf k w) → Fits coded w
-  sweep-fits h = record { ranged = record { ranged = h .planned .ranged; all = h .planned .all; enough = h .planned .enough }; five = h .five }
+  sweep-fits h = let p = h .planned in record {
+    ranged = record { ranged = p .ranged; few = p .few; some = p .some; all = p .all; enough = p .enough };
+    five = h .five;
+  }
 
   roomless-at : (l : WithOutcomes) (r : ℕ) → (length (l .outcomes) ≡ 3 → ⊥) → Roomless coded (planOf k w) r → Uncounted coded w l r l
   roomless-at l r n (inl v) = record { why = inl ((λ h. v .0 (plan-fits h)), sym (v .1)); kept = refl }
@@ -48,13 +54,14 @@ module _ (k : Keeps) (coded : Bool) (w : Sweep) where
   roomless-at l r n (inr (v, inr h)) = record { why = inr (sweep-fits v, inr (h .0, inl (n, sym (h .1)))); kept = refl }
 
 -- the mode and the form that were made of the lent numbers; what is kept is no part of a sweep
-module _ {n d s t r members : ℕ} {fwd bwd pins : List ℕ} {couplings : List ℤ} {order masks : List ℕ} {temperatures cuts : List Float}
+module _ {n d s systems t r members : ℕ} {fwd bwd pins : List ℕ} {couplings : List ℤ} {order masks : List ℕ} {temperatures cuts : List Float}
     {references seeds greys : List ℕ} (flips perms : List ℕ) (k k′ : Keeps) {m m′ : Mode} {f f′ : Form} where
   pub same-sweep : m ≡ m′ → f ≡ f′
-      → sweepOf (planFor m f k n d s t r members) fwd bwd pins couplings order masks temperatures cuts references seeds (takenOf m flips perms) greys
-      ≡ sweepOf (planFor m′ f′ k′ n d s t r members) fwd bwd pins couplings order masks temperatures cuts references seeds (takenOf m′ flips perms) greys
+      → sweepOf (planFor m f k n d s systems t r members) fwd bwd pins couplings order masks temperatures cuts references seeds (takenOf m flips perms) greys
+      ≡ sweepOf (planFor m′ f′ k′ n d s systems t r members) fwd bwd pins couplings order masks temperatures cuts references seeds
+      (takenOf m′ flips perms) greys
   same-sweep em ef = λ i.
-      sweepOf (planFor (em i) (ef i) k n d s t r members) fwd bwd pins couplings order masks temperatures cuts references seeds
+      sweepOf (planFor (em i) (ef i) k n d s systems t r members) fwd bwd pins couplings order masks temperatures cuts references seeds
       (takenOf (em i) flips perms) greys
 
 pub uncoded-sweep :

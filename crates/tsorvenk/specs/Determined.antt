@@ -16,7 +16,7 @@ use Rattle.paper.specs.Refusal.Verdict.{Verdict, verdict-unique}
 use Rattle.paper.specs.Answer.Number.{sweepValues, meterValues}
 use Rattle.paper.specs.Answer.Meter.{meter-determined}
 use Rattle.paper.specs.Answer.Task.{Sweep}
-use Rattle.paper.specs.Answer.Totals.{handOverRules}
+use Rattle.paper.specs.Answer.Team.{Team, Owned, read, readCall, readSweep, handOverRules}
 use Rattle.laws.specs.KeepDetermined.{SameSweepKept}
 use Rattle.label.specs.Entry.{Request, Lent}
 use Rattle.label.specs.Determined.{components-determined}
@@ -37,6 +37,7 @@ use Rattle.orders.specs.declared.Numbered.{Numbered}
 use Rattle.orders.specs.Answers.{values, RowAnswers}
 use Rattle.orders.specs.Determined.{row-of-determined, number-of-determined}
 use Rattle.coded.specs.Takes.{numbersBy}
+use Rattle.laws.specs.Owners.{owned-both}
 use Rattle.coded.specs.Determined.{overlap-step-by-determined, overlap-update-by-determined}
 use Rattle.coded.specs.Determined.{packed-step-by-determined}
 use Rattle.packing.specs.Answer.{PackAnswers, UnpackAnswers}
@@ -64,12 +65,12 @@ module _ {A B : Type 0} {numberBy : A → ℕ} {P Q : A → Type 0} {r r′ : �
   same-returned : (f : Returned numberBy P r) (g : Returned numberBy Q r′) → Same (f .answer) (g .answer) y z → Same r r′ y z
   same-returned f g s = record { answer = f .number ∙ (ap numberBy (s .answer) ∙ sym (g .number)); buffers = s .buffers }
 
-pub tsorvenk-step-determined :
+step-determined :
     (mode form coding keeps : ℕ) (c : Call) (p : Choices) (l y z : WithTotals) (r r′ : ℕ)
     → StepAnswers mode form coding keeps c p l r y
     → StepAnswers mode form coding keeps c p l r′ z
     → Same r r′ y z
-tsorvenk-step-determined mode form coding keeps c p l y z r r′ f g = go (coded mode form coding keeps)
+step-determined mode form coding keeps c p l y z r r′ f g = go (coded mode form coding keeps)
   where
     go : Dec (Coded mode form coding keeps) → Same r r′ y z
     go (yes k) =
@@ -135,8 +136,8 @@ module _
             }
 
 pub tsorvenk-hand-over-determined :
-    (g : Lattice) (xs ts : List ℤ) (r r′ : ℕ) → Verdict (handOverRules g xs ts) r → Verdict (handOverRules g xs ts) r′ → r ≡ r′
-tsorvenk-hand-over-determined g xs ts = verdict-unique (handOverRules g xs ts)
+    (o : Team) (g : Lattice) (xs ts : List ℤ) (r r′ : ℕ) → Verdict (handOverRules o g xs ts) r → Verdict (handOverRules o g xs ts) r′ → r ≡ r′
+tsorvenk-hand-over-determined o g xs ts = verdict-unique (handOverRules o g xs ts)
 
 module _ (t : Lattice) (xs : List ℤ) (k : ℕ) (es y z : List ℤ) where
   -- what a written energy shows
@@ -158,8 +159,8 @@ module _ (t : Lattice) (xs : List ℤ) (k : ℕ) (es y z : List ℤ) where
       same : Energy e ≡ Energy e′
       same = meter-determined t xs k (Energy e) (Energy e′) (f .answers) (g .answers)
 
-  pub tsorvenk-energy-determined : (r r′ : ℕ) → EnergyAnswers t xs k es r y → EnergyAnswers t xs k es r′ z → Same r r′ y z
-  tsorvenk-energy-determined r r′ f g = same-returned f g (energy-same (f .answer) (g .answer) (f .allowed) (g .allowed))
+  energy-determined : (r r′ : ℕ) → EnergyAnswers t xs k es r y → EnergyAnswers t xs k es r′ z → Same r r′ y z
+  energy-determined r r′ f g = same-returned f g (energy-same (f .answer) (g .answer) (f .allowed) (g .allowed))
 
 pub tsorvenk-label-determined : (q : Request) (b y z : Lent) (r r′ : ℕ) → LabelAnswers q b r y → LabelAnswers q b r′ z → Same r r′ y z
 tsorvenk-label-determined q b y z r r′ f g =
@@ -191,12 +192,12 @@ module _ (coded keeping : Bool) (w : Sweep) (l y z : WithOutcomes) where
         buffers = f .roomless e .kept ∙ sym (g .roomless e .kept);
       }
 
-pub tsorvenk-sweep-determined :
+sweep-determined :
     (mode form coding keeps : ℕ) (w : Sweep) (l y z : WithOutcomes) (r r′ : ℕ)
     → SweepNumbers mode form coding keeps w l r y
     → SweepNumbers mode form coding keeps w l r′ z
     → Same r r′ y z
-tsorvenk-sweep-determined mode form coding keeps w l y z r r′ f g = go (coded mode form coding keeps)
+sweep-determined mode form coding keeps w l y z r r′ f g = go (coded mode form coding keeps)
   where
     go : Dec (Coded mode form coding keeps) → Same r r′ y z
     go (yes k) =
@@ -205,6 +206,34 @@ tsorvenk-sweep-determined mode form coding keeps w l y z r r′ f g = go (coded 
       answer = f .unknown k .number ∙ sym (g .unknown k .number);
       buffers = f .unknown k .kept ∙ sym (g .unknown k .kept);
     }
+
+-- ---- a team's calls: an owner test refuses, and everything is as it was lent, or the call is one of the others
+module _ (o : Team) (s : ℕ) {A : Type 0} (l y z : A) (r r′ : ℕ) {P Q : Type 0} (both : P → Q → Same r r′ y z) where
+  owned-same : Owned o s r (y ≡ l) P → Owned o s r′ (z ≡ l) Q → Same r r′ y z
+  owned-same = owned-both (λ _. both) (λ k some e e′ q q′. record { answer = e ∙ sym e′; buffers = q ∙ sym q′ })
+
+pub tsorvenk-step-determined :
+    (o : Team) (mode form coding keeps : ℕ) (c : Call) (p : Choices) (l y z : WithTotals) (r r′ : ℕ)
+    → Owned o (c .lattice .s) r (y ≡ l) (StepAnswers mode form coding keeps (readCall o c) p l r y)
+    → Owned o (c .lattice .s) r′ (z ≡ l) (StepAnswers mode form coding keeps (readCall o c) p l r′ z)
+    → Same r r′ y z
+tsorvenk-step-determined o mode form coding keeps c p l y z r r′ =
+    owned-same o (c .lattice .s) l y z r r′ (step-determined mode form coding keeps (readCall o c) p l y z r r′)
+
+pub tsorvenk-sweep-determined :
+    (o : Team) (mode form coding keeps : ℕ) (w : Sweep) (l y z : WithOutcomes) (r r′ : ℕ)
+    → Owned o (w .lattice .s) r (y ≡ l) (SweepNumbers mode form coding keeps (readSweep o w) l r y)
+    → Owned o (w .lattice .s) r′ (z ≡ l) (SweepNumbers mode form coding keeps (readSweep o w) l r′ z)
+    → Same r r′ y z
+tsorvenk-sweep-determined o mode form coding keeps w l y z r r′ =
+    owned-same o (w .lattice .s) l y z r r′ (sweep-determined mode form coding keeps (readSweep o w) l y z r r′)
+
+pub tsorvenk-energy-determined :
+    (o : Team) (g : Lattice) (xs : List ℤ) (t : ℕ) (es y z : List ℤ) (r r′ : ℕ)
+    → Owned o (g .s) r (y ≡ es) (EnergyAnswers g xs (read o (g .s) t) es r y)
+    → Owned o (g .s) r′ (z ≡ es) (EnergyAnswers g xs (read o (g .s) t) es r′ z)
+    → Same r r′ y z
+tsorvenk-energy-determined o g xs t es y z r r′ = owned-same o (g .s) es y z r r′ (energy-determined g xs (read o (g .s) t) es y z r r′)
 
 -- ---- frames
 pub tsorvenk-frames-determined : (text : List ℕ) (l y z : Framed) (r r′ : ℕ) → FramesNumbers text l r y → FramesNumbers text l r′ z → Same r r′ y z

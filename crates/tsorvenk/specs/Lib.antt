@@ -10,4 +10,6 @@ pub mod Edges
 pub mod Listed
 pub mod Drawing
 pub mod Numbering
+pub mod Isolated
+pub mod SweepIsolated
 pub mod Determined

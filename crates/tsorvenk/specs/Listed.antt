@@ -13,11 +13,12 @@ use Rattle.paper.specs.declared.Answer.the-variants.{Refused, Idle, Held, Moved
 use Rattle.paper.specs.declared.SweepAnswer.the-variants.{Fault}
 use Rattle.paper.specs.Panel.Input.{Lattice, Call, Choices, Buffers, size}
 use Rattle.paper.specs.Refusal.Rule.{Rule, Broken}
-use Rattle.paper.specs.Refusal.Rules.{choiceRules}
+use Rattle.paper.specs.Refusal.Rules.{orderNames, choiceRules}
 use Rattle.paper.specs.Answer.Task.{Sweep, masked, taskCall, taskChoices, tasks}
 use Rattle.paper.specs.Answer.Sweep.{taskRules}
 use Rattle.paper.specs.Answer.Number.{sweepNumber}
-use Rattle.paper.specs.Answer.Totals.{totalsAsk, keptRules, sweptRules, handOverRules}
+use Rattle.paper.specs.Answer.Totals.{totalsAsk, keptRules, sweptRules}
+use Rattle.paper.specs.Answer.Team.{Team, ownerRules, handOverRules}
 use Rattle.label.specs.Entry as entry
 use Rattle.orders.specs.Answers as orders
 use Rattle.coded.specs.Takes.{spelledChoices}
@@ -46,6 +47,13 @@ listed l h = record { low = l; high = h }
 
 first-listed : {k : ℕ} → k ≡ 1 → Listed k
 first-listed e = record { low = omega arith; high = omega arith }
+
+-- ---- the owner tests, before a team's call
+pub owners-listed : (o : Team) (s r : ℕ) → Broken (ownerRules o s) r → Listed r
+owners-listed o s r h = broken-listed (ownerRules o s) r all h
+  where
+    all : AllListed (ownerRules o s)
+    all = search (listed, arith)
 
 -- ---- a step
 module _ (coded keeping : Bool) (c : Call) (p : Choices) (b : Buffers) (ts : List ℤ) (b′ : Buffers) (ts′ : List ℤ) where
@@ -108,10 +116,10 @@ tasks-listed w b (suc k) =
 swept-listed : (keeping : Bool) (w : Sweep) (b : Buffers) (ts : List ℤ) → AllListed (sweptRules keeping w b ts)
 swept-listed keeping w b ts = search (listed, arith, rest)
   where
-    last : AllListed (totalsAsk keeping (w .lattice) ts .last)
+    last : AllListed (totalsAsk keeping (w .lattice) (orderNames (w .order)) ts .last)
     last = search (listed, arith)
 
-    rest : AllListed (taskRules w b (tasks w) ++ totalsAsk keeping (w .lattice) ts .last)
+    rest : AllListed (taskRules w b (tasks w) ++ totalsAsk keeping (w .lattice) (orderNames (w .order)) ts .last)
     rest = append-listed (taskRules w b (tasks w)) _ (tasks-listed w b (tasks w)) last
 
 pub sweep-listed : (coded keeping : Bool) (w : Sweep) (l l′ : WithOutcomes) (r : ℕ) → Counted coded keeping w l (Fault r) l′ → Listed r
@@ -131,10 +139,10 @@ roomless-listed coded w l l′ r h = broken-listed (outcomeRules coded w l) r al
     all = search (listed, arith)
 
 -- ---- the hand-over
-pub hand-over-listed : (g : Lattice) (xs ts : List ℤ) (r : ℕ) → Broken (handOverRules g xs ts) r → Listed r
-hand-over-listed g xs ts r h = broken-listed (handOverRules g xs ts) r all h
+pub hand-over-listed : (o : Team) (g : Lattice) (xs ts : List ℤ) (r : ℕ) → Broken (handOverRules o g xs ts) r → Listed r
+hand-over-listed o g xs ts r h = broken-listed (handOverRules o g xs ts) r all h
   where
-    all : AllListed (handOverRules g xs ts)
+    all : AllListed (handOverRules o g xs ts)
     all = search (listed, arith)
 
 -- ---- permutations of five and their numbers

@@ -26,14 +26,15 @@ use Rattle.coded.specs.Sweep.{SweepCodedAnswers}
 use Rattle.tsorvenk.specs.Number.{Coded, codingOf, keepsOf, Returned, valuesTo}
 
 -- the sweep's numbers
-abbrev pub planFor : Mode → Form → Keeps → ℕ → ℕ → ℕ → ℕ → ℕ → ℕ → Plan
-planFor mode form keeps n d s t r members = record {
+abbrev pub planFor : Mode → Form → Keeps → ℕ → ℕ → ℕ → ℕ → ℕ → ℕ → ℕ → Plan
+planFor mode form keeps n d s systems t r members = record {
   mode = mode;
   form = form;
   keeps = keeps;
   n = n;
   d = d;
   s = s;
+  systems = systems;
   t = t;
   r = r;
   members = members;

@@ -4,6 +4,7 @@ mod drawing;
 mod framing;
 mod listing;
 mod numbering;
+mod owned;
 mod sweeping;
 
 use coded::Coding;
@@ -22,8 +23,6 @@ ghost use lib.ListN.{getD};
 ghost use Rattle.lemmas.specs.Tells.{Tells};
 ghost use Rattle.label.specs.Entry.{labellingNumber};
 ghost use Rattle.paper.specs.Panel.Made.{latticeOf, callOf, choicesOf, buffersOf};
-ghost use Rattle.paper.specs.Refusal.Verdict.{Verdict};
-ghost use Rattle.paper.specs.Answer.Totals.{handOverRules};
 ghost use Rattle.steps.specs.Rule.{taskOf};
 ghost use Rattle.tsorvenk.specs.Number.{Coded, modeOf, formOf, codingOf, keepsOf, groupOf, takenOf, numberOf};
 ghost use Rattle.tsorvenk.specs.Step.{withTotals, StepAnswers};
@@ -126,10 +125,9 @@ fn number_of(answer: Answer) -> u8
     }
 }
 
-// One move or observation. The length of `group` is the number of its systems. Of `flips` and `perms` the mode takes one, and the other is ignored;
-// and so are the totals where they are not kept. The coding says whether `perms` has rows or numbers.
-#[no_mangle]
-pub extern "C" fn tsorvenk_step<'a>(
+// One move or observation of a group. Of `flips` and `perms` the mode takes one, and the other is ignored; and so are the totals where they are not
+// kept. The coding says whether `perms` has rows or numbers.
+fn step<'a>(
     mode: u8,
     form: u8,
     coding: u8,
@@ -143,7 +141,7 @@ pub extern "C" fn tsorvenk_step<'a>(
     bwd: &[u32],
     pins: &[u8],
     couplings: &[i32],
-    group: &[u32],
+    group: Group,
     temperature: f32,
     cuts: &[f32],
     reference: usize,
@@ -160,7 +158,7 @@ pub extern "C" fn tsorvenk_step<'a>(
     grey_found: &mut [u32],
 ) -> u8
     ensures { λ r. ⌜ StepAnswers mode form coding keeps
-        (callOf (taskOf (modeOf mode) (formOf form) (keepsOf keeps) n d s (groupOf (now (group .entry))) temperature reference seed)
+        (callOf (taskOf (modeOf mode) (formOf form) (keepsOf keeps) n d s group temperature reference seed)
         (now (fwd .entry)) (now (bwd .entry)) (now (pins .entry)) (now (couplings .entry)) (now (cuts .entry)))
         (choicesOf (takenOf (modeOf mode) (now (flips .entry)) (now (perms .entry))) (now (greys .entry)))
         (withTotals (buffersOf (now (spins .entry)) (now (labels .entry)) (now («grey_labels» .entry)) (now (counts .entry)) (now (sizes .entry))
@@ -180,7 +178,7 @@ pub extern "C" fn tsorvenk_step<'a>(
         n,
         d,
         s,
-        group: group_of(group),
+        group,
         temperature,
         reference,
         seed,
@@ -208,28 +206,8 @@ pub extern "C" fn tsorvenk_step<'a>(
     number_of(answer)
 }
 
-// The first hand-over of totals: 0, or the number of the first test that fails. Nothing is written.
-#[no_mangle]
-pub extern "C" fn tsorvenk_hand_over(
-    n: usize,
-    d: usize,
-    s: usize,
-    spins: &[i8],
-    totals: &[i64],
-    fwd: &[u32],
-    bwd: &[u32],
-    couplings: &[i32],
-) -> u8
-    ensures { λ r. ⌜ Verdict
-        (handOverRules (latticeOf n d s (now (fwd .entry)) (now (bwd .entry)) (now (couplings .entry))) (now (spins .entry)) (now (totals .entry)))
-        r ⌝ }
-{
-    meter::hand_over(n, d, s, spins, totals, fwd, bwd, couplings)
-}
-
 // The energy of one system, into a buffer of one number.
-#[no_mangle]
-pub extern "C" fn tsorvenk_energy(
+fn metered(
     n: usize,
     d: usize,
     s: usize,

@@ -124,7 +124,8 @@ pub enum MeterAnswer {
     Refused(u8),
 }
 
-/// One move of one group. A buffer that the mode and form do not take may have any length and content.
+/// One move of one group. A buffer that the mode and form do not take may have any length and content. An owner byte says whose a system is, and `team`
+/// who calls (12/14).
 pub struct Step<'a> {
     pub mode: Mode,
     pub form: Form,
@@ -133,6 +134,8 @@ pub struct Step<'a> {
     pub n: usize,
     pub d: usize,
     pub s: usize,
+    pub team: u8,
+    pub owners: &'a [u8],
     pub spins: &'a mut [i8],
     pub totals: &'a mut [i64],
     pub fwd: &'a [u32],
@@ -157,7 +160,7 @@ pub struct Step<'a> {
 }
 
 impl<'a> Step<'a> {
-    /// The same move as a sweep of one group at one temperature; `sites` are its reference and its seed.
+    /// The same move as a sweep of one group at one temperature, for a side that knows no owners; `sites` are its reference and its seed.
     pub fn as_sweep(self, temperature: &'a [f32; 1], sites: &'a [u32; 2]) -> Sweep<'a> {
         Sweep {
             mode: self.mode,
@@ -167,9 +170,11 @@ impl<'a> Step<'a> {
             n: self.n,
             d: self.d,
             s: self.s,
+            team: self.team,
             t: 1,
             r: self.group.len(),
             members: self.group.len(),
+            owners: self.owners,
             spins: self.spins,
             totals: self.totals,
             fwd: self.fwd,
@@ -205,9 +210,11 @@ pub struct Sweep<'a> {
     pub n: usize,
     pub d: usize,
     pub s: usize,
+    pub team: u8,
     pub t: usize,
     pub r: usize,
     pub members: usize,
+    pub owners: &'a [u8],
     pub spins: &'a mut [i8],
     pub totals: &'a mut [i64],
     pub fwd: &'a [u32],
@@ -237,6 +244,8 @@ pub struct Meter<'a> {
     pub n: usize,
     pub d: usize,
     pub s: usize,
+    pub team: u8,
+    pub owners: &'a [u8],
     pub spins: &'a [i8],
     pub fwd: &'a [u32],
     pub bwd: &'a [u32],
@@ -244,11 +253,13 @@ pub struct Meter<'a> {
     pub system: usize,
 }
 
-/// Totals, to be held to the energy of each system.
+/// Totals, to be held to the energy of each system of the team.
 pub struct HandOver<'a> {
     pub n: usize,
     pub d: usize,
     pub s: usize,
+    pub team: u8,
+    pub owners: &'a [u8],
     pub spins: &'a [i8],
     pub totals: &'a [i64],
     pub fwd: &'a [u32],

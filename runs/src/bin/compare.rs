@@ -11,14 +11,16 @@
 //! small shapes have all of them where there are not too many; the Rust, which knows none, is then held to the call without pins
 //! that must give the same, where there is one. Every single move, damaged or not, is made again on its group's bytes, by numbers
 //! too, and held to what the rows gave; as many more are on bytes with faults of their own, and are held to the move on the rows
-//! that these bytes stand for. Last come days that keep totals, a thousand calls each on one panel, some of them on bytes, with
-//! pins that change from call to call, one day for every 50 cases.
+//! that these bytes stand for. As many moves and sweeps more are made on a panel that another team's systems share, twice, with
+//! rubbish in every row and total that the call does not name, and held to the call of a team that has the panel for itself; then
+//! they are damaged. Last come days that keep totals, a thousand calls each on one panel, some of them on bytes, with pins that
+//! change from call to call, every second one of two teams, whose calls are mixed; one day for every 50 cases.
 use calls::{Coding, Form, Mode, Port};
 use std::process::ExitCode;
 use tsorvenk_runs::compare::{self, keep, Found, Line};
 use tsorvenk_runs::make::{self, Size};
 use tsorvenk_runs::rand::Rand;
-use tsorvenk_runs::{damage, days, exhaustive, port};
+use tsorvenk_runs::{damage, days, exhaustive, port, teams};
 
 struct Run {
     cases: u64,
@@ -135,6 +137,26 @@ impl Run {
         self.note(found);
     }
 
+    /// A move and a sweep among another team's systems, and then damaged.
+    fn teams(&mut self, mode: Mode, form: Form, number: u64, line: &mut Line) {
+        let mut rand = self.rand(mode, form, 5, number);
+        let size = Size::mixed(&mut rand);
+        let case = make::single(&mut rand, mode, form, size);
+        let found = compare::shared_single(&case, &mut rand, self.port.as_mut(), line);
+        self.note(found);
+        let mut among = teams::around_single(&mut rand, &case).single(&case);
+        damage::single(&mut rand, &mut among);
+        let found = compare::damaged_single(&among, self.port.as_mut(), line);
+        self.note(found);
+        let case = make::swept(&mut rand, mode, form, size);
+        let found = compare::shared_swept(&case, &mut rand, self.port.as_mut(), line);
+        self.note(found);
+        let mut among = teams::around_swept(&mut rand, &case).swept(&case);
+        damage::swept(&mut rand, &mut among);
+        let found = compare::damaged_sweep(&among, self.port.as_mut(), line);
+        self.note(found);
+    }
+
     fn days(&mut self) -> days::Tally {
         let mut tally = days::Tally::default();
         for number in 0..self.cases.div_ceil(50) {
@@ -155,6 +177,7 @@ impl Run {
             self.single(mode, form, number, &mut line);
             self.sweep(mode, form, number, &mut line);
             self.packed(mode, form, number, &mut line);
+            self.teams(mode, form, number, &mut line);
             if number % 2 == 0 && Coding::Numbers.numbers(mode, form) {
                 self.of_five(mode, form, number, &mut line);
             }
@@ -172,7 +195,7 @@ fn print(mode: Mode, form: Form, line: &Line) {
         Rust: labelled {:6} depth first {:6} acting sites {:6} | beside Wolff {:6} | odd N {:5} idle {:6} | \
         pinned {:6} released {:6} held {:6} | port {:6} | damaged {:6} refused {:?} | \
         by number {:5} not of five {:6} | as pair {:6} houd of more {:5} | \
-        packed {:6} with own faults {:5} layouts {:?} | totals kept {:6} handed over {:?} | differences {}",
+        packed {:6} with own faults {:5} layouts {:?} | two teams {:6} | totals kept {:6} handed over {:?} | differences {}",
         mode.name(),
         form.name(),
         line.singles,
@@ -197,6 +220,7 @@ fn print(mode: Mode, form: Form, line: &Line) {
         line.packed,
         line.packed_damaged,
         line.layouts,
+        line.shared,
         line.kept,
         line.handed,
         line.differences,
@@ -205,10 +229,12 @@ fn print(mode: Mode, form: Form, line: &Line) {
 
 fn print_days(tally: &days::Tally) {
     println!(
-        "days of {} calls {:4} | moved {:6} idle {:5} held {:5} observed {:5} swept {:6} held tasks {:6} by number {:5} packed {:6} refused {:?} | \
-        differences {}",
+        "days of {} calls {:4}, of two teams {:4} with {:6} good calls of the second | moved {:6} idle {:5} held {:5} \
+        observed {:5} swept {:6} held tasks {:6} by number {:5} packed {:6} refused {:?} | differences {}",
         days::CALLS,
         tally.days,
+        tally.shared,
+        tally.of_other,
         tally.moved,
         tally.idle,
         tally.held,

@@ -1,7 +1,7 @@
 //! Calls by rows made again by numbers (8/14): the Rust knows no numbers, so they are held to what the call by rows gave.
 use super::{differ, differ_lent, report, Line};
 use crate::case::{Lent, Panel, Single, Swept};
-use crate::model::Model;
+use crate::model::{owner_refusal, Model};
 use calls::{Answer, Coding, Port, SweepAnswer};
 use std::fmt::Debug;
 
@@ -43,7 +43,12 @@ impl Line {
     }
 }
 
-/// The same move by numbers: what the rows gave, or 1 where the group is not of five.
+/// A group by numbers that is not of five is 1, before which come the owners alone.
+fn not_of_five(panel: &Panel) -> u8 {
+    owner_refusal(panel).unwrap_or(1)
+}
+
+/// The same move by numbers: what the rows gave, or a refusal where the group is not of five.
 pub fn single(
     case: &Single,
     by_rows: (Answer, &Lent),
@@ -56,7 +61,7 @@ pub fn single(
     line.count_coded(case.group.len());
     let expected = match case.group.len() {
         5 => by_rows,
-        _ => (Answer::Refused(1), &case.lent),
+        _ => (Answer::Refused(not_of_five(&case.panel)), &case.lent),
     };
     hold(WHAT, &case.by_number(), expected, port, Single::run)
 }
@@ -74,7 +79,7 @@ pub fn swept(
     line.count_coded(case.members);
     let expected = match case.members {
         5 => by_rows,
-        _ => (SweepAnswer::Refused(1), &case.lent),
+        _ => (SweepAnswer::Refused(not_of_five(&case.panel)), &case.lent),
     };
     hold(WHAT, &case.by_number(), expected, port, Swept::run)
 }

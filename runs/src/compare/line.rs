@@ -32,6 +32,8 @@ pub struct Line {
     pub packed_damaged: usize,
     /// What the model answers where rows or columns with faults are packed or unpacked, by number.
     pub layouts: [usize; 4],
+    /// Calls on a panel of two teams, each held to the call where its team has the panel for itself.
+    pub shared: usize,
     /// Calls that keep totals.
     pub kept: usize,
     /// What the model answers to a hand-over of the panel, good or damaged, by number.

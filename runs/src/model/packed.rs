@@ -65,6 +65,8 @@ impl<'a> Group<'a> {
             n: call.n,
             d: call.d,
             s: call.members,
+            team: 0,
+            owners: &[],
             spins: &[],
             fwd: call.fwd,
             bwd: call.bwd,
@@ -245,7 +247,7 @@ fn refusal(call: &PackedStep) -> Option<u8> {
     let drawn: &[f32] = if draws { &temperature } else { &[] };
     panel_refusal(panel, call.pins, &[], draws || keeping, drawn)
         .or_else(|| task_refusal(panel, &group.task, |i| group.acts(i)))
-        .or_else(|| totals_refusal(keeping, call.totals))
+        .or_else(|| totals_refusal(keeping, call.totals, &group.task.group))
 }
 
 pub fn step(call: PackedStep) -> Answer {
@@ -257,8 +259,9 @@ pub fn step(call: PackedStep) -> Answer {
     let (done, after) = group.done();
     let [energies_before, energies_after] =
         [group.bytes, &after].map(|bytes| group.energies(keeping, bytes));
+    let members: Vec<usize> = (0..call.members).collect();
     call.columns.copy_from_slice(&after);
-    bring(call.totals, &energies_before, &energies_after);
+    bring(call.totals, &members, &energies_before, &energies_after);
     done.write(Areas {
         labels: call.labels,
         grey_labels: call.grey_labels,

@@ -1,4 +1,5 @@
-//! The refusal tests, each by itself; the calls ask them in the order of their numbers, but for 15, which stands behind 1.
+//! The refusal tests, each by itself; the calls ask them in the order of their numbers, but for 15, which stands behind 1, and behind those of the
+//! owners.
 use super::{Panel, Task};
 use calls::{Coding, Form, Mode};
 
@@ -31,6 +32,13 @@ pub fn spins_refused(spins: &[i8]) -> bool {
     spins.iter().any(|&spin| spin != 1 && spin != -1)
 }
 
+/// Of the systems that a call names test 3 looks at those that are its caller's own (12/14).
+pub fn rows_refused(panel: Panel, named: &[usize]) -> bool {
+    let row = |&system: &usize| &panel.spins[system * panel.n..(system + 1) * panel.n];
+    let mut own = named.iter().filter(|&&system| panel.own(system)).map(row);
+    own.any(spins_refused)
+}
+
 pub fn tables_refused(panel: Panel) -> bool {
     let at = |table: &[u32], i: usize, d: usize| table[i * panel.d + d] as usize;
     let outside = |table: &[u32]| table.iter().any(|&site| site as usize >= panel.n);
@@ -47,11 +55,11 @@ pub fn pins_refused(pins: &[u8]) -> bool {
     pins.iter().any(|&pin| pin != 0 && pin != 1)
 }
 
-pub fn systems_refused(systems: &[usize], s: usize) -> bool {
-    systems
-        .iter()
-        .enumerate()
-        .any(|(k, &system)| system >= s || systems[..k].contains(&system))
+/// A system is one below s that is the caller's own, and stands once.
+pub fn systems_refused(panel: Panel, systems: &[usize]) -> bool {
+    systems.iter().enumerate().any(|(k, &system)| {
+        system >= panel.s || !panel.own(system) || systems[..k].contains(&system)
+    })
 }
 
 pub fn coupling_refused(couplings: &[i32]) -> bool {
@@ -174,11 +182,11 @@ pub fn panel_refusal(
     couplings_taken: bool,
     temperatures: &[f32],
 ) -> Option<u8> {
-    if spins_refused(panel.spins) {
+    if rows_refused(panel, systems) {
         Some(3)
     } else if tables_refused(panel) || pins_refused(pins) {
         Some(4)
-    } else if systems_refused(systems, panel.s) {
+    } else if systems_refused(panel, systems) {
         Some(5)
     } else if couplings_taken && coupling_refused(panel.couplings) {
         Some(6)

@@ -1,6 +1,7 @@
 //! A single move: its task and its refusals.
 use super::bonds::acts;
 use super::refusals::*;
+use super::teams::owners_refused;
 use super::totals::{totals_length_refused, totals_refusal};
 use super::{systems, Task};
 use calls::Step;
@@ -20,6 +21,9 @@ pub fn single_refusal(call: &Step) -> Option<u8> {
     let (draws, keeping) = (call.mode.draws(), call.keeps.totals(call.form));
     let panel = panel_of!(call);
     let members = call.group.len();
+    if let Some(number) = owners_refused(panel) {
+        return Some(number);
+    }
     if sizes_refused(call.n, call.d, call.s)
         || members_refused(call.mode, members)
         || coding_refused(call.coding.numbers(call.mode, call.form), members)
@@ -37,5 +41,5 @@ pub fn single_refusal(call: &Step) -> Option<u8> {
     let task = single_task(call);
     panel_refusal(panel, call.pins, &task.group, draws || keeping, drawn)
         .or_else(|| task_refusal(panel, &task, |i| acts(panel, &task, i)))
-        .or_else(|| totals_refusal(keeping, call.totals))
+        .or_else(|| totals_refusal(keeping, call.totals, &task.group))
 }

@@ -1,6 +1,7 @@
 //! A sweep: its tasks and its refusals.
 use super::bonds::acts;
 use super::refusals::*;
+use super::teams::owners_refused;
 use super::totals::{totals_length_refused, totals_refusal};
 use super::{systems, Task};
 use calls::Sweep;
@@ -50,7 +51,7 @@ fn sweep_length_refused(call: &Sweep) -> bool {
         .spelt(call.coding, call.members);
     panel_length_refused(panel_of!(call))
         || own_lengths_differ!(exact, call)
-        || call.order.len() != call.s
+        || call.order.len() != call.t * call.r
         || call.masks.len() != call.t
         || (call.mode.draws() && call.temperatures.len() != call.t)
         || differs(exact.references, call.references.len())
@@ -68,11 +69,17 @@ pub fn unmasked(call: &Sweep) -> Vec<usize> {
 pub fn sweep_refusal(call: &Sweep) -> Option<u8> {
     let (draws, keeping) = (call.mode.draws(), call.keeps.totals(call.form));
     let panel = panel_of!(call);
+    if let Some(number) = owners_refused(panel) {
+        return Some(number);
+    }
+    // a sweep is over all systems of its team
     let all = call.t as u128 * call.r as u128;
     if sizes_refused(call.n, call.d, call.s)
         || members_refused(call.mode, call.members)
         || coding_refused(call.coding.numbers(call.mode, call.form), call.members)
-        || all != call.s as u128
+        || all != panel.own_systems().len() as u128
+        || call.t < 1
+        || call.r < 1
         || call.members > call.r
     {
         return Some(1);
@@ -84,20 +91,15 @@ pub fn sweep_refusal(call: &Sweep) -> Option<u8> {
         return Some(2);
     }
     let drawn = if draws { call.temperatures } else { &[] };
-    panel_refusal(
-        panel,
-        call.pins,
-        &systems(call.order),
-        draws || keeping,
-        drawn,
-    )
-    .or_else(|| call.masks.iter().any(|&mask| mask > 1).then_some(9))
-    .or_else(|| {
-        let refusal = |&number: &usize| {
-            let task = sweep_task(call, number);
-            task_refusal(panel, &task, |i| acts(panel, &task, i))
-        };
-        unmasked(call).iter().find_map(refusal)
-    })
-    .or_else(|| totals_refusal(keeping, call.totals))
+    let named = systems(call.order);
+    panel_refusal(panel, call.pins, &named, draws || keeping, drawn)
+        .or_else(|| call.masks.iter().any(|&mask| mask > 1).then_some(9))
+        .or_else(|| {
+            let refusal = |&number: &usize| {
+                let task = sweep_task(call, number);
+                task_refusal(panel, &task, |i| acts(panel, &task, i))
+            };
+            unmasked(call).iter().find_map(refusal)
+        })
+        .or_else(|| totals_refusal(keeping, call.totals, &named))
 }

@@ -42,6 +42,8 @@ pub fn call(mode: Mode, form: Form, fwd: &[u32], rows: &[&str]) -> Single {
             n,
             d: 1,
             s: members,
+            team: 0,
+            owners: vec![0; members],
             fwd: fwd.to_vec(),
             bwd: backward(n, 1, fwd),
             pins: vec![0; n],
@@ -178,6 +180,7 @@ pub fn sweep(mode: Mode, form: Form, t: usize, rows: &[&str]) -> Swept {
     Swept {
         panel: Panel {
             s: rows.len(),
+            owners: vec![0; rows.len()],
             ..base.panel
         },
         t,

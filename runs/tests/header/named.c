@@ -1,6 +1,6 @@
 /* The calls with named fields of include/tsorvenk.h over stand-ins of the exported functions: each field must reach
- * the argument of its name, and a buffer that is left out must get a pointer that is not null, with length 0, but pins that
- * are left out zeros. Then the words of every number, and the room for frames, are printed for the Rust crate to be held to. */
+ * the argument of its name, and a buffer that is left out must get a pointer that is not null, with length 0, but pins and
+ * owners that are left out zeros. Then the words of every number, and the room for frames, are printed for the Rust crate to be held to. */
 #include "tsorvenk.h"
 #include <stdio.h>
 #include <stdlib.h>
@@ -39,18 +39,22 @@ static void held(int so, const char *call, const char *field) {
     held(call.field ? field == call.field && field##_len == call.field##_len \
                     : field != NULL && (uintptr_t)field % sizeof *field == 0 && field##_len == 0, #call, #field)
 
-/* pins that are left out are zeros, n of them or 4096 */
-static int zeros(const uint8_t *pins, size_t pins_len, size_t n) {
+/* a table that is left out is zeros, so many as are wanted or 4096 */
+static int zeros(const uint8_t *bytes, size_t bytes_len, size_t wanted) {
     size_t k;
-    for (k = 0; pins && k < pins_len && !pins[k];)
+    for (k = 0; bytes && k < bytes_len && !bytes[k];)
         k++;
-    return pins && k == pins_len && pins_len == (n < 4096 ? n : 4096);
+    return bytes && k == bytes_len && bytes_len == (wanted < 4096 ? wanted : 4096);
 }
 
-#define PINS(call) \
-    held(call.pins ? pins == call.pins && pins_len == call.pins_len : zeros(pins, pins_len, call.n), #call, "pins")
+#define BYTES(call, field, number) \
+    held(call.field ? field == call.field && field##_len == call.field##_len : zeros(field, field##_len, call.number), \
+        #call, #field)
+#define PINS(call) BYTES(call, pins, n)
+#define OWNERS(call) NUMBER(call, team), BYTES(call, owners, s)
 
 uint8_t tsorvenk_step(uint8_t mode, uint8_t form, uint8_t coding, uint8_t keeps, size_t n, size_t d, size_t s,
+    uint8_t team, const uint8_t *owners, size_t owners_len,
     int8_t *spins, size_t spins_len, int64_t *totals, size_t totals_len,
     const uint32_t *fwd, size_t fwd_len, const uint32_t *bwd, size_t bwd_len, const uint8_t *pins, size_t pins_len,
     const int32_t *couplings, size_t couplings_len, const uint32_t *group, size_t group_len,
@@ -63,7 +67,7 @@ uint8_t tsorvenk_step(uint8_t mode, uint8_t form, uint8_t coding, uint8_t keeps,
     NUMBER(step, mode), NUMBER(step, form), NUMBER(step, coding), NUMBER(step, keeps);
     NUMBER(step, n), NUMBER(step, d), NUMBER(step, s), BUFFER(step, totals);
     NUMBER(step, temperature), NUMBER(step, reference), NUMBER(step, seed);
-    PINS(step);
+    PINS(step), OWNERS(step);
     BUFFER(step, spins), BUFFER(step, fwd), BUFFER(step, bwd), BUFFER(step, couplings), BUFFER(step, group);
     BUFFER(step, cuts), BUFFER(step, flips), BUFFER(step, perms), BUFFER(step, greys);
     BUFFER(step, labels), BUFFER(step, grey_labels), BUFFER(step, counts), BUFFER(step, sizes);
@@ -72,7 +76,8 @@ uint8_t tsorvenk_step(uint8_t mode, uint8_t form, uint8_t coding, uint8_t keeps,
 }
 
 uint8_t tsorvenk_sweep(uint8_t mode, uint8_t form, uint8_t coding, uint8_t keeps, size_t n, size_t d, size_t s,
-    size_t t, size_t r, size_t members, int8_t *spins, size_t spins_len, int64_t *totals, size_t totals_len,
+    uint8_t team, size_t t, size_t r, size_t members, const uint8_t *owners, size_t owners_len,
+    int8_t *spins, size_t spins_len, int64_t *totals, size_t totals_len,
     const uint32_t *fwd, size_t fwd_len, const uint32_t *bwd, size_t bwd_len, const uint8_t *pins, size_t pins_len,
     const int32_t *couplings, size_t couplings_len, const uint32_t *order, size_t order_len,
     const uint8_t *masks, size_t masks_len, const float *temperatures, size_t temperatures_len,
@@ -87,7 +92,7 @@ uint8_t tsorvenk_sweep(uint8_t mode, uint8_t form, uint8_t coding, uint8_t keeps
     NUMBER(sweep, mode), NUMBER(sweep, form), NUMBER(sweep, coding), NUMBER(sweep, keeps);
     NUMBER(sweep, n), NUMBER(sweep, d), NUMBER(sweep, s), BUFFER(sweep, totals);
     NUMBER(sweep, t), NUMBER(sweep, r), NUMBER(sweep, members);
-    PINS(sweep);
+    PINS(sweep), OWNERS(sweep);
     BUFFER(sweep, spins), BUFFER(sweep, fwd), BUFFER(sweep, bwd), BUFFER(sweep, couplings), BUFFER(sweep, order);
     BUFFER(sweep, masks), BUFFER(sweep, temperatures), BUFFER(sweep, cuts), BUFFER(sweep, references);
     BUFFER(sweep, seeds), BUFFER(sweep, flips), BUFFER(sweep, perms), BUFFER(sweep, greys);
@@ -127,20 +132,22 @@ uint8_t tsorvenk_packed_step(uint8_t mode, uint8_t form, uint8_t coding, uint8_t
     return 122;
 }
 
-uint8_t tsorvenk_energy(size_t n, size_t d, size_t s,
+uint8_t tsorvenk_energy(size_t n, size_t d, size_t s, uint8_t team, const uint8_t *owners, size_t owners_len,
     const int8_t *spins, size_t spins_len, const uint32_t *fwd, size_t fwd_len, const uint32_t *bwd, size_t bwd_len,
     const int32_t *couplings, size_t couplings_len, size_t system, int64_t *energy, size_t energy_len) {
     NUMBER(energy_of, n), NUMBER(energy_of, d), NUMBER(energy_of, s), NUMBER(energy_of, system);
+    OWNERS(energy_of);
     BUFFER(energy_of, spins), BUFFER(energy_of, fwd), BUFFER(energy_of, bwd), BUFFER(energy_of, couplings);
     BUFFER(energy_of, energy);
     return 103;
 }
 
-uint8_t tsorvenk_hand_over(size_t n, size_t d, size_t s,
+uint8_t tsorvenk_hand_over(size_t n, size_t d, size_t s, uint8_t team, const uint8_t *owners, size_t owners_len,
     const int8_t *spins, size_t spins_len, const int64_t *totals, size_t totals_len,
     const uint32_t *fwd, size_t fwd_len, const uint32_t *bwd, size_t bwd_len,
     const int32_t *couplings, size_t couplings_len) {
     NUMBER(handed, n), NUMBER(handed, d), NUMBER(handed, s);
+    OWNERS(handed);
     BUFFER(handed, spins), BUFFER(handed, totals), BUFFER(handed, fwd), BUFFER(handed, bwd), BUFFER(handed, couplings);
     return 117;
 }
@@ -258,7 +265,7 @@ int main(void) {
     call_all(); /* everything is left out */
     step = (struct tsorvenk_step_args){
         .mode = 1, .form = 2, .coding = 32, .keeps = 9, .n = 3, .d = 4, .s = 5, .temperature = 6, .reference = 7, .seed = 8,
-        .totals = i64, .totals_len = 24,
+        .team = 33, .owners = u8 + 5, .owners_len = 28, .totals = i64, .totals_len = 24,
         .spins = i8, .spins_len = 10, .fwd = u32, .fwd_len = 11, .bwd = u32 + 1, .bwd_len = 12,
         .couplings = i32, .couplings_len = 13, .group = u32 + 2, .group_len = 14, .cuts = f32, .cuts_len = 15,
         .flips = u8, .flips_len = 16, .perms = u8 + 1, .perms_len = 17, .greys = u8 + 2, .greys_len = 18,
@@ -269,7 +276,7 @@ int main(void) {
     };
     sweep = (struct tsorvenk_sweep_args){
         .mode = 1, .form = 2, .coding = 32, .keeps = 9, .n = 3, .d = 4, .s = 5, .t = 6, .r = 7, .members = 8,
-        .totals = i64, .totals_len = 29,
+        .team = 34, .owners = u8 + 6, .owners_len = 35, .totals = i64, .totals_len = 29,
         .spins = i8, .spins_len = 10, .fwd = u32, .fwd_len = 11, .bwd = u32 + 1, .bwd_len = 12,
         .couplings = i32, .couplings_len = 13, .order = u32 + 2, .order_len = 14, .masks = u8, .masks_len = 15,
         .temperatures = f32, .temperatures_len = 16, .cuts = f32 + 1, .cuts_len = 17,
@@ -298,12 +305,13 @@ int main(void) {
         .found = u32 + 7, .found_len = 25, .grey_found = u32 + 8, .grey_found_len = 26,
     };
     energy_of = (struct tsorvenk_energy_args){
-        .n = 1, .d = 2, .s = 3, .system = 4,
+        .n = 1, .d = 2, .s = 3, .system = 4, .team = 5, .owners = u8, .owners_len = 15,
         .spins = i8, .spins_len = 10, .fwd = u32, .fwd_len = 11, .bwd = u32 + 1, .bwd_len = 12,
         .couplings = i32, .couplings_len = 13, .energy = i64, .energy_len = 14,
     };
     handed = (struct tsorvenk_hand_over_args){
-        .n = 1, .d = 2, .s = 3, .spins = i8, .spins_len = 10, .totals = i64, .totals_len = 11,
+        .n = 1, .d = 2, .s = 3, .team = 4, .owners = u8, .owners_len = 15,
+        .spins = i8, .spins_len = 10, .totals = i64, .totals_len = 11,
         .fwd = u32, .fwd_len = 12, .bwd = u32 + 1, .bwd_len = 13, .couplings = i32, .couplings_len = 14,
     };
     label = (struct tsorvenk_label_args){
@@ -332,10 +340,11 @@ int main(void) {
     step.member_sites = NULL, sweep.member_sites = NULL, reading.text = NULL, writing.written = NULL;
     packing.columns = NULL, unpacking.rows = NULL, packed.columns = NULL, packed.totals = NULL, packed.found = NULL;
     step.pins = NULL, sweep.pins = NULL, packed.pins = NULL;
+    step.owners = NULL, sweep.owners = NULL, energy_of.owners = NULL, handed.owners = NULL;
     call_all(); /* null, and a length beside it */
-    step.n = 4096, sweep.n = 4096, packed.n = 4096;
-    call_all(); /* as many sites as there may be */
-    step.n = 4097, sweep.n = (size_t)-1, packed.n = 4097;
+    step.n = 4096, sweep.n = 4096, packed.n = 4096, step.s = 64, sweep.s = 65, energy_of.s = 4096, handed.s = 0;
+    call_all(); /* as many sites as there may be, and more systems than that */
+    step.n = 4097, sweep.n = (size_t)-1, packed.n = 4097, step.s = 4097, handed.s = (size_t)-1;
     call_all(); /* and more: no more than the table is lent */
     printf("room %d and %d\n", TSORVENK_FRAMES_ROOM, TSORVENK_EDGES_ROOM);
     for (int number = -1; number <= 256; number++)

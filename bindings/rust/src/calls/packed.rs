@@ -28,7 +28,7 @@ pub struct Unpack<'a> {
 }
 
 /// One move or observation of one group of N = `members` systems, lent as a byte for each site: the [`Step`](crate::Step) on the
-/// unpacked rows, with s = N and the group 0, 1 .. N - 1. It answers, writes and refuses the same; 5 does not occur, since no
+/// unpacked rows, with s = N, one owner and the group 0, 1 .. N - 1. It answers, writes and refuses the same; 5 does not occur, since no
 /// system has a number.
 #[derive(Debug, Default)]
 pub struct PackedStep<'a> {

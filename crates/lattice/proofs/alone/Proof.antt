@@ -19,7 +19,7 @@ returns : tie.Need-returns
 returns c =
     let a = c .before .before .args in
     let others = said (c .fresh .result) (Fresh (member (a .group)) (a .k)) (c .fresh .ensures) in
-    same (Alone (a .s) (a .group) (a .k)) (λ h. record { below = h .0; fresh = h .1 }) (λ h. (h .below, h .fresh))
+    same (Alone (a .s) (member (a .group)) (a .k)) (λ h. record { below = h .0; fresh = h .1 }) (λ h. (h .below, h .fresh))
     (both (test-lt (member (a .group) (a .k)) (a .s)) others) .says
 
 pub alone-spec : {M : Type 1} → statement M

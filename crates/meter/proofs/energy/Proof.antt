@@ -7,12 +7,12 @@ use borrow.Author.Needs.{needs}
 use mathlib.Core.List.{[], _∷_}
 use lib.IntN.{ℤ}
 use mir.Syntax.{w64}
-use Rattle.lemmas.specs.Tells.{Tells, passed, refused}
+use Rattle.lemmas.specs.Tells.{Tells, passed, refused, said, same}
 use Rattle.lemmas.specs.Held.{reads, bounded}
 use Rattle.paper.specs.Panel.Input.{Lattice}
-use Rattle.paper.specs.Refusal.Rules.{Sizes, AllSystems, Spins, Inverse}
+use Rattle.paper.specs.Refusal.Rules.{Sizes, oneName, Named, Spins, Inverse}
 use Rattle.paper.specs.Answer.Meter.{MeterExact}
-use Rattle.lattice.specs.Spinning.{all-rows}
+use Rattle.systems.specs.Rows.{spins-of, spins-each}
 use Rattle.paper.specs.Panel.Made.{latticeOf}
 use Rattle.meter.specs.Part.{exact-of, exact-lengths, Sound, sound-row, meter-kept}
 use Rattle.meter.proofs.energy.Statement.{statement}
@@ -47,11 +47,16 @@ sized c = passed (c .before .sizes-ok .result) (c .if1 .left) (c .before .sizes-
 exactly : (c : tie.Else2) → MeterExact (lent (s2 c)) (s2 c .args .spins .now)
 exactly c = exact-of (lent (s2 c)) (s2 c .args .spins .now) (passed (c .before .exact .result) (c .if2 .left) (c .before .exact .ensures))
 
-rows-tell : (c : tie.After-spins-ok) → let a = s2 (c .before) .args in Tells (c .spins-ok .result) (Spins (a .n) (AllSystems (a .s)) (a .spins .now))
-rows-tell c = let a = s2 (c .before) .args in all-rows (a .n) (a .s) (a .spins .now) (exactly (c .before) .spins) (c .spins-ok .result) (c .spins-ok .ensures)
+rows-tell : (c : tie.After-row-ok) → let a = s2 (c .before) .args in
+    Tells (c .row-ok .result) (Spins (a .n) (Named (a .s) (oneName (a .system))) (a .spins .now))
+rows-tell c =
+    let a = s2 (c .before) .args in
+    let names = oneName (a .system) in
+    same (Spins (a .n) (Named (a .s) names) (a .spins .now)) (λ h. spins-of (a .n) (a .s) names (a .spins .now) (λ k l. h))
+    (λ h. spins-each (a .n) (a .s) names (a .spins .now) h 0 (omega arith)) (said (c .row-ok .result) _ (c .row-ok .ensures)) .says
 
-spinning : (c : tie.Else3) → let a = s3 c .args in Spins (a .n) (AllSystems (a .s)) (a .spins .now)
-spinning c = passed (c .before .spins-ok .result) (c .if3 .left) (rows-tell (c .before))
+spinning : (c : tie.Else3) → let a = s3 c .args in Spins (a .n) (Named (a .s) (oneName (a .system))) (a .spins .now)
+spinning c = passed (c .before .row-ok .result) (c .if3 .left) (rows-tell (c .before))
 
 inverse : (c : tie.Else4) → Inverse (s4 c .args .n) (s4 c .args .d) (s4 c .args .fwd .now) (s4 c .args .bwd .now)
 inverse c = passed (c .before .tables-ok .result) (c .if4 .left) (c .before .tables-ok .ensures)
@@ -59,7 +64,7 @@ inverse c = passed (c .before .tables-ok .result) (c .if4 .left) (c .before .tab
 inside : (c : tie.Else6) → s6 c .args .system < s6 c .args .s
 inside c = c .before .before .if5 .left
 
-accepted : (c : tie.Else6) → Sound (lent (s6 c)) (s6 c .args .spins .now)
+accepted : (c : tie.Else6) → let s = s6 c in Sound (lent s) (Named (s .args .s) (oneName (s .args .system))) (s .args .spins .now)
 accepted c =
     let e5 = c .before .before in
     let e4 = e5 .before in
@@ -86,13 +91,15 @@ returns-2 c =
     let wrong = refused (c .before .exact .result) (c .if2 .taken) (c .before .exact .ensures) in
     inr (sized (c .before .before), inl ((λ h. wrong (exact-lengths (lent s) (s .args .spins .now) h)), refl))
 
-spins-ok-requires : tie.Need-spins-ok-requires
-spins-ok-requires c κs = search needs
+row-ok-requires : tie.Need-row-ok-requires
+row-ok-requires c κs =
+    let z = sized (c .before .before) in
+    record { long = exactly c .spins; n-high = z .n-high; s-high = z .s-high }
 
 returns-3 : tie.Need-returns-3
 returns-3 c =
     let e2 = c .before .before in
-    let wrong = refused (c .before .spins-ok .result) (c .if3 .taken) (rows-tell (c .before)) in
+    let wrong = refused (c .before .row-ok .result) (c .if3 .taken) (rows-tell (c .before)) in
     inr (sized (e2 .before .before), inr (exactly e2, inl (wrong, refl)))
 
 tables-ok-requires : tie.Need-tables-ok-requires
@@ -125,14 +132,18 @@ returns-6 c =
     inr (sized (e2 .before .before), inr (exactly e2, inr (spinning e3, inr (inverse e4, inr (e5 .if5 .left, inl (wrong, refl))))))
 
 system-energy-requires : tie.Need-system-energy-requires
-system-energy-requires c κs = let s = s6 c in sound-row (lent s) (s .args .spins .now) (accepted c) (s .args .system) (inside c)
+system-energy-requires c κs =
+    let s = s6 c in
+    let t = s .args .system in
+    sound-row (lent s) (Named (s .args .s) (oneName t)) (s .args .spins .now) (accepted c) t (inside c)
+    (record { place = 0; below = omega arith; is = refl; inside = inside c })
 
 returns-7 : tie.Need-returns-7
 returns-7 c =
     let e = c .before in
     let s = s6 e in
     record {
-      valid = meter-kept (lent s) (s .args .spins .now) (accepted e) (s .args .system) (inside e);
+      valid = meter-kept (lent s) (s .args .spins .now) (s .args .system) (accepted e) (inside e);
       is = ap (λ (z : ℤ). z ∷ []) (reads (bounded w64 (c .system-energy .result) (c .system-energy .ok)) ∙ c .system-energy .ensures);
     }
 
@@ -144,7 +155,7 @@ energy-spec =
     returns
     exact-requires
     returns-2
-    spins-ok-requires
+    row-ok-requires
     returns-3
     tables-ok-requires
     returns-4

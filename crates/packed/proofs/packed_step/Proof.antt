@@ -25,7 +25,7 @@ use Rattle.perform.specs.Verdicts.{verdict-broken, refused-by, ready-of, accept
 use Rattle.packing.specs.Bytes.{rowsOf, Narrow, ownGroup}
 use Rattle.packing.specs.Laws.{rows-long, spins-narrow, rows-columns, rows-written}
 use Rattle.packed.specs.Packed.{ownTask, lentOf}
-use Rattle.packed.specs.Tested.{bytes-long}
+use Rattle.packed.specs.Tested.{bytes-long, spins-own}
 use Rattle.packed.specs.Stepped.{answered-bytes, through-copy, low-of}
 use Rattle.packed.proofs.packed_step.Statement.{statement}
 use Rattle.packed.proofs.packed_step.Tie as tie
@@ -75,7 +75,8 @@ module _ (e : tie.Else1) where
   long = bytes-long (b .args .t .group .len) (b .args .t .n) (now (b .args .columns)) some (valid .sound .exact .spins)
 
   narrow : Narrow (b .args .t .group .len) (now (b .args .columns))
-  narrow = spins-narrow (b .args .t .group .len) (b .args .t .n) (now (b .args .columns)) long some (valid .sound .spins)
+  narrow = spins-narrow (b .args .t .group .len) (b .args .t .n) (now (b .args .columns)) long some
+      (spins-own (ownTask (b .args .t)) refl refl few (rowsAt b) (valid .sound .spins))
 
 -- the outputs that the form that grows does not take
 abbrev others : tie.Start → Outputs

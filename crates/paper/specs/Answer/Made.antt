@@ -13,6 +13,7 @@ sweepOf q fwd bwd pins couplings order masks temperatures cuts references seeds 
   form = q .form;
   lattice = record { n = q .n; d = q .d; s = q .s; fwd = fwd; bwd = bwd; couplings = couplings };
   pins = pins;
+  systems = q .systems;
   t = q .t;
   r = q .r;
   members = q .members;
@@ -35,6 +36,7 @@ planOf keeps w = record {
   n = w .lattice .n;
   d = w .lattice .d;
   s = w .lattice .s;
+  systems = w .systems;
   t = w .t;
   r = w .r;
   members = w .members;

@@ -9,7 +9,7 @@ use Rattle.paper.specs.declared.MeterAnswer.the-variants.{Unmetered, Ene
 use Rattle.paper.specs.Answer.Number.{meterNumber, meterValues}
 use Rattle.paper.specs.Panel.Input.{Lattice}
 use Rattle.paper.specs.Refusal.Rule.{Rule, rule, Broken, broken-unique, broken-not-kept}
-use Rattle.paper.specs.Refusal.Rules.{Sizes, AllSystems, Spins, Inverse, SmallCouplings}
+use Rattle.paper.specs.Refusal.Rules.{Sizes, oneName, Named, Spins, Inverse, SmallCouplings}
 use Rattle.paper.specs.Refusal.Verdict.{Verdict}
 use Rattle.paper.specs.Site.Energy.{energy}
 
@@ -23,7 +23,7 @@ abbrev pub meterRules : Lattice → List ℤ → ℕ → List Rule
 meterRules t xs k =
     rule 1 (Sizes (t .n) (t .d) (t .s))
     ∷ rule 2 (MeterExact t xs)
-    ∷ rule 3 (Spins (t .n) (AllSystems (t .s)) xs)
+    ∷ rule 3 (Spins (t .n) (Named (t .s) (oneName k)) xs)
     ∷ rule 4 (Inverse (t .n) (t .d) (t .fwd) (t .bwd))
     ∷ rule 5 (k < t .s)
     ∷ rule 6 (SmallCouplings (t .couplings))

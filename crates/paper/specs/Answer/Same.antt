@@ -79,6 +79,7 @@ pub record SameSwept (w v : Sweep) : Type 0 where
   pub form : v .form ≡ w .form
   pub panel : SamePanel (w .mode) (w .lattice) (v .lattice)
   pub pins : v .pins ≡ w .pins
+  pub systems : v .systems ≡ w .systems
   pub t : v .t ≡ w .t
   pub r : v .r ≡ w .r
   pub members : v .members ≡ w .members

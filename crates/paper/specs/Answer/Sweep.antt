@@ -14,7 +14,8 @@ use Rattle.paper.specs.Panel.Input.{Call, Buffers, spin, pattern, system
 use Rattle.paper.specs.Panel.Takes.{growsBy, labelsBy, takesCuts, takesChoices, takesGreys, takesGreyLabels, takesReference, takesSeed}
 use Rattle.paper.specs.Panel.Takes.{entries, choiceBytes}
 use Rattle.paper.specs.Refusal.Rule.{Rule, rule, Broken}
-use Rattle.paper.specs.Refusal.Rules.{When, Ranged, HoudOfTwo, AllSystems, Spins, Inverse, Pins, Permutes, SmallCouplings, Warm, choiceRules, More, noMore}
+use Rattle.paper.specs.Refusal.Rules.{When, Ranged, HoudOfTwo, orderNames, Named, Spins, Inverse, Pins, Listed, SmallCouplings, Warm}
+use Rattle.paper.specs.Refusal.Rules.{choiceRules, More, noMore}
 use Rattle.paper.specs.Refusal.Verdict.{Verdict}
 use Rattle.paper.specs.Answer.Number.{sweepNumber, sweepValues}
 use Rattle.paper.specs.Answer.Move.{Answers}
@@ -26,7 +27,9 @@ common w = taskCall w 0
 
 pub record SweepRanged (w : Sweep) : Type 0 where
   pub ranged : Ranged (w .lattice .n) (w .lattice .d) (w .lattice .s) (w .mode) (w .members)
-  pub all : w .t * w .r ≡ w .lattice .s
+  pub few : w .systems ≤ w .lattice .s
+  pub some : 1 ≤ w .t
+  pub all : w .t * w .r ≡ w .systems
   pub enough : w .members ≤ w .r
 
 pub record SweepExact (w : Sweep) (b : Buffers) : Type 0 where
@@ -34,7 +37,7 @@ pub record SweepExact (w : Sweep) (b : Buffers) : Type 0 where
   pub fwd : length (w .lattice .fwd) ≡ w .lattice .n * w .lattice .d
   pub bwd : length (w .lattice .bwd) ≡ w .lattice .n * w .lattice .d
   pub pins : length (w .pins) ≡ w .lattice .n
-  pub order : length (w .order) ≡ w .lattice .s
+  pub order : length (w .order) ≡ w .systems
   pub masks : length (w .masks) ≡ w .t
   pub couplings : When (takesCuts (common w)) (length (w .lattice .couplings) ≡ w .lattice .n * w .lattice .d)
   pub temperatures : When (takesCuts (common w)) (length (w .temperatures) ≡ w .t)
@@ -63,10 +66,10 @@ sharedRules m w b =
     ∷ rule 15 (HoudOfTwo (w .mode) (w .form) (w .members))
     ∷ rule 2 (SweepExact w b)
     ∷ (m .lengths ++ (
-    rule 3 (Spins (w .lattice .n) (AllSystems (w .lattice .s)) (b .spins))
+    rule 3 (Spins (w .lattice .n) (Named (w .lattice .s) (orderNames (w .order))) (b .spins))
     ∷ rule 4 (Inverse (w .lattice .n) (w .lattice .d) (w .lattice .fwd) (w .lattice .bwd))
     ∷ rule 4 (Pins (w .pins))
-    ∷ rule 5 (Permutes (w .lattice .s) (λ k. getD (w .order) k 0))
+    ∷ rule 5 (Listed (w .lattice .s) (orderNames (w .order)))
     ∷ rule 6 (When (takesCuts (common w)) (SmallCouplings (w .lattice .couplings)))
     ∷ (m .couplings ++ (
     rule 7 (When (takesCuts (common w)) ((j : ℕ) → j < w .t → Warm (getD (w .temperatures) j nan)))

@@ -16,12 +16,13 @@ use Rattle.paper.specs.declared.Form.{Form}
 use Rattle.paper.specs.Panel.Input.{Lattice, Call, Choices, Buffers}
 use Rattle.paper.specs.Panel.Takes.{entries, choiceBytes}
 
--- t temperatures of r replicas; groups of `members` systems. The last five are the tasks' areas, at the task's number
+-- t temperatures of r replicas, `systems` of the panel's in all; groups of `members` systems. The last five are the tasks' areas, at the task's number
 pub record Sweep : Type 0 where
   pub mode : Mode
   pub form : Form
   pub lattice : Lattice
   pub pins : List ℕ
+  pub systems : ℕ
   pub t : ℕ
   pub r : ℕ
   pub members : ℕ

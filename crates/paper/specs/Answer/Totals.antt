@@ -14,7 +14,7 @@ use Rattle.paper.specs.Panel.Input.{Lattice, Call, Choices, Buffers, mem
 use Rattle.paper.specs.Site.Energy.{energy}
 use Rattle.paper.specs.Refusal.Rule.{Rule, rule, Broken, Kept}
 use Rattle.paper.specs.Panel.Takes.{takesCuts}
-use Rattle.paper.specs.Refusal.Rules.{When, Sizes, AllSystems, Spins, Inverse, SmallCouplings, Warm, choiceRules, More, rulesWith}
+use Rattle.paper.specs.Refusal.Rules.{When, Names, groupNames, orderNames, Named, SmallCouplings, Warm, choiceRules, More, rulesWith}
 use Rattle.paper.specs.Refusal.Kept.{Valid, valid-of}
 use Rattle.paper.specs.Answer.Number.{number, sweepNumber}
 use Rattle.paper.specs.Answer.Meter.{MeterExact}
@@ -29,33 +29,33 @@ total ts t = getD ts t (pos 0)
 -- ---- refusals
 
 -- 16,384 bonds of at most 1,000,000 each: no meter reaches more
-abbrev pub SmallTotals : List ℤ → Type 0
-SmallTotals ts = (t : ℕ) → t < length ts → natAbs (total ts t) ≤ 16384000000
+abbrev pub SmallTotals : (ℕ → Type 0) → List ℤ → Type 0
+SmallTotals Which ts = (t : ℕ) → Which t → natAbs (total ts t) ≤ 16384000000
 
 -- couplings are taken in every mode, and a total for each system
 pub record TotalLengths (g : Lattice) (ts : List ℤ) : Type 0 where
   pub couplings : length (g .couplings) ≡ g .n * g .d
   pub totals : length ts ≡ g .s
 
--- what a call asks beyond the others where it keeps totals; 14 is last
-abbrev pub totalsAsk : Bool → Lattice → List ℤ → More
-totalsAsk keeping g ts = record {
+-- what a call asks beyond the others where it keeps totals; 14 is last, and of the systems that are named
+abbrev pub totalsAsk : Bool → Lattice → Names → List ℤ → More
+totalsAsk keeping g names ts = record {
   lengths = rule 2 (When keeping (TotalLengths g ts)) ∷ [];
   couplings = rule 6 (When keeping (SmallCouplings (g .couplings))) ∷ [];
-  last = rule 14 (When keeping (SmallTotals ts)) ∷ [];
+  last = rule 14 (When keeping (SmallTotals (Named (g .s) names) ts)) ∷ [];
 }
 
 abbrev pub keptRules : Bool → Call → Choices → Buffers → List ℤ → List Rule
-keptRules keeping c p b ts = rulesWith (totalsAsk keeping (c .lattice) ts) c p b
+keptRules keeping c p b ts = rulesWith (totalsAsk keeping (c .lattice) (groupNames (c .group)) ts) c p b
 
 abbrev pub sweptRules : Bool → Sweep → Buffers → List ℤ → List Rule
-sweptRules keeping w b ts = sweepRulesWith (totalsAsk keeping (w .lattice) ts) w b
+sweptRules keeping w b ts = sweepRulesWith (totalsAsk keeping (w .lattice) (orderNames (w .order)) ts) w b
 
 -- the same by name: all rules are kept just if the others are and these
-pub record TotalsAsked (keeping : Bool) (g : Lattice) (ts : List ℤ) : Type 0 where
+pub record TotalsAsked (keeping : Bool) (g : Lattice) (names : Names) (ts : List ℤ) : Type 0 where
   pub lengths : When keeping (TotalLengths g ts)
   pub couplings : When keeping (SmallCouplings (g .couplings))
-  pub small : When keeping (SmallTotals ts)
+  pub small : When keeping (SmallTotals (Named (g .s) names) ts)
 
 -- what of it one task needs: of the totals, that its own group's are small
 pub record TotalsReady (keeping : Bool) (g : Lattice) (o : Group) (ts : List ℤ) : Type 0 where
@@ -72,15 +72,16 @@ module _ (keeping : Bool) (c : Call) (p : Choices) (b : Buffers) (ts : List ℤ)
       (h .0, (h .1 .0, (h .1 .1 .0, (h .1 .1 .1 .0, tt)))) in
       valid-of c p b (k .0, (k .1 .0, (k .1 .1 .0, (q .0, (q .1 .0, (q .1 .1 .0, (q .1 .1 .1 .0, (q .1 .1 .1 .1 .0, last))))))))
 
-  pub kept-asked : Kept (keptRules keeping c p b ts) → TotalsAsked keeping (c .lattice) ts
+  pub kept-asked : Kept (keptRules keeping c p b ts) → TotalsAsked keeping (c .lattice) (groupNames (c .group)) ts
   kept-asked k =
       let h = k .1 .1 .1 .1 .1 .1 .1 .1 .1 in
       record { lengths = k .1 .1 .1 .0; couplings = h .0; small = h .1 .1 .1 .1 .1 .0 }
 
-  last-kept : Valid c p b → TotalsAsked keeping (c .lattice) ts → Kept (choiceRules c p (b .spins) ++ totalsAsk keeping (c .lattice) ts .last)
+  last-kept : Valid c p b → TotalsAsked keeping (c .lattice) (groupNames (c .group)) ts
+      → Kept (choiceRules c p (b .spins) ++ totalsAsk keeping (c .lattice) (groupNames (c .group)) ts .last)
   last-kept v a = let f = v .fit in (f .cuts, (f .chosen, (f .seeded, (a .small, tt))))
 
-  pub asked-kept : Valid c p b → TotalsAsked keeping (c .lattice) ts → Kept (keptRules keeping c p b ts)
+  pub asked-kept : Valid c p b → TotalsAsked keeping (c .lattice) (groupNames (c .group)) ts → Kept (keptRules keeping c p b ts)
   asked-kept v a =
       let s = v .sound in
       (s .ranged, (s .houd, (s .exact, (a .lengths, (s .spins, (s .inverse, (s .pins, (s .grouped, (s .couplings, (a .couplings, (s .warm, last-kept v a)))))))))))
@@ -134,20 +135,10 @@ SweepKeepAnswers keeping w b ts (Swept idle moved held) b′ ts′ = SweepKeeps 
 
 -- ---- the hand-over
 
--- each total is its system's energy
-abbrev pub Current : Lattice → List ℤ → List ℤ → Type 0
-Current g xs ts = (t : ℕ) → t < g .s → total ts t ≡ energy g xs t
+-- the totals of those systems are their energies
+abbrev pub Current : (ℕ → Type 0) → Lattice → List ℤ → List ℤ → Type 0
+Current Which g xs ts = (t : ℕ) → Which t → total ts t ≡ energy g xs t
 
 pub record HandOverExact (g : Lattice) (xs ts : List ℤ) : Type 0 where
   pub panel : MeterExact g xs
   pub totals : length ts ≡ g .s
-
-abbrev pub handOverRules : Lattice → List ℤ → List ℤ → List Rule
-handOverRules g xs ts =
-    rule 1 (Sizes (g .n) (g .d) (g .s))
-    ∷ rule 2 (HandOverExact g xs ts)
-    ∷ rule 3 (Spins (g .n) (AllSystems (g .s)) xs)
-    ∷ rule 4 (Inverse (g .n) (g .d) (g .fwd) (g .bwd))
-    ∷ rule 6 (SmallCouplings (g .couplings))
-    ∷ rule 14 (Current g xs ts)
-    ∷ []

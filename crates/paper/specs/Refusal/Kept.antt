@@ -1,18 +1,25 @@
 -- The rules that an accepted move keeps, by name.
+use Prim.Native.Nat.{ℕ, _<_}
+use mathlib.Core.Path.{refl}
 use mathlib.Core.List.{List}
 use lib.IntN.{ℤ}
 use Rattle.paper.specs.Panel.Input.{Call, Choices, Buffers, size}
 use Rattle.paper.specs.Panel.Takes.{takesCuts}
 use Rattle.paper.specs.Refusal.Rule.{Kept}
-use Rattle.paper.specs.Refusal.Rules.{When, Ranged, HoudOfTwo, Exact, AllSystems, Spins, Inverse, Pins, Grouped, SmallCouplings, Warm, Cuts}
+use Rattle.paper.specs.Refusal.Rules.{When, Ranged, HoudOfTwo, Exact, Names, groupNames, Named, Spins, Inverse, Pins, Listed, Grouped}
+use Rattle.paper.specs.Refusal.Rules.{SmallCouplings, Warm, Cuts}
 use Rattle.paper.specs.Refusal.Rules.{Chosen, Seeded, choiceRules, rules}
+
+-- each place of names that are listed names a system
+pub named : {s : ℕ} {names : Names} (k : ℕ) → k < names .count → Listed s names → Named s names (names .at k)
+named k h l = record { place = k; below = h; is = refl; inside = l .below k h }
 
 -- 1 to 7, and 15
 pub record Sound (c : Call) (p : Choices) (b : Buffers) : Type 0 where
   pub ranged : Ranged (c .lattice .n) (c .lattice .d) (c .lattice .s) (c .mode) (size c)
   pub houd : HoudOfTwo (c .mode) (c .form) (size c)
   pub exact : Exact c p b
-  pub spins : Spins (c .lattice .n) (AllSystems (c .lattice .s)) (b .spins)
+  pub spins : Spins (c .lattice .n) (Named (c .lattice .s) (groupNames (c .group))) (b .spins)
   pub inverse : Inverse (c .lattice .n) (c .lattice .d) (c .lattice .fwd) (c .lattice .bwd)
   pub pins : Pins (c .pins)
   pub grouped : Grouped (c .lattice .s) (c .group)

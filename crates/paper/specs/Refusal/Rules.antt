@@ -87,13 +87,33 @@ Exact c p b = Fits (c .mode) (c .form) (c .lattice .n) (c .lattice .d) (c .latti
 abbrev pub Spin : ℤ → Type 0
 Spin z = (z ≡ pos 1) ⊎ (z ≡ negsuc 0)
 
--- the systems whose rows test 3 looks at: all s of the panel
+-- the systems that a call names, by their places: a move its group's, a sweep all of its order's
+pub record Names : Type 0 where
+  pub count : ℕ
+  pub at : ℕ → ℕ
+
+abbrev pub groupNames : Group → Names
+groupNames g = record { count = g .len; at = member g }
+
+abbrev pub orderNames : List ℕ → Names
+orderNames order = record { count = length order; at = λ k. getD order k 0 }
+
+abbrev pub oneName : ℕ → Names
+oneName t = record { count = 1; at = λ k. t }
+
+-- t is one of the s systems, and is named
+pub record Named (s : ℕ) (names : Names) (t : ℕ) : Type 0 where
+  pub place : ℕ
+  pub below : place < names .count
+  pub is : names .at place ≡ t
+  pub inside : t < s
+
 abbrev pub AllSystems : ℕ → ℕ → Type 0
 AllSystems s t = t < s
 
--- the rows of the systems that are named hold spins
+-- the rows of those systems hold spins; other rows are not looked at
 abbrev pub Spins : ℕ → (ℕ → Type 0) → List ℤ → Type 0
-Spins n Named xs = (t i : ℕ) → Named t → i < n → Spin (spin n xs t i)
+Spins n Which xs = (t i : ℕ) → Which t → i < n → Spin (spin n xs t i)
 
 -- the neighbour of site i by the table a is a site, and the table b leads back from it
 pub record Back (n d : ℕ) (a b : List ℕ) (i e : ℕ) : Type 0 where
@@ -112,10 +132,14 @@ Pins ps = (i : ℕ) → i < length ps → getD ps i 0 ≤ 1
 abbrev pub Distinct : ℕ → (ℕ → ℕ) → Type 0
 Distinct m f = (a b : ℕ) → a < m → b < m → f a ≡ f b → a ≡ b
 
--- the group's systems are among s, and none stands twice; entries past its length are not looked at
-pub record Grouped (s : ℕ) (g : Group) : Type 0 where
-  pub below : (k : ℕ) → k < g .len → member g k < s
-  pub distinct : Distinct (g .len) (member g)
+-- the systems that are named are among s, and none stands twice
+pub record Listed (s : ℕ) (names : Names) : Type 0 where
+  pub below : (k : ℕ) → k < names .count → names .at k < s
+  pub distinct : Distinct (names .count) (names .at)
+
+-- of a group, entries past its length are not looked at
+abbrev pub Grouped : ℕ → Group → Type 0
+Grouped s g = Listed s (groupNames g)
 
 abbrev pub SmallCouplings : List ℤ → Type 0
 SmallCouplings js = (k : ℕ) → k < length js → natAbs (getD js k (pos 0)) ≤ 1000000
@@ -181,7 +205,7 @@ rulesWith m c p b =
     ∷ rule 15 (HoudOfTwo (c .mode) (c .form) (size c))
     ∷ rule 2 (Exact c p b)
     ∷ (m .lengths ++ (
-    rule 3 (Spins (c .lattice .n) (AllSystems (c .lattice .s)) (b .spins))
+    rule 3 (Spins (c .lattice .n) (Named (c .lattice .s) (groupNames (c .group))) (b .spins))
     ∷ rule 4 (Inverse (c .lattice .n) (c .lattice .d) (c .lattice .fwd) (c .lattice .bwd))
     ∷ rule 4 (Pins (c .pins))
     ∷ rule 5 (Grouped (c .lattice .s) (c .group))

@@ -10,9 +10,10 @@ use Rattle.paper.specs.Panel.Input.{Call, Choices}
 use Rattle.paper.specs.Panel.Made.{callOf, choicesOf}
 use Rattle.paper.specs.Panel.Takes.{keepsBy}
 use Rattle.paper.specs.Refusal.Rule.{Rule, Kept}
-use Rattle.paper.specs.Refusal.Rules.{When, choiceRules}
+use Rattle.paper.specs.Refusal.Rules.{When, groupNames, Named, choiceRules}
 use Rattle.paper.specs.Refusal.Verdict.{Verdict, verdict-kept, verdict-later}
 use Rattle.paper.specs.Answer.Totals.{SmallTotals}
+use Rattle.systems.specs.Rows.{small-named}
 use Rattle.step_tests.specs.Call.{soundRules, totalRules, verdict-first, tested-of}
 use Rattle.step_tests.proofs.test_call.Statement.{statement}
 use Rattle.step_tests.proofs.test_call.Tie as tie
@@ -49,15 +50,20 @@ own k =
 chosen : (e : tie.Else2) → Kept (ownAt (S (e .before .before .before)))
 chosen e = verdict-kept (ownAt (S (e .before .before .before))) (e .before .test-choices .result) (e .if2 .left) (own (e .before))
 
-small : (m : tie.After-totals-fit) → let a = S (m .before .before .before .before .before) .args in
-    Tells (m .totals-fit .result) (When (keepsBy (a .t .keeps) (a .t .form)) (SmallTotals (now (a .totals))))
-small m = rw (m .before .totals .ensures) at (m .totals-fit .ensures)
+small : (m : tie.After-group-totals-fit) → let a = S (m .before .before .before .before .before .before) .args in
+    Tells (m .group-totals-fit .result) (When (keepsBy (a .t .keeps) (a .t .form)) (SmallTotals (Named (a .t .s) (groupNames (a .t .group))) (now (a .totals))))
+small m =
+    let e = m .before .before .before in
+    let a = S (e .before .before .before) .args in
+    small-named (keepsBy (a .t .keeps) (a .t .form)) (a .t .s) (groupNames (a .t .group)) (now (a .totals))
+    (λ q. sound (e .before .before) .1 .1 .1 .0 q .totals)
+    (m .group-totals-fit .result) (rw (m .before .totals .ensures) at (m .group-totals-fit .ensures))
 
 -- past 1 to 10
-later : (m : tie.After-totals-fit) (r : ℕ) → let b = S (m .before .before .before .before .before) in
+later : (m : tie.After-group-totals-fit) (r : ℕ) → let b = S (m .before .before .before .before .before .before) in
     Verdict (lastAt b) r → Verdict (soundAt b ++ (ownAt b ++ lastAt b)) r
 later m r v =
-    let e = m .before .before in
+    let e = m .before .before .before in
     let b = S (e .before .before .before) in
     verdict-later (soundAt b) (ownAt b ++ lastAt b) r (sound (e .before .before)) (verdict-later (ownAt b) (lastAt b) r (chosen e) v)
 
@@ -87,14 +93,14 @@ returns-2 c =
 totals-requires : tie.Need-totals-requires
 totals-requires c κs = search needs
 
-totals-fit-requires : tie.Need-totals-fit-requires
-totals-fit-requires c κs = search needs
+group-totals-fit-requires : tie.Need-group-totals-fit-requires
+group-totals-fit-requires c κs = sound (c .before .before .before .before) .0 .size-high
 
 returns-3 : tie.Need-returns-3
-returns-3 c = later (c .before) 14 (inl (refused (c .before .totals-fit .result) (c .if3 .taken) (small (c .before)), refl))
+returns-3 c = later (c .before) 14 (inl (refused (c .before .group-totals-fit .result) (c .if3 .taken) (small (c .before)), refl))
 
 returns-4 : tie.Need-returns-4
-returns-4 c = later (c .before) 0 (passed (c .before .totals-fit .result) (c .if3 .left) (small (c .before)), tt)
+returns-4 c = later (c .before) 0 (passed (c .before .group-totals-fit .result) (c .if3 .left) (small (c .before)), tt)
 
 pub test-call-spec : {M : Type 1} → statement M
 test-call-spec =
@@ -105,6 +111,6 @@ test-call-spec =
     test-choices-requires
     returns-2
     totals-requires
-    totals-fit-requires
+    group-totals-fit-requires
     returns-3
     returns-4)

@@ -51,7 +51,7 @@ abbrev keeping : tie.Start Inv-loop μ-loop → Bool
 keeping s = keepsBy (s .args .plan .keeps) (s .args .plan .form)
 
 planned : (s : tie.Start Inv-loop μ-loop) → Planned (s .args .plan)
-planned s = let r = s .pre .0 .0 in record { ranged = r .ranged; all = r .all; enough = r .enough }
+planned s = let r = s .pre .0 .0 in record { ranged = r .ranged; few = r .few; some = r .some; all = r .all; enough = r .enough }
 
 -- the state of a turn
 abbrev C : tie.In-loop Inv-loop μ-loop → tie.After-task-count Inv-loop μ-loop

@@ -72,7 +72,7 @@ returns c =
     (λ z. (((((z .each, z .order), z .masks), z .temperatures), z .references), z .seeds))
     (both (both (both (both (both
     (counted {r = e .lengths-ok .result} (count k) (e .lengths-ok .ensures))
-    (test-eq (a .o .order) (a .plan .s)))
+    (test-eq (a .o .order) (a .plan .systems)))
     (test-eq (a .o .masks) (a .plan .t)))
     (took {r = f2 .fits2 .result} (drawn i) refl (f2 .fits2 .ensures)))
     (took {r = f3 .fits3 .result} (gperm g) (count k) (f3 .fits3 .ensures)))

@@ -45,8 +45,9 @@ returns-3 : tie.Need-returns-3
 returns-3 c =
     let e = c .before .before in
     let q = e .before .before .args .plan in
-    same (Planned q) (λ h. record { ranged = ranged e; all = h .0; enough = h .1 }) (λ z. (z .all, z .enough))
-    (both (test-eq (q .t * q .r) (q .s)) (test-le (q .members) (q .r))) .says
+    same (Planned q) (λ h. record { ranged = ranged e; few = h .0 .0 .0; some = h .0 .0 .1; all = h .0 .1; enough = h .1 })
+    (λ z. (((z .few, z .some), z .all), z .enough))
+    (both (both (both (test-le (q .systems) (q .s)) (test-le 1 (q .t))) (test-eq (q .t * q .r) (q .systems))) (test-le (q .members) (q .r))) .says
 
 pub plan-ok-spec : {M : Type 1} → statement M
 plan-ok-spec = tie.close (tie.spec ranged-requires returns returns-2 mul-result returns-3)

@@ -3,25 +3,19 @@ use borrow.Author.Needs.{needs}
 use mathlib.Core.Path.{refl}
 use mathlib.Core.Logic.{inl, inr}
 use denote.Ref.{now}
-use Rattle.lemmas.specs.Tells.{Tells, told, denied, passed, refused}
-use Rattle.paper.specs.Refusal.Rules.{AllSystems, Spins, Inverse, Pins}
-use Rattle.lattice.specs.Spinning.{all-rows}
+use Rattle.lemmas.specs.Tells.{told, denied, passed, refused}
+use Rattle.paper.specs.Refusal.Rules.{orderNames, Named, Spins, Inverse, Pins}
 use Rattle.sweep_tests.proofs.test_panel.Statement.{statement}
 use Rattle.sweep_tests.proofs.test_panel.Tie as tie
 
-abbrev R : tie.After-spins-ok → tie.Start
+abbrev R : tie.After-order-rows-ok → tie.Start
 R e = e .before .before .before .before .before
 
 abbrev S : tie.Else1 → tie.Start
 S e = R (e .before)
 
-rows-tell : (e : tie.After-spins-ok) → let a = R e .args in Tells (e .spins-ok .result) (Spins (a .plan .n) (AllSystems (a .plan .s)) (now (a .spins)))
-rows-tell e =
-    let s = R e in
-    all-rows (s .args .plan .n) (s .args .plan .s) (now (s .args .spins)) (s .pre .spins-long) (e .spins-ok .result) (e .spins-ok .ensures)
-
-k3 : (e : tie.Else1) → let a = S e .args in Spins (a .plan .n) (AllSystems (a .plan .s)) (now (a .spins))
-k3 e = passed (e .before .spins-ok .result) (e .if1 .left) (rows-tell (e .before))
+k3 : (e : tie.Else1) → let a = S e .args in Spins (a .plan .n) (Named (a .plan .s) (orderNames (now (a .order)))) (now (a .spins))
+k3 e = passed (e .before .order-rows-ok .result) (e .if1 .left) (e .before .order-rows-ok .ensures)
 
 k4 : (e : tie.Else2) → let a = S (e .before .before) .args in Inverse (a .plan .n) (a .plan .d) (now (a .fwd)) (now (a .bwd))
 k4 e = passed (e .before .tables-ok .result) (e .if2 .left) (e .before .tables-ok .ensures)
@@ -29,11 +23,13 @@ k4 e = passed (e .before .tables-ok .result) (e .if2 .left) (e .before .tables-o
 k4-pins : (e : tie.Else3) → Pins (now (S (e .before .before .before .before) .args .pins))
 k4-pins e = passed (e .before .bytes-at-most .result) (e .if3 .left) (e .before .bytes-at-most .ensures)
 
-spins-ok-requires : tie.Need-spins-ok-requires
-spins-ok-requires c κs = search needs
+order-rows-ok-requires : tie.Need-order-rows-ok-requires
+order-rows-ok-requires c κs =
+    let p = c .before .before .before .before .pre in
+    record { long = p .spins-long; n-high = p .n-high; s-high = p .few }
 
 returns : tie.Need-returns
-returns c = inl (refused (c .before .spins-ok .result) (c .if1 .taken) (rows-tell (c .before)), refl)
+returns c = inl (refused (c .before .order-rows-ok .result) (c .if1 .taken) (c .before .order-rows-ok .ensures), refl)
 
 tables-ok-requires : tie.Need-tables-ok-requires
 tables-ok-requires c κs = record { fwd-long = S c .pre .fwd-long; bwd-long = S c .pre .bwd-long }
@@ -69,7 +65,7 @@ pub test-panel-spec : {M : Type 1} → statement M
 test-panel-spec =
     tie.close
     (tie.spec
-    spins-ok-requires
+    order-rows-ok-requires
     returns
     tables-ok-requires
     returns-2

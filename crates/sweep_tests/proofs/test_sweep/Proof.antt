@@ -42,7 +42,7 @@ test-values-requires : tie.Need-test-values-requires
 test-values-requires c κs =
     let s = S (c .before) in
     let k = long c in
-    sized-of {keeps = s .args .plan .keeps} (W s) (B s) (now (s .args .totals)) (k .0) (k .1 .1 .0)
+    sized-of {keeps = s .args .plan .keeps} (W s) (B s) (now (s .args .totals)) (k .0) (k .1 .1 .0) (k .1 .1 .1 .0)
 
 returns-2 : tie.Need-returns-2
 returns-2 c =

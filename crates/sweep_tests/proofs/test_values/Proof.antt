@@ -10,11 +10,12 @@ use Rattle.paper.specs.Panel.Input.{Buffers}
 use Rattle.paper.specs.Panel.Made.{buffersOf}
 use Rattle.paper.specs.Panel.Takes.{keepsBy}
 use Rattle.paper.specs.Refusal.Rule.{Rule, Kept}
-use Rattle.paper.specs.Refusal.Rules.{When}
+use Rattle.paper.specs.Refusal.Rules.{When, orderNames, Named}
 use Rattle.paper.specs.Refusal.Verdict.{Verdict, verdict-later, verdict-kept}
 use Rattle.paper.specs.Answer.Task.{Sweep}
 use Rattle.paper.specs.Answer.Totals.{SmallTotals}
 use Rattle.paper.specs.Answer.Made.{sweepOf}
+use Rattle.systems.specs.Rows.{small-named}
 use Rattle.sweep_tests.specs.First.{panelRules, heatRules, first-broken}
 use Rattle.sweep_tests.specs.Whole.{panelOf, heatOf, tasksRules, lastRule, valueRules, tested-of}
 use Rattle.sweep_tests.proofs.test_values.Statement.{statement}
@@ -56,10 +57,10 @@ S1 e = S (e .before)
 abbrev E2 : tie.After-test-tasks → tie.Else2
 E2 e = e .before
 
-abbrev T : tie.After-totals-fit → tie.After-test-tasks
+abbrev T : tie.After-order-totals-fit → tie.After-test-tasks
 T e = e .before .before
 
-abbrev S3 : tie.After-totals-fit → tie.Start
+abbrev S3 : tie.After-order-totals-fit → tie.Start
 S3 e = S1 (E1 (E2 (T e)))
 
 -- what is known past each test
@@ -83,9 +84,14 @@ tasks-told : (e : tie.After-test-tasks) (labels greyLabels counts sizes members 
     Verdict (K (S1 (E1 (E2 e))) labels greyLabels counts sizes members found greyFound) (e .test-tasks .result)
 tasks-told e = let a = S1 (E1 (E2 e)) .args in e .test-tasks .ensures .is (now (a .fwd)) (now (a .bwd)) (now (a .pins)) (now (a .couplings))
 
-totals-tell : (e : tie.After-totals-fit) → let a = S3 e .args in
-    Tells (e .totals-fit .result) (When (keepsBy (a .plan .keeps) (a .plan .form)) (SmallTotals (now (a .totals))))
-totals-tell e = rw (e .before .totals .ensures) at (e .totals-fit .ensures)
+totals-tell : (e : tie.After-order-totals-fit) → let a = S3 e .args in
+    Tells (e .order-totals-fit .result) (When (keepsBy (a .plan .keeps) (a .plan .form))
+    (SmallTotals (Named (a .plan .s) (orderNames (now (a .order)))) (now (a .totals))))
+totals-tell e =
+    let s = S3 e in
+    let a = s .args in
+    small-named (keepsBy (a .plan .keeps) (a .plan .form)) (a .plan .s) (orderNames (now (a .order))) (now (a .totals)) (s .pre .totals-long)
+    (e .order-totals-fit .result) (rw (e .before .totals .ensures) at (e .order-totals-fit .ensures))
 
 test-panel-requires : tie.Need-test-panel-requires
 test-panel-requires c κs = c .before .before .before .before .before .before .before .before .before .before .before .pre .panel
@@ -113,8 +119,8 @@ test-tasks-requires c κs = let s = S1 (E1 c) in tested-of (s .pre) (now (s .arg
 totals-requires : tie.Need-totals-requires
 totals-requires c κs = search needs
 
-totals-fit-requires : tie.Need-totals-fit-requires
-totals-fit-requires c κs = search needs
+order-totals-fit-requires : tie.Need-order-totals-fit-requires
+order-totals-fit-requires c κs = search needs
 
 returns-3 : tie.Need-returns-3
 returns-3 c = let t = T (c .before) in let s = S3 (c .before) in record {
@@ -134,14 +140,15 @@ returns-4 c = let i = c .before in let u = i .before in let s = S3 u in record {
   is = λ a b d e f x y.
       past (E2 (T u)) a b d e f x y 14
       (verdict-later (K s a b d e f x y) (L s a b d e f x y) 14 (kept i a b d e f x y)
-      (inl (refused (u .totals-fit .result) (c .if4 .taken) (totals-tell u), refl)));
+      (inl (refused (u .order-totals-fit .result) (c .if4 .taken) (totals-tell u), refl)));
 }
 
 returns-5 : tie.Need-returns-5
 returns-5 c = let i = c .before in let u = i .before in let s = S3 u in record {
   is = λ a b d e f x y.
       past (E2 (T u)) a b d e f x y 0
-      (verdict-later (K s a b d e f x y) (L s a b d e f x y) 0 (kept i a b d e f x y) (passed (u .totals-fit .result) (c .if4 .left) (totals-tell u), tt));
+      (verdict-later (K s a b d e f x y) (L s a b d e f x y) 0 (kept i a b d e f x y)
+      (passed (u .order-totals-fit .result) (c .if4 .left) (totals-tell u), tt));
 }
 
 pub test-values-spec : {M : Type 1} → statement M
@@ -154,7 +161,7 @@ test-values-spec =
     returns-2
     test-tasks-requires
     totals-requires
-    totals-fit-requires
+    order-totals-fit-requires
     returns-3
     returns-4
     returns-5)

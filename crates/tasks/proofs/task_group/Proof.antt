@@ -29,13 +29,13 @@ S l = l .before .before .before .before .before
 -- the order entries that a turn reads are there
 entry :
     (s : tie.Start Inv-loop μ-loop) (x : ℕ) → x < s .args .plan .members
-    → let q = s .args .plan in s .args .k / (q .r / q .members) * q .r + (s .args .k % (q .r / q .members)) * q .members + x < q .s
+    → let q = s .args .plan in s .args .k / (q .r / q .members) * q .r + (s .args .k % (q .r / q .members)) * q .members + x < q .systems
 entry s x l = entry-lt (s .args .plan) (s .pre .task .planned) (s .args .k) (s .pre .task .below) x l
 
 first :
     (s : tie.Start Inv-loop μ-loop)
     → let q = s .args .plan in s .args .k / (q .r / q .members) * q .r + (s .args .k % (q .r / q .members)) * q .members < 64
-first s = omega (arith, entry s 0 (some-members (s .args .plan) (s .pre .task .planned)), s .pre .task .planned .ranged .lattice .s-high)
+first s = let p = s .pre .task .planned in omega (arith, entry s 0 (some-members (s .args .plan) p), p .few, p .ranged .lattice .s-high)
 
 div-groups : tie.Need-div-groups Inv-loop μ-loop
 div-groups c = let s = c .before .before in some-members (s .args .plan) (s .pre .task .planned)
@@ -60,10 +60,10 @@ unfolding table
 loop-holds c = (search needs, filled-none _ _ _)
 
 add-wide : tie.Need-add-wide Inv-loop μ-loop
-add-wide c = omega (arith, entry (S c) (c .before .loop .x) (c .loop-test .taken), S c .pre .task .planned .ranged .lattice .s-high)
+add-wide c = let p = S c .pre .task .planned in omega (arith, entry (S c) (c .before .loop .x) (c .loop-test .taken), p .few, p .ranged .lattice .s-high)
 
 mul-wide : tie.Need-mul-wide Inv-loop μ-loop
-mul-wide c = omega (arith, entry (S c) (c .before .loop .x) (c .loop-test .taken), S c .pre .task .planned .ranged .lattice .s-high)
+mul-wide c = let p = S c .pre .task .planned in omega (arith, entry (S c) (c .before .loop .x) (c .loop-test .taken), p .few, p .ranged .lattice .s-high)
 
 shared-slice-read-wide : tie.Need-shared-slice-read-wide Inv-loop μ-loop
 shared-slice-read-wide c = let l = c .before in omega (arith, entry (S l) (l .before .loop .x) (l .loop-test .taken), S l .pre .long)

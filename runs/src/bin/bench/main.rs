@@ -1,4 +1,4 @@
-//! bench [repetitions] [totals|numbers|pins|packed]: the port against the published Rust, in one run, as the tables of docs/BENCHMARKS.md.
+//! bench [repetitions] [totals|numbers|pins|packed|teams]: the port against the published Rust, in one run, as the tables of docs/BENCHMARKS.md.
 //!
 //! Times are medians in microseconds. "Rust" is the published code with a generator, "lent" the same code with its
 //! draws read from the lent choices, "depth" the one-cluster form without outputs, a search from the seed; beside a
@@ -6,7 +6,8 @@
 //! last test; "move" is the rest. The standard output has the tables, and the standard error each case with all that
 //! was measured. Where the port is not linked the model stands in for it, so that the run itself can be tried. With the word
 //! `totals` behind the repetitions only the tables of totals are made, with `numbers` only those of permutations by number,
-//! with `pins` only those of panels with pinned sites, and with `packed` only those of one byte for a site's group.
+//! with `pins` only those of panels with pinned sites, with `packed` only those of one byte for a site's group, and with `teams`
+//! only those of panels that two teams share, and of moves in a panel of 64 systems.
 mod clusters;
 mod coded;
 mod draws;
@@ -17,6 +18,7 @@ mod packed;
 mod parts;
 mod pins;
 mod tables;
+mod teams;
 mod totals;
 
 use calls::{Form, Mode, Port};
@@ -160,19 +162,29 @@ fn main() {
         Some("numbers") => bench.coded(),
         Some("pins") => bench.pins(),
         Some("packed") => bench.packed(),
+        Some("teams") => {
+            single_moves(&mut bench, Some(MANY));
+            bench.teams();
+        }
         _ => all(&mut bench),
     }
 }
 
+/// The systems of a panel that has more than a group: since 12/14 the tests of a move look at its group's rows alone.
+const MANY: usize = 64;
+
+/// On a panel of so many systems, or of the group alone.
+fn single_moves(bench: &mut Bench, systems: Option<usize>) {
+    let s = systems.map_or("N".to_string(), |s| s.to_string());
+    let title = format!("Single moves, S = {s}: move / Rust; behind it whole call / Rust");
+    by_size(bench, &title, |bench, mode, form, d, m| {
+        bench.single_cell(mode, form, d, m, systems.unwrap_or(m))
+    });
+}
+
 fn all(bench: &mut Bench) {
-    let move_title =
-        |s: &str| format!("Single moves, {s}: move / Rust; behind it whole call / Rust");
-    by_size(bench, &move_title("S = N"), |bench, mode, form, d, m| {
-        bench.single_cell(mode, form, d, m, m)
-    });
-    by_size(bench, &move_title("S = 64"), |bench, mode, form, d, m| {
-        bench.single_cell(mode, form, d, m, 64)
-    });
+    single_moves(bench, None);
+    single_moves(bench, Some(MANY));
     by_size(
         bench,
         "Sweeps, t = 8, r = 8: whole call / Rust",
@@ -194,4 +206,5 @@ fn all(bench: &mut Bench) {
     bench.coded();
     bench.pins();
     bench.packed();
+    bench.teams();
 }

@@ -1,6 +1,6 @@
 //! The test of all spins, and the meter.
 use crate::Bench;
-use calls::{Form, MeterAnswer, Mode, Port};
+use calls::{Form, MeterAnswer, Mode, Port, SweepAnswer};
 use std::hint::black_box;
 use tsorvenk_runs::case::Single;
 use tsorvenk_runs::model::Model;
@@ -15,13 +15,13 @@ impl Bench {
         (time, answer)
     }
 
-    /// The port's call with its very last spin byte faulty: sizes, lengths and the spin test.
+    /// A sweep with the very last spin byte faulty, since a sweep names every system: sizes, lengths and the spin test.
     pub fn spin_test_line(&mut self) {
-        let panel = timing::panel(&mut self.rand, Mode::Perm, Form::Observe, 2, 64);
-        let mut case = timing::single(&mut self.rand, panel, 2);
+        let mut case = timing::swept(&mut self.rand, Mode::Perm, Form::Observe, 2, 2);
+        case.order.sort_unstable();
         *case.lent.spins.last_mut().unwrap() = 0;
-        let (all, answer) = self.energy(&case);
-        assert_eq!(answer, MeterAnswer::Refused(3));
+        let (all, answer) = self.sweep(&case, self.repetitions);
+        assert_eq!(answer, SweepAnswer::Refused(3));
         let mut good = true;
         let run = |good: &mut bool| {
             let spins = black_box(&case.lent.spins);

@@ -34,12 +34,13 @@ impl Bench {
         time
     }
 
-    /// A call refused for its group, less the same call refused for its last spin: between them are the tables alone.
+    /// A call refused for its group, of which the second system is none, less the same call refused for the first one's last spin: either looks at one
+    /// row, and between them are the tables alone.
     fn tables_time(&mut self, case: &Single) -> f64 {
         let mut grouped = case.clone();
-        grouped.group[1] = grouped.group[0];
+        grouped.group = vec![0, case.panel.s as u32];
         let mut unspun = grouped.clone();
-        *unspun.lent.spins.last_mut().unwrap() = 0;
+        unspun.lent.spins[case.panel.n - 1] = 0;
         self.refused(&grouped, 5) - self.refused(&unspun, 3)
     }
 

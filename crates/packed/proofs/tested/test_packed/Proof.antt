@@ -13,14 +13,16 @@ use Rattle.paper.specs.Panel.Input.{Call, Choices}
 use Rattle.paper.specs.Panel.Made.{callOf, choicesOf}
 use Rattle.paper.specs.Panel.Takes.{keepsBy}
 use Rattle.paper.specs.Refusal.Rule.{Rule, Kept}
-use Rattle.paper.specs.Refusal.Rules.{When, AllSystems, Spins, Seeded}
+use Rattle.paper.specs.Refusal.Rules.{When, groupNames, Named, Spins, Seeded}
 use Rattle.paper.specs.Refusal.Verdict.{Verdict, verdict-kept, verdict-later}
 use Rattle.paper.specs.Answer.Totals.{SmallTotals}
 use Rattle.tests.specs.Choices.{chosenRules}
 use Rattle.step_tests.specs.Call.{verdict-first}
+use Rattle.systems.specs.Rows.{small-named}
 use Rattle.packing.specs.Bytes.{rowsOf, Narrow}
 use Rattle.packing.specs.Laws.{spins-narrow}
-use Rattle.packed.specs.Tested.{headRules, spinRules, panelTables, seedRules, totalRules, head-of, spins-tell, bytes-long, rows-sighted, rows-columned}
+use Rattle.packed.specs.Tested.{headRules, spinRules, panelTables, seedRules, totalRules, head-of, own-spins, spins-own, spins-tell}
+use Rattle.packed.specs.Tested.{bytes-long, rows-sighted, rows-columned}
 use Rattle.packed.proofs.tested.test_packed.Statement.{statement}
 use Rattle.packed.proofs.tested.test_packed.Tie as tie
 
@@ -79,24 +81,26 @@ abbrev E1 : tie.After-bytes-at-most → tie.Else1
 E1 k = k .before .before .before
 
 tell3 : (k : tie.After-bytes-at-most) → let b = S (E1 k .before) in
-    Tells (k .bytes-at-most .result) (Spins (b .args .t .n) (AllSystems (b .args .t .s)) (rowsAt b))
+    Tells (k .bytes-at-most .result) (Spins (b .args .t .n) (Named (b .args .t .s) (groupNames (b .args .t .group))) (rowsAt b))
 tell3 k =
     let e = E1 k in
     let b = S (e .before) in
-    spins-tell (b .args .t .s) (b .args .t .n) (k .before .highest .result) (now (b .args .columns)) (long e) (some e)
-    (k .before .highest .ensures ∙ ap (λ (x : ℕ). 2 ^ x - 1) (sym (b .pre .systems))) (k .bytes-at-most .result) (k .bytes-at-most .ensures)
+    own-spins (b .args .t) (b .pre .systems) (b .pre .group) (k1 e .0 .size-high) (rowsAt b) (k .bytes-at-most .result)
+    (spins-tell (b .args .t .s) (b .args .t .n) (k .before .highest .result) (now (b .args .columns)) (long e) (some e)
+    (k .before .highest .ensures ∙ ap (λ (x : ℕ). 2 ^ x - 1) (sym (b .pre .systems))) (k .bytes-at-most .result) (k .bytes-at-most .ensures))
 
 abbrev F2 : tie.Else2 → tie.Else1
 F2 e = E1 (e .before)
 
-k3 : (e : tie.Else2) → let b = S (F2 e .before) in Spins (b .args .t .n) (AllSystems (b .args .t .s)) (rowsAt b)
+k3 : (e : tie.Else2) → let b = S (F2 e .before) in Spins (b .args .t .n) (Named (b .args .t .s) (groupNames (b .args .t .group))) (rowsAt b)
 k3 e = passed (e .before .bytes-at-most .result) (e .if2 .left) (tell3 (e .before))
 
 narrow : (e : tie.Else2) → let b = S (F2 e .before) in Narrow (b .args .t .s) (now (b .args .columns))
 narrow e =
     let f = F2 e in
     let b = S (f .before) in
-    spins-narrow (b .args .t .s) (b .args .t .n) (now (b .args .columns)) (long f) (some f) (k3 e)
+    spins-narrow (b .args .t .s) (b .args .t .n) (now (b .args .columns)) (long f) (some f)
+    (spins-own (b .args .t) (b .pre .systems) (b .pre .group) (k1 f .0 .size-high) (rowsAt b) (k3 e))
 
 -- past each of them, what the next ones tell is told of all
 past1 : (e : tie.Else1) (rs : List Rule) (r : ℕ) → Verdict rs r → Verdict (r1 (S (e .before)) ++ rs) r
@@ -164,9 +168,14 @@ past10 e rs r v =
     past8 (F5 e) (r10 b ++ rs) r
     (verdict-later (r10 b) rs r (passed (e .before .seed-column-ok .result) (e .if5 .left) (tell10 (e .before)), tt) v)
 
-small : (m : tie.After-totals-fit) → let a = z (F5 (m .before .before)) .args in
-    Tells (m .totals-fit .result) (When (keepsBy (a .t .keeps) (a .t .form)) (SmallTotals (now (a .totals))))
-small m = rw (m .before .totals .ensures) at (m .totals-fit .ensures)
+small : (m : tie.After-group-totals-fit) → let a = z (F5 (m .before .before)) .args in
+    Tells (m .group-totals-fit .result) (When (keepsBy (a .t .keeps) (a .t .form))
+    (SmallTotals (Named (a .t .s) (groupNames (a .t .group))) (now (a .totals))))
+small m =
+    let e = F5 (m .before .before) in
+    let a = z e .args in
+    small-named (keepsBy (a .t .keeps) (a .t .form)) (a .t .s) (groupNames (a .t .group)) (now (a .totals)) (λ q. k1 (f e) .1 .1 .1 .0 q .totals)
+    (m .group-totals-fit .result) (rw (m .before .totals .ensures) at (m .group-totals-fit .ensures))
 
 test-shape-requires : tie.Need-test-shape-requires
 test-shape-requires c κs = search needs
@@ -241,18 +250,18 @@ returns-5 c =
 totals-requires : tie.Need-totals-requires
 totals-requires c κs = search needs
 
-totals-fit-requires : tie.Need-totals-fit-requires
-totals-fit-requires c κs = search needs
+group-totals-fit-requires : tie.Need-group-totals-fit-requires
+group-totals-fit-requires c κs = k1 (f (F5 (c .before))) .0 .size-high
 
 returns-6 : tie.Need-returns-6
 returns-6 c =
     let m = c .before in
-    past10 (m .before .before) (r14 (z (F5 (m .before .before)))) 14 (inl (refused (m .totals-fit .result) (c .if6 .taken) (small m), refl))
+    past10 (m .before .before) (r14 (z (F5 (m .before .before)))) 14 (inl (refused (m .group-totals-fit .result) (c .if6 .taken) (small m), refl))
 
 returns-7 : tie.Need-returns-7
 returns-7 c =
     let m = c .before in
-    past10 (m .before .before) (r14 (z (F5 (m .before .before)))) 0 (passed (m .totals-fit .result) (c .if6 .left) (small m), tt)
+    past10 (m .before .before) (r14 (z (F5 (m .before .before)))) 0 (passed (m .group-totals-fit .result) (c .if6 .left) (small m), tt)
 
 pub test-packed-spec : {M : Type 1} → statement M
 test-packed-spec =
@@ -270,6 +279,6 @@ test-packed-spec =
     seed-column-ok-requires
     returns-5
     totals-requires
-    totals-fit-requires
+    group-totals-fit-requires
     returns-6
     returns-7)

@@ -9,10 +9,9 @@ use Rattle.lemmas.specs.Tells.{Tells, passed, refused}
 use Rattle.paper.specs.Panel.Takes.{keepsBy}
 use Rattle.paper.specs.Panel.Made.{latticeOf}
 use Rattle.paper.specs.Refusal.Rule.{rule, Kept}
-use Rattle.paper.specs.Refusal.Rules.{When, AllSystems, Spins}
+use Rattle.paper.specs.Refusal.Rules.{When, groupNames, Named, Spins}
 use Rattle.paper.specs.Refusal.Verdict.{verdict-kept, verdict-later}
 use Rattle.paper.specs.Answer.Totals.{TotalLengths}
-use Rattle.lattice.specs.Spinning.{all-rows}
 use Rattle.tests.specs.Panel.{shapeRules, lengthRules, tableRules}
 use Rattle.tests.proofs.Shape.{shape-lengths, shape-broken}
 use Rattle.tests.proofs.panel.test_panel.Statement.{statement}
@@ -37,17 +36,10 @@ k2 e =
     shape-lengths (a .t) (now (a .spins)) (now (a .totals)) (now (a .fwd)) (now (a .bwd)) (now (a .pins)) (now (a .couplings)) (a .l) (s .pre) (k1 e)
 
 abbrev E1 : tie.Else2 → tie.Else1
-E1 e = e .before .before
+E1 e = e .before .before .before
 
-rows-tell : (e : tie.After-spins-ok) → let a = S1 (e .before) .args in
-    Tells (e .spins-ok .result) (Spins (a .t .n) (AllSystems (a .t .s)) (now (a .spins)))
-rows-tell e =
-    let s = S1 (e .before) in
-    let long = sym (s .pre .spins-is) ∙ k1 (e .before) .1 .1 .0 .spins in
-    all-rows (s .args .t .n) (s .args .t .s) (now (s .args .spins)) long (e .spins-ok .result) (e .spins-ok .ensures)
-
-k3 : (e : tie.Else2) → let a = S1 (E1 e) .args in Spins (a .t .n) (AllSystems (a .t .s)) (now (a .spins))
-k3 e = passed (e .before .spins-ok .result) (e .if2 .left) (rows-tell (e .before))
+k3 : (e : tie.Else2) → let a = S1 (E1 e) .args in Spins (a .t .n) (Named (a .t .s) (groupNames (a .t .group))) (now (a .spins))
+k3 e = passed (e .before .group-rows-ok .result) (e .if2 .left) (e .before .group-rows-ok .ensures)
 
 test-shape-requires : tie.Need-test-shape-requires
 test-shape-requires c κs = search needs
@@ -60,14 +52,17 @@ returns c =
     shape-broken (a .t) (now (a .spins)) (now (a .totals)) (now (a .fwd)) (now (a .bwd)) (now (a .pins)) (now (a .couplings)) (a .l) (s .pre)
     (e .test-shape .result) (c .if1 .taken) (e .test-shape .ensures)
 
-spins-ok-requires : tie.Need-spins-ok-requires
-spins-ok-requires c κs = search needs
+group-rows-ok-requires : tie.Need-group-rows-ok-requires
+group-rows-ok-requires c κs =
+    let k = k1 (c .before) in
+    let long = sym (S1 (c .before) .pre .spins-is) ∙ k .1 .1 .0 .spins in
+    (record { long = long; n-high = k .0 .lattice .n-high; s-high = k .0 .lattice .s-high }, k .0 .size-high)
 
 returns-2 : tie.Need-returns-2
 returns-2 c =
     let t = c .before in
-    let e = t .before in
-    inr (k1 e .0, inr (k1 e .1 .0, inr (k1 e .1 .1 .0, inr (k2 e, inl (refused (t .spins-ok .result) (c .if2 .taken) (rows-tell t), refl)))))
+    let e = t .before .before in
+    inr (k1 e .0, inr (k1 e .1 .0, inr (k1 e .1 .1 .0, inr (k2 e, inl (refused (t .group-rows-ok .result) (c .if2 .taken) (t .group-rows-ok .ensures), refl)))))
 
 test-tables-requires : tie.Need-test-tables-requires
 test-tables-requires c κs =
@@ -90,9 +85,9 @@ returns-3 c =
     let js = now (a .couplings) in
     let r = c .test-tables .result in
     let tables = tableRules t fwd bwd (now (a .pins)) js in
-    let spins = rule 3 (Spins (t .n) (AllSystems (t .s)) (now (a .spins))) in
+    let spins = rule 3 (Spins (t .n) (Named (t .s) (groupNames (t .group))) (now (a .spins))) in
     verdict-later (lengthRules t (now (a .totals)) fwd bwd js (a .l)) (spins ∷ tables) r (k1 e .0, (k1 e .1 .0, (k1 e .1 .1 .0, (k2 e, tt))))
     (verdict-later (spins ∷ []) tables r (k3 f, tt) (c .test-tables .ensures))
 
 pub test-panel-spec : {M : Type 1} → statement M
-test-panel-spec = tie.close (tie.spec test-shape-requires returns spins-ok-requires returns-2 test-tables-requires returns-3)
+test-panel-spec = tie.close (tie.spec test-shape-requires returns group-rows-ok-requires returns-2 test-tables-requires returns-3)

@@ -1,0 +1,4 @@
+-- What each test is about, and that it has one answer.
+pub mod Rows
+pub mod Owners
+pub mod Determined
