@@ -2,11 +2,11 @@
  * mode in the all-clusters form, a sweep that is refused, and one that grows a cluster in each task. Behind each of the first
  * stand the components that were found in its tasks, and the first task's sites by their numbers. The sweeps keep each
  * system's energy as a total, which is metered before them, handed over, and held to the meter after each. Then a group of
- * five is moved by permutations that are lent as numbers, and once more by their rows. Then some sites are pinned: a sweep of
- * one cluster in each task says how many of them a pin holds, and so does a move. Up to there one team has the whole panel; last,
- * two of its systems go to another, which moves these and leaves what is the first's. The couplings come from an edge list,
- * in the file that is named behind the program, or else in examples/panel.edges; every choice is drawn from one seed, so that
- * each run is the same. panel.rs is the same program in Rust; both print panel.out. */
+ * five is moved by permutations that are lent as numbers, and once more by their rows, and checked as a vendor's. Then some
+ * sites are pinned: a sweep of one cluster in each task says how many of them a pin holds, and so does a move. Up to there one
+ * team has the whole panel; last, two of its systems go to another, which moves these and leaves what is the first's. The
+ * couplings come from an edge list, in the file that is named behind the program, or else in examples/panel.edges; every
+ * choice is drawn from one seed, so that each run is the same. panel.rs is the same program in Rust; both print panel.out. */
 #include "tsorvenk.h"
 #include <stdio.h>
 #include <stdlib.h>
@@ -256,16 +256,33 @@ static uint8_t permute(uint8_t coding, const uint8_t *perms, size_t perms_len, i
     return tsorvenk_step_with(&args);
 }
 
+/* the move of five, taken for a vendor's: as it is, and with the last spin of the last system turned */
+static void check_five(const int8_t *before, int8_t *after) {
+    uint8_t rows[FIVE * N] = {0}, code;
+    uint32_t fault = 0;
+    struct tsorvenk_check_vendor_args args = {
+        .mode = TSORVENK_PERM, .n = N, .d = D, .members = FIVE, .fwd = fwd, .fwd_len = N * D, .bwd = bwd, .bwd_len = N * D,
+        .before = before, .before_len = FIVE * N, .after = after, .after_len = FIVE * N,
+        .rows = rows, .rows_len = FIVE * N, .fault = &fault, .fault_len = 1,
+    };
+    code = tsorvenk_check_vendor_with(&args);
+    printf("  checked as a vendor's: %s, by %u %u %u %u %u first\n", code ? "not accepted" : "accepted", rows[0], rows[1], rows[2],
+        rows[3], rows[4]);
+    after[FIVE * N - 1] = -after[FIVE * N - 1];
+    code = tsorvenk_check_vendor_with(&args);
+    printf("  with one spin turned: %s, for component %u\n", code == TSORVENK_NO ? "not accepted" : "accepted", (unsigned)fault);
+}
+
 /* five systems are moved by numbers, a byte for each choice, and once more by the rows of these, five bytes each */
 static void move_five(struct outputs *o) {
     uint8_t coins[FIVE * N], numbers[N], rows[FIVE * N], number = 0;
-    int8_t spins[FIVE * N], again[FIVE * N];
+    int8_t before[FIVE * N], spins[FIVE * N], again[FIVE * N];
     drawn(tsorvenk_fill_flips(source, 4, coins, FIVE * N));
     drawn(tsorvenk_fill_numbers(source, 4, numbers, N));
     for (int k = 0; k < N; k++)
         tsorvenk_row_of(numbers[k], rows + k * FIVE, FIVE);
     for (int k = 0; k < FIVE * N; k++)
-        spins[k] = again[k] = coins[k] ? 1 : -1;
+        before[k] = spins[k] = again[k] = coins[k] ? 1 : -1;
     if (permute(TSORVENK_BY_NUMBERS, numbers, N, spins, o) || permute(TSORVENK_BY_ROWS, rows, FIVE * N, again, o)) {
         fprintf(stderr, "a move of five is refused\n");
         exit(1);
@@ -273,6 +290,7 @@ static void move_five(struct outputs *o) {
     printf("five by %d numbers, and by their rows: %s spins\n", N, memcmp(spins, again, sizeof spins) ? "other" : "the same");
     tsorvenk_number_of(rows, FIVE, &number, 1);
     printf("  the first row is %u %u %u %u %u, and its number %u\n", rows[0], rows[1], rows[2], rows[3], rows[4], number);
+    check_five(before, spins);
 }
 
 /* a move of the first group's cluster, from this seed */

@@ -2,11 +2,11 @@
 //! in the all-clusters form, a sweep that is refused, and one that grows a cluster in each task. Behind each of the first
 //! stand the components that were found in its tasks, and the first task's sites by their numbers. The sweeps keep each
 //! system's energy as a total, which is metered before them, handed over, and held to the meter after each. Then a group of
-//! five is moved by permutations that are lent as numbers, and once more by their rows. Then some sites are pinned: a sweep of
-//! one cluster in each task says how many of them a pin holds, and so does a move. Up to there one team has the whole panel; last,
-//! two of its systems go to another, which moves these and leaves what is the first's. The couplings come from an edge list,
-//! in the file that is named behind the program, or else in examples/panel.edges; every choice is drawn from one seed, so that
-//! each run is the same. panel.c is the same program in C; both print panel.out.
+//! five is moved by permutations that are lent as numbers, and once more by their rows, and checked as a vendor's. Then some
+//! sites are pinned: a sweep of one cluster in each task says how many of them a pin holds, and so does a move. Up to there one
+//! team has the whole panel; last, two of its systems go to another, which moves these and leaves what is the first's. The
+//! couplings come from an edge list, in the file that is named behind the program, or else in examples/panel.edges; every
+//! choice is drawn from one seed, so that each run is the same. panel.c is the same program in C; both print panel.out.
 use std::error::Error;
 use tsorvenk::{
     refusal_words, Form, HandOver, Keeps, MeterAll, Mode, ReadEdges, Refusal, Source, Sweep, Swept,

@@ -19,11 +19,11 @@
  *
  *   1  n not 1 to 4096, d not 1 to 4, s not 1 to 64, group size not 2 to 8, or not 2 in CMR, or not 5 where permutations
  *      are numbers; a mode above 5, a form above 3, a coding above 1, keeps above 1; in a sweep t * r not the number of the
- *      caller's own systems, t or r 0, or members above r
+ *      caller's own systems, t or r 0, or members above r; of a vendor's moves a mode that is not perm or gperm
  *  15  straight after 1: houd with a group of more than 2 in SW, Wolff or grow; a sweep is refused whole
  *   2  a buffer's length is not the exact one
  *   3  a spin of a system that the call names, and that is the caller's own, is not +1 or -1; a byte of packed columns has a
- *      bit from N upwards
+ *      bit from N upwards; a vendor's spin, before or after, is not +1 or -1
  *   4  a neighbour is n or more, or fwd and bwd are not inverse; after the tables, a pin byte is not 0 or 1
  *   5  a system of the group, of the order or the meter's is s or more, or the other team's; one stands twice
  *   6  a coupling's size is above 1,000,000
@@ -69,8 +69,8 @@
  * not move, but the blue ones in it that are not held still flip. Where the seed's component (CMR: its blue one) is held, Wolff
  * and grow answer TSORVENK_HELD: what the form writes is written, and spins and totals stay. In CMR, where only its grey one is
  * held, the blue flip stands, and the answer is 0. SW is never held, even if every component is, and to observe neither: there
- * pins are tested and change nothing. Answers come in this order: a refusal, idle, held, moved. The meter, the hand-over, the
- * labelling, packing and the edge list know no pins, and frames pin nothing.
+ * pins are tested and change nothing. Answers come in this order: a refusal, idle, held, moved. A vendor's moves are checked with
+ * pins too. The meter, the hand-over, the labelling, packing and the edge list know no pins, and frames pin nothing.
  *
  * Owners: two teams may search with systems of their own in one buffer of spins, on the same tables, couplings and pins. A byte
  * for each system, 0 or 1, says whose it is, and team, 0 or 1, who calls. tsorvenk_step, tsorvenk_sweep, tsorvenk_energy and
@@ -80,7 +80,8 @@
  * are named are looked at. So what comes back depends on the sizes, the shared tables, the owners, the caller's own rows, totals
  * and arguments, and on nothing else. The hand-over names nobody: it is of all the caller's own systems. Where one team has the
  * whole panel every owner byte is 0, and so is team. Two teams' calls on one buffer are made one after the other, as any others.
- * Packed calls, labels, frames, draws and edge lists know no owners; the frame program tests the spins of all its systems.
+ * Packed calls, the check of a vendor's moves, labels, frames, draws and edge lists know no owners; the frame program tests the
+ * spins of all its systems.
  */
 #ifndef TSORVENK_H
 #define TSORVENK_H
@@ -97,9 +98,9 @@ enum { TSORVENK_SW, TSORVENK_WOLFF, TSORVENK_OBSERVE, TSORVENK_GROW };
 enum { TSORVENK_BY_ROWS, TSORVENK_BY_NUMBERS };
 enum { TSORVENK_KEEPS_NOTHING, TSORVENK_KEEPS_TOTALS };
 
-/* Numbers that are no refusals: of a step with no acting site, of frames for whose answer there is no room, and of a step in
- * Wolff or grow whose seed is held by a pin. */
-enum { TSORVENK_IDLE = 64, TSORVENK_NO_ROOM = 65, TSORVENK_HELD = 66 };
+/* Numbers that are no refusals: of a step with no acting site, of frames for whose answer there is no room, of a step in Wolff
+ * or grow whose seed is held by a pin, and of a vendor's spins that are not accepted. */
+enum { TSORVENK_IDLE = 64, TSORVENK_NO_ROOM = 65, TSORVENK_HELD = 66, TSORVENK_NO = 67 };
 
 /* One move or observation of one group, of N = group_len systems.
  *
@@ -253,6 +254,39 @@ uint8_t tsorvenk_packed_step(uint8_t mode, uint8_t form, uint8_t coding, uint8_t
     uint32_t *counts, size_t counts_len, uint32_t *sizes, size_t sizes_len,
     uint8_t *member_sites, size_t member_sites_len,
     uint32_t *found, size_t found_len, uint32_t *grey_found, size_t grey_found_len);
+
+/* Whether a vendor's spins of one group, of N = members systems, before and after a move are those of a move in perm or gperm. The
+ * systems have no numbers: their rows stand in the group's order.
+ *
+ *   mode         perm or gperm; any other is refused with 1
+ *   before       N * n: the spin of member k at site i is at k * n + i, +1 or -1
+ *   after        N * n, likewise
+ *   fwd, bwd, pins                                                 as in a step
+ *   reference    a site                                            gperm
+ *
+ * Components are those of before, numbered as by an observation of it, where a site that does not act is one of its own. A
+ * component that acts is what a move makes of it if one permutation p of 0 to N - 1 serves at all its sites: replica k gets the
+ * old spin of replica p(k); in gperm, with the old spins P of the reference site, P(k) * P(p(k)) times that. Each component has
+ * its own p. A component is at fault if it acts and there is no such p, if it does not act and its site differs, or if it is
+ * held, by a pinned site, and differs, even where there is such a p. gperm's reference site never acts. The pair is accepted
+ * where no component is at fault: so is whatever SW, Wolff and grow write in that mode with these pins.
+ *
+ * Written if accepted, and only then:
+ *
+ *   rows         n * N: in row c, from c * N on, of the component of number c that acts the smallest such p, as a word: where
+ *                rows of spins are equal on the component several serve. In the rows of all other components, and past the
+ *                last, 0 to N - 1. As perms of SW they make after of before
+ *
+ * Written if a component is at fault, and only then:
+ *
+ *   fault        1: the smallest number of such a component
+ *
+ * Returns 0 if the pair is accepted, TSORVENK_NO if not, else the refusal 1 (n, d, members and the mode), 2, 3 (a spin of either
+ * buffer), 4 (the tables, then the pins) or 9 (gperm's reference), in this order. */
+uint8_t tsorvenk_check_vendor(uint8_t mode, size_t n, size_t d, size_t members, size_t reference,
+    const uint32_t *fwd, size_t fwd_len, const uint32_t *bwd, size_t bwd_len, const uint8_t *pins, size_t pins_len,
+    const int8_t *before, size_t before_len, const int8_t *after, size_t after_len,
+    uint8_t *rows, size_t rows_len, uint32_t *fault, size_t fault_len);
 
 /* The energy of one system: minus the sum over all n * d bonds of the coupling times both spins.
  *
@@ -579,6 +613,25 @@ struct tsorvenk_packed_step_args {
     size_t grey_found_len;
 };
 
+struct tsorvenk_check_vendor_args {
+    uint8_t mode;
+    size_t n, d, members, reference;
+    const uint32_t *fwd;
+    size_t fwd_len;
+    const uint32_t *bwd;
+    size_t bwd_len;
+    const uint8_t *pins;
+    size_t pins_len;
+    const int8_t *before;
+    size_t before_len;
+    const int8_t *after;
+    size_t after_len;
+    uint8_t *rows;
+    size_t rows_len;
+    uint32_t *fault;
+    size_t fault_len;
+};
+
 struct tsorvenk_energy_args {
     size_t n, d, s;
     uint8_t team;
@@ -763,6 +816,15 @@ static inline uint8_t tsorvenk_packed_step_with(const struct tsorvenk_packed_ste
         TSORVENK_LENT(grey_found, no_u32));
 }
 
+static inline uint8_t tsorvenk_check_vendor_with(const struct tsorvenk_check_vendor_args *args) {
+    int8_t no_i8 = 0;
+    uint8_t no_u8 = 0;
+    uint32_t no_u32 = 0;
+    return tsorvenk_check_vendor(args->mode, args->n, args->d, args->members, args->reference, TSORVENK_LENT(fwd, no_u32),
+        TSORVENK_LENT(bwd, no_u32), TSORVENK_PINS, TSORVENK_LENT(before, no_i8), TSORVENK_LENT(after, no_i8),
+        TSORVENK_LENT(rows, no_u8), TSORVENK_LENT(fault, no_u32));
+}
+
 static inline uint8_t tsorvenk_energy_with(const struct tsorvenk_energy_args *args) {
     int8_t no_i8 = 0;
     int32_t no_i32 = 0;
@@ -890,8 +952,8 @@ static inline const char *tsorvenk_refusal_words(int number) {
     case 1: return "a size, a group's size, the mode, the form, the coding or what is kept is out of its range";
     case 2: return "a buffer's length is not the exact one";
     case 3:
-        return "a spin of a named system is not +1 or -1, a packed byte has a bit from N upwards, or an owner byte or the team is "
-               "above 1";
+        return "a spin of a named system or a vendor's is not +1 or -1, a packed byte has a bit from N upwards, or an owner byte or "
+               "the team is above 1";
     case 4: return "a neighbour is n or more, the forward and backward tables are not inverse, or a pin byte is not 0 or 1";
     case 5: return "a system is s or more, the other team's or stands twice";
     case 6: return "a coupling's size is above 1,000,000";
@@ -909,6 +971,7 @@ static inline const char *tsorvenk_refusal_words(int number) {
     case TSORVENK_IDLE: return "not refused: no site acts";
     case TSORVENK_NO_ROOM: return "there is no room for the answer";
     case TSORVENK_HELD: return "not refused: a pin holds the seed's component";
+    case TSORVENK_NO: return "not refused: the vendor's spins are not accepted, a component is at fault";
     default: return "a number that no call gives";
     }
 }

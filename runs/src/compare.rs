@@ -15,12 +15,14 @@ mod line;
 mod packed;
 mod pinned;
 mod teams;
+mod vendor;
 
 pub use houd::{single_of_more, swept_of_more};
 pub use labelling::{damaged_labelling, labelling};
 pub use line::{keep, Found, Line};
 pub use packed::{damaged_layout, damaged_packed};
 pub use teams::{shared_single, shared_swept};
+pub use vendor::{own_move, vendored};
 
 pub fn differ<T: PartialEq + Debug>(text: &mut String, what: &str, one: T, other: T) {
     if one != other {

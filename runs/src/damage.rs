@@ -5,6 +5,10 @@ use crate::packed::Layout;
 use crate::rand::Rand;
 use calls::Coding;
 
+mod vendor;
+
+pub use vendor::vendored;
+
 fn longer_or_shorter<T: Copy + Default>(rand: &mut Rand, buffer: &mut Vec<T>) {
     match rand.once_in(2) {
         true => buffer.push(T::default()),
@@ -30,7 +34,7 @@ fn size(rand: &mut Rand, size: &mut usize, most: usize) {
 
 /// Two entries of one direction change places: each table alone stays a permutation.
 fn crossed(rand: &mut Rand, table: &mut [u32], n: usize, d: usize) {
-    if n * d == table.len() && n > 0 && d > 0 {
+    if n.checked_mul(d) == Some(table.len()) && n > 0 && d > 0 {
         let along = rand.range(0, d - 1);
         let (i, j) = (rand.range(0, n - 1), rand.range(0, n - 1));
         table.swap(i * d + along, j * d + along);

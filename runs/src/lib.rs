@@ -19,3 +19,4 @@ pub mod raw;
 pub mod replay;
 pub mod teams;
 pub mod timing;
+pub mod vendor;

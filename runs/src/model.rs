@@ -1,10 +1,10 @@
 //! Document 01 in plain Rust, written from its text and not from overlap.rs: every sentence once, no speed. Counts and sizes are those of
 //! request 4/14, the form that grows is that of request 5/14, the totals are those of 6/14, the components are numbered as in 7/14,
 //! permutations may be numbers as in 8/14, sites may be pinned as in 9/14, houd moves groups of two alone as in 10/14, a group may be
-//! one byte for each site as in 11/14, and a panel may have systems of two teams as in 12/14.
+//! one byte for each site as in 11/14, a panel may have systems of two teams as in 12/14, and a vendor's moves are checked as in 13/14.
 use crate::case;
 use calls::{Answer, HandOver, Label, Meter, MeterAnswer, Port, Step, Sweep, SweepAnswer};
-use calls::{Coding, Form, Mode, Pack, PackedStep, Unpack};
+use calls::{CheckVendor, Coding, Form, Mode, Pack, PackedStep, Unpack, VendorAnswer};
 
 /// What a call of any kind lends of the panel.
 macro_rules! panel_of {
@@ -56,6 +56,7 @@ mod single;
 mod sweeps;
 mod teams;
 mod totals;
+mod vendor;
 
 use bonds::acts;
 use components::Components;
@@ -69,6 +70,7 @@ use sweeps::{sweep_refusal, sweep_task, unmasked};
 pub use teams::owner_refusal;
 pub use totals::LARGEST;
 use totals::{bring, handed_over, meter, metered};
+pub use vendor::{check_vendor, words, NO};
 
 /// What every call lends: the lattice and all spins, and whose they are. Couplings are there where the call takes them.
 #[derive(Clone, Copy)]
@@ -357,5 +359,14 @@ impl Port for Model {
 
     fn unpack(&mut self, call: Unpack) -> u8 {
         packed::unpack(call)
+    }
+
+    fn check_vendor(&mut self, call: CheckVendor) -> VendorAnswer {
+        let mut fault = [0];
+        match check_vendor(call.mode as u8, call, &mut fault) {
+            0 => VendorAnswer::Accepted,
+            NO => VendorAnswer::No(fault[0]),
+            number => VendorAnswer::Refused(number),
+        }
     }
 }

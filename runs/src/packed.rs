@@ -7,7 +7,7 @@ use calls::{Answer, Pack, Port, Unpack};
 const MOST: usize = 8;
 
 /// The rows of these systems, in their order.
-fn rows_of(group: &[u32], spins: &[i8], n: usize) -> Vec<i8> {
+pub fn rows_of(group: &[u32], spins: &[i8], n: usize) -> Vec<i8> {
     let row = |&system: &u32| &spins[system as usize * n..(system as usize + 1) * n];
     group.iter().flat_map(row).copied().collect()
 }

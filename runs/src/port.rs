@@ -13,7 +13,7 @@ pub fn linked() -> Option<Box<dyn Port>> {
 #[cfg(port)]
 mod linked {
     use calls::{Answer, Coding, Form, HandOver, Keeps, Label, Meter, MeterAnswer, Mode, Port};
-    use calls::{Pack, PackedStep, Step, Sweep, SweepAnswer, Unpack};
+    use calls::{CheckVendor, Pack, PackedStep, Step, Sweep, SweepAnswer, Unpack, VendorAnswer};
 
     pub struct Linked;
 
@@ -211,6 +211,26 @@ mod linked {
                 columns: call.columns,
                 rows: call.rows,
             }))
+        }
+
+        fn check_vendor(&mut self, call: CheckVendor) -> VendorAnswer {
+            match tsorvenk::check_vendor(tsorvenk::CheckVendor {
+                mode: mode(call.mode),
+                n: call.n,
+                d: call.d,
+                members: call.members,
+                reference: call.reference,
+                fwd: call.fwd,
+                bwd: call.bwd,
+                pins: Some(call.pins),
+                before: call.before,
+                after: call.after,
+                rows: call.rows,
+            }) {
+                Ok(tsorvenk::Checked::Accepted) => VendorAnswer::Accepted,
+                Ok(tsorvenk::Checked::Fault(component)) => VendorAnswer::No(component),
+                Err(refusal) => VendorAnswer::Refused(refusal.number),
+            }
         }
     }
 }

@@ -1,6 +1,6 @@
 //! Exported functions as C calls them, with what the crate `tsorvenk` cannot say: numbers that are no mode, form, coding or keeps, and rows and
 //! outputs of any length. None where the library was not there at build time.
-use calls::{PackedStep, Step, Sweep};
+use calls::{CheckVendor, PackedStep, Step, Sweep};
 
 /// Mode, form, coding and keeps as numbers.
 pub type Numbers = [u8; 4];
@@ -38,6 +38,17 @@ pub fn sweep(numbers: Numbers, call: Sweep, outcomes: &mut [u32]) -> Option<u8> 
     }
 }
 
+/// A check of a vendor's moves in place of whose mode this number is lent, with the component at fault that it writes.
+pub fn check_vendor(mode: u8, call: CheckVendor, fault: &mut [u32]) -> Option<u8> {
+    #[cfg(port)]
+    return Some(linked::check_vendor(mode, call, fault));
+    #[cfg(not(port))]
+    {
+        let _ = (mode, call, fault);
+        None
+    }
+}
+
 pub fn row_of(number: u8, row: &mut [u8]) -> Option<u8> {
     #[cfg(port)]
     return Some(linked::row_of(number, row));
@@ -63,7 +74,7 @@ pub fn number_of(row: &[u8], number: &mut [u8]) -> Option<u8> {
 #[rustfmt::skip]
 mod linked {
     use super::Numbers;
-    use calls::{PackedStep, Step, Sweep};
+    use calls::{CheckVendor, PackedStep, Step, Sweep};
 
     extern "C" {
         fn tsorvenk_step(
@@ -106,6 +117,12 @@ mod linked {
             member_sites: *mut u8, member_sites_len: usize,
             found: *mut u32, found_len: usize, grey_found: *mut u32, grey_found_len: usize,
             outcomes: *mut u32, outcomes_len: usize,
+        ) -> u8;
+        fn tsorvenk_check_vendor(
+            mode: u8, n: usize, d: usize, members: usize, reference: usize,
+            fwd: *const u32, fwd_len: usize, bwd: *const u32, bwd_len: usize, pins: *const u8, pins_len: usize,
+            before: *const i8, before_len: usize, after: *const i8, after_len: usize,
+            rows: *mut u8, rows_len: usize, fault: *mut u32, fault_len: usize,
         ) -> u8;
         fn tsorvenk_row_of(number: u8, row: *mut u8, row_len: usize) -> u8;
         fn tsorvenk_number_of(row: *const u8, row_len: usize, number: *mut u8, number_len: usize) -> u8;
@@ -166,6 +183,17 @@ mod linked {
                 call.member_sites.as_mut_ptr(), call.member_sites.len(),
                 call.found.as_mut_ptr(), call.found.len(), call.grey_found.as_mut_ptr(), call.grey_found.len(),
                 outcomes.as_mut_ptr(), outcomes.len(),
+            )
+        }
+    }
+
+    pub fn check_vendor(mode: u8, call: CheckVendor, fault: &mut [u32]) -> u8 {
+        unsafe {
+            tsorvenk_check_vendor(
+                mode, call.n, call.d, call.members, call.reference,
+                call.fwd.as_ptr(), call.fwd.len(), call.bwd.as_ptr(), call.bwd.len(), call.pins.as_ptr(), call.pins.len(),
+                call.before.as_ptr(), call.before.len(), call.after.as_ptr(), call.after.len(),
+                call.rows.as_mut_ptr(), call.rows.len(), fault.as_mut_ptr(), fault.len(),
             )
         }
     }

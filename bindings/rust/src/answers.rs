@@ -15,6 +15,15 @@ pub enum Stepped {
     Held,
 }
 
+/// What a check of a vendor's moves that is not refused says.
+#[derive(Clone, Copy, Debug, PartialEq, Eq, Hash)]
+pub enum Checked {
+    /// The spins after are those of a move: the permutations are written.
+    Accepted,
+    /// They are not, and nothing is written: the smallest number of a component at fault.
+    Fault(u32),
+}
+
 /// The counts of a sweep that is not refused, over the tasks of unmasked temperatures.
 #[derive(Clone, Copy, Debug, PartialEq, Eq, Hash)]
 #[non_exhaustive]
@@ -69,13 +78,13 @@ impl fmt::Display for NoRoom {
 impl Error for NoRoom {}
 
 /// Words for each number of the C interface, whose `tsorvenk_refusal_words` has the same: the refusals 1 to 10 and 12 to 15,
-/// 11 of a text of frames, and 0, 64, 65 and 66, which are none.
+/// 11 of a text of frames, and 0 and 64 to 67, which are none.
 pub fn refusal_words(number: u8) -> &'static str {
     match number {
         0 => "not refused",
         1 => "a size, a group's size, the mode, the form, the coding or what is kept is out of its range",
         2 => "a buffer's length is not the exact one",
-        3 => "a spin of a named system is not +1 or -1, a packed byte has a bit from N upwards, or an owner byte or the team is above 1",
+        3 => "a spin of a named system or a vendor's is not +1 or -1, a packed byte has a bit from N upwards, or an owner byte or the team is above 1",
         4 => "a neighbour is n or more, the forward and backward tables are not inverse, or a pin byte is not 0 or 1",
         5 => "a system is s or more, the other team's or stands twice",
         6 => "a coupling's size is above 1,000,000",
@@ -91,6 +100,7 @@ pub fn refusal_words(number: u8) -> &'static str {
         64 => "not refused: no site acts",
         65 => "there is no room for the answer",
         66 => "not refused: a pin holds the seed's component",
+        67 => "not refused: the vendor's spins are not accepted, a component is at fault",
         _ => "a number that no call gives",
     }
 }

@@ -1,9 +1,11 @@
 //! What a call is lent.
 mod meter;
 mod packed;
+mod vendor;
 
 pub use meter::{Energy, HandOver, MeterAll};
 pub use packed::{Pack, PackedStep, Unpack};
+pub use vendor::CheckVendor;
 
 /// Which sites act, which bonds hold and what a choice does.
 #[derive(Clone, Copy, Debug, Default, PartialEq, Eq, Hash)]

@@ -48,6 +48,12 @@ extern "C" {
         member_sites: *mut u8, member_sites_len: usize,
         found: *mut u32, found_len: usize, grey_found: *mut u32, grey_found_len: usize,
     ) -> u8;
+    pub fn tsorvenk_check_vendor(
+        mode: u8, n: usize, d: usize, members: usize, reference: usize,
+        fwd: *const u32, fwd_len: usize, bwd: *const u32, bwd_len: usize, pins: *const u8, pins_len: usize,
+        before: *const i8, before_len: usize, after: *const i8, after_len: usize,
+        rows: *mut u8, rows_len: usize, fault: *mut u32, fault_len: usize,
+    ) -> u8;
     pub fn tsorvenk_energy(
         n: usize, d: usize, s: usize, team: u8, owners: *const u8, owners_len: usize,
         spins: *const i8, spins_len: usize, fwd: *const u32, fwd_len: usize, bwd: *const u32, bwd_len: usize,

@@ -12,7 +12,7 @@
 //! spins ([`Keeps::Totals`]). A permutation of five may be lent as one byte, its number ([`Coding::Numbers`]). Sites may be
 //! pinned ([`Step::pins`]): what hangs together with one does not move. A group may be lent as one byte for each site
 //! ([`PackedStep`]) instead of a row for each system. Two teams may have systems of their own on one panel ([`Teams`]): neither's
-//! calls see the other's.
+//! calls see the other's. Spins before and after a move that another made are checked ([`CheckVendor`]).
 //!
 //! ```
 //! use tsorvenk::{step, Form, Mode, Refusal, Step, Stepped};
@@ -66,11 +66,13 @@ mod packed;
 #[cfg(linked)]
 mod safe;
 mod teams;
+#[cfg(linked)]
+mod vendor;
 
-pub use answers::{refusal_words, NoRoom, Refusal, Stepped, Swept};
+pub use answers::{refusal_words, Checked, NoRoom, Refusal, Stepped, Swept};
 pub use calls::{
-    Coding, Energy, Form, Frames, HandOver, Keeps, Label, MeterAll, Mode, Pack, PackedStep,
-    ReadEdges, Step, Sweep, Unpack, WriteEdges, EDGES_ROOM, FRAMES_ROOM,
+    CheckVendor, Coding, Energy, Form, Frames, HandOver, Keeps, Label, MeterAll, Mode, Pack,
+    PackedStep, ReadEdges, Step, Sweep, Unpack, WriteEdges, EDGES_ROOM, FRAMES_ROOM,
 };
 #[cfg(linked)]
 pub use draws::Source;
@@ -83,3 +85,5 @@ pub use packed::{pack, packed_step, unpack};
 #[cfg(linked)]
 pub use safe::{frames, label, read_edges, step, sweep, write_edges};
 pub use teams::{OwnSystem, Team, Teams};
+#[cfg(linked)]
+pub use vendor::check_vendor;

@@ -186,7 +186,7 @@ fn a_refusal_is_an_error_with_words() {
         .collect();
     assert_eq!(
         known,
-        [0, 1, 2, 3, 4, 5, 6, 7, 8, 9, 10, 11, 12, 13, 14, 15, 64, 65, 66]
+        [0, 1, 2, 3, 4, 5, 6, 7, 8, 9, 10, 11, 12, 13, 14, 15, 64, 65, 66, 67]
     );
     let mut words: Vec<&str> = known.iter().map(|&number| refusal_words(number)).collect();
     words.sort_unstable();

@@ -371,6 +371,7 @@ fn a_bit_from_the_size_upwards_is_refused() {
     }
     assert_eq!(
         Refusal { number: 3 }.to_string(),
-        "refused with 3: a spin of a named system is not +1 or -1, a packed byte has a bit from N upwards, or an owner byte or the team is above 1"
+        "refused with 3: a spin of a named system or a vendor's is not +1 or -1, a packed byte has a bit from N upwards, \
+        or an owner byte or the team is above 1"
     );
 }

@@ -8,7 +8,8 @@ use Rattle.paper.specs.Refusal.Rules.{Permutes}
 use Rattle.paper.specs.Refusal.Verdict.{Verdict}
 use Rattle.orders.specs.declared.Numbered.{Numbered}
 use Rattle.orders.specs.declared.Numbered.the-variants.{Refused, Number}
-use Rattle.orders.specs.Table.{orders, row, Agree}
+use Rattle.orders.specs.Table.{orders, row}
+use Rattle.orders.specs.Words.{Agree}
 use Rattle.orders.specs.Rank.{later}
 
 -- ---- the row of a number

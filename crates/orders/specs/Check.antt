@@ -10,7 +10,8 @@ use lib.Dec.{ltb, eqb}
 use lib.ListN.{length}
 use Rattle.lemmas.specs.Bools.{never, and-left, and-right, every, every-is, belowTest, below-by}
 use Rattle.paper.specs.Refusal.Rules.{Permutes}
-use Rattle.orders.specs.Table.{rowIn, Agree, Before, Ruled, orders}
+use Rattle.orders.specs.Table.{rowIn, Ruled, orders}
+use Rattle.orders.specs.Words.{Agree, Before}
 
 -- no two of the five are equal
 abbrev apartTest : (ℕ → ℕ) → Bool
@@ -34,14 +35,14 @@ permutes-by p e = record {
     apart a b h true w o = eqb-true a b w
     apart a b h false w o = absurd (eqb-false (p a) (p b) (not-true (eqb (p a) (p b)) o) h)
 
-before-by : (n i : ℕ) (p q : ℕ → ℕ) → i + n ≡ 5 → Agree i p q → beforeTest n i p q ≡ true → Before p q
+before-by : (n i : ℕ) (p q : ℕ → ℕ) → i + n ≡ 5 → Agree i p q → beforeTest n i p q ≡ true → Before 5 p q
 unfolding beforeTest
 before-by zero i p q e a h = never h
 before-by (suc n) i p q e a h = go (ltb (p i) (q i)) refl h (λ (w : Agree (suc i) p q). before-by n (suc i) p q (omega arith) w)
   where
     go :
         (t : Bool) → ltb (p i) (q i) ≡ t → (t || (eqb (p i) (q i) && beforeTest n (suc i) p q)) ≡ true
-        → (Agree (suc i) p q → beforeTest n (suc i) p q ≡ true → Before p q) → Before p q
+        → (Agree (suc i) p q → beforeTest n (suc i) p q ≡ true → Before 5 p q) → Before 5 p q
     go true w o next = record { place = i; inside = omega arith; agree = a; less = ltb-true (p i) (q i) w }
     go false w o next =
         next (λ k b. last k b (ℕ-discrete k i)) (and-right (eqb (p i) (q i)) (beforeTest n (suc i) p q) o)

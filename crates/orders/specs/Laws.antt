@@ -11,7 +11,8 @@ use Rattle.paper.specs.Refusal.Rule.{broken-not-kept}
 use Rattle.paper.specs.Refusal.Rules.{Permutes, NotIdentity}
 use Rattle.orders.specs.declared.Numbered.{Numbered}
 use Rattle.orders.specs.declared.Numbered.the-variants.{Refused, Number}
-use Rattle.orders.specs.Table.{row, Agree, orders}
+use Rattle.orders.specs.Table.{row, orders}
+use Rattle.orders.specs.Words.{Agree}
 use Rattle.orders.specs.Rank.{rank, rank-most, rank-same, rank-tells}
 use Rattle.orders.specs.Once.{Once, rank-of-row, each-once}
 use Rattle.orders.specs.Check.{orders-ruled}

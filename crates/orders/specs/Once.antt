@@ -7,7 +7,8 @@ use native.Mathlib.Omega.{arith}
 use lib.ListN.{getD}
 use lib.Seq.{ext-getD}
 use Rattle.paper.specs.Refusal.Rules.{Permutes}
-use Rattle.orders.specs.Table.{rowIn, Agree, Ruled}
+use Rattle.orders.specs.Table.{rowIn, Ruled}
+use Rattle.orders.specs.Words.{Agree}
 use Rattle.orders.specs.Rank.{rank, rank-most, rank-same, rank-rises, rank-tells}
 
 -- one number, and no other, whose row is p

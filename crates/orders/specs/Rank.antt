@@ -1,14 +1,13 @@
 -- The rank of a permutation of five: it rises with the word, is at most 119, and tells the word.
 use Prim.Native.Nat.{ℕ, zero, suc, _+_, _-_, _*_, _≤_, _<_}
-use mathlib.Core.Path.{_≡_, sym}
-use native.Mathlib.Decide.{ℕ-discrete, decLt}
+use mathlib.Core.Path.{_≡_}
 use native.Mathlib.Omega.{arith}
 use borrow.Author.Tests.{ltb-true, lt-ltb, le-ltb}
 use lib.Dec.{ltb}
 use Rattle.lemmas.specs.Counts.{bit, countWhere, count-suc, count-most, count-ext, count-le}
 use Rattle.paper.specs.Refusal.Rules.{Permutes}
 use Rattle.orders.specs.Counting.{under, under-all, count-split}
-use Rattle.orders.specs.Table.{Agree, Before}
+use Rattle.orders.specs.Words.{Agree, Before, Compared, Compared.equal, Compared.before, Compared.after, compare}
 
 -- how many entries behind place i are smaller than the one there
 abbrev pub later : (ℕ → ℕ) → ℕ → ℕ
@@ -83,7 +82,7 @@ module _ (p q : ℕ → ℕ) (hp : Permutes 5 p) (hq : Permutes 5 q) where
       at : (i : ℕ) → i < 5 → later p i ≡ later q i
       at i l = same-later i l (λ k b. a k (omega arith))
 
-  pub rank-rises : Before p q → rank p < rank q
+  pub rank-rises : Before 5 p q → rank p < rank q
   unfolding rank
   rank-rises b = go (b .place) (b .inside) (b .agree) (b .less)
     where
@@ -103,31 +102,10 @@ module _ (p q : ℕ → ℕ) (hp : Permutes 5 p) (hq : Permutes 5 q) where
       go (suc (suc (suc (suc zero)))) l a h = absurd (omega (arith, less-later 4 l a h, later-most q 4))
       go (suc (suc (suc (suc (suc i))))) l a h = absurd (omega arith)
 
--- two words are equal so far, or one comes before the other
-data Compared (n : ℕ) (p q : ℕ → ℕ) : Type 0 where
-  equal : Agree n p q → Compared n p q
-  before : Before p q → Compared n p q
-  after : Before q p → Compared n p q
-
-compare : (n : ℕ) (p q : ℕ → ℕ) → n ≤ 5 → Compared n p q
-compare zero p q l = equal (λ k h. absurd (omega arith))
-compare (suc n) p q l = go (compare n p q (omega arith)) (decLt (p n) (q n)) (decLt (q n) (p n))
-  where
-    go : Compared n p q → Dec (p n < q n) → Dec (q n < p n) → Compared (suc n) p q
-    go (before b) d e = before b
-    go (after b) d e = after b
-    go (equal a) (yes h) e = before (record { place = n; inside = omega arith; agree = a; less = h })
-    go (equal a) (no m) (yes h) = after (record { place = n; inside = omega arith; agree = λ k b. sym (a k b); less = h })
-    go (equal a) (no m) (no o) = equal (λ k b. last k b (ℕ-discrete k n))
-      where
-        last : (k : ℕ) → k < suc n → Dec (k ≡ n) → p k ≡ q k
-        last k b (yes e) = rw e (omega arith)
-        last k b (no e) = a k (omega arith)
-
 pub rank-tells : (p q : ℕ → ℕ) → Permutes 5 p → Permutes 5 q → rank p ≡ rank q → Agree 5 p q
-rank-tells p q hp hq e = go (compare 5 p q (omega arith))
+rank-tells p q hp hq e = go (compare 5 5 p q (omega arith))
   where
-    go : Compared 5 p q → Agree 5 p q
+    go : Compared 5 5 p q → Agree 5 p q
     go (equal a) = a
     go (before b) = absurd (omega (arith, rank-rises p q hp hq b))
     go (after b) = absurd (omega (arith, rank-rises q p hq hp b))

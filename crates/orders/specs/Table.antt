@@ -1,30 +1,20 @@
 -- The 120 orders of five in one table, ascending as words, and the rule that makes it that table.
-use Prim.Native.Nat.{ℕ, suc, _+_, _*_, _<_}
+use Prim.Native.Nat.{ℕ, suc, _<_}
 use mathlib.Core.Path.{_≡_}
 use mathlib.Core.List.{List, [], _∷_}
-use lib.ListN.{length, getD}
+use lib.ListN.{length}
 use Rattle.paper.specs.Refusal.Rules.{Permutes}
+use Rattle.orders.specs.Words.{wordAt, Before}
 
 -- entry k of row r
 abbrev pub rowIn : List ℕ → ℕ → ℕ → ℕ
-rowIn t r k = getD t (r * 5 + k) 0
-
--- the first n entries are equal
-abbrev pub Agree : ℕ → (ℕ → ℕ) → (ℕ → ℕ) → Type 0
-Agree n p q = (k : ℕ) → k < n → p k ≡ q k
-
--- p comes before q, as a word of five
-pub record Before (p q : ℕ → ℕ) : Type 0 where
-  pub place : ℕ
-  pub inside : place < 5
-  pub agree : Agree place p q
-  pub less : p place < q place
+rowIn = wordAt 5
 
 -- the table's rule: every row is a permutation, and the rows rise
 pub record Ruled (t : List ℕ) : Type 0 where
   pub long : length t ≡ 600
   pub permutes : (r : ℕ) → r < 120 → Permutes 5 (rowIn t r)
-  pub rises : (r : ℕ) → suc r < 120 → Before (rowIn t r) (rowIn t (suc r))
+  pub rises : (r : ℕ) → suc r < 120 → Before 5 (rowIn t r) (rowIn t (suc r))
 
 unfoldable pub orders : List ℕ
 orders =

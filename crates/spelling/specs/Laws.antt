@@ -12,7 +12,8 @@ use lib.Seq.{ext-getD, getD-take, getD-drop}
 use Rattle.lemmas.specs.Cells.{table, length-table, table-at, row-of, column-of}
 use Rattle.paper.specs.Refusal.Rules.{Permutes, NotIdentity}
 use Rattle.paper.specs.Answer.Task.{part}
-use Rattle.orders.specs.Table.{row, Agree, orders}
+use Rattle.orders.specs.Table.{row, orders}
+use Rattle.orders.specs.Words.{Agree}
 use Rattle.orders.specs.Rank.{rank, rank-most, rank-tells}
 use Rattle.orders.specs.Once.{rank-of-row}
 use Rattle.orders.specs.Check.{orders-ruled}

@@ -6,3 +6,4 @@ mod Teams
 mod Written
 mod Listed
 mod Numbered
+mod Checked

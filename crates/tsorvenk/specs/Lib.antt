@@ -2,6 +2,7 @@
 pub mod Number
 pub mod Step
 pub mod Packed
+pub mod Checking
 pub mod Energy
 pub mod Label
 pub mod Sweep
@@ -13,3 +14,4 @@ pub mod Numbering
 pub mod Isolated
 pub mod SweepIsolated
 pub mod Determined
+pub mod CheckDetermined

@@ -1,4 +1,4 @@
--- A refusal's number is one of the paper's list, 1 to 14. So the returned numbers 0, 64, 65 and 66 are no refusal's, and each number tells its answer.
+-- A refusal's number is one of the paper's list, 1 to 15. So the returned numbers 0 and 64 to 67 are no refusal's, and each number tells its answer.
 use Prim.Native.Nat.{ℕ, zero, suc, _≤_}
 use mathlib.Core.Path.{_≡_, refl, ap}
 use mathlib.Core.Logic.{inl, inr}
@@ -27,6 +27,7 @@ use Rattle.coded.specs.Sweep.{spelledSweep}
 use Rattle.coded.specs.Determined.{five}
 use Rattle.tsorvenk.specs.Number.{numberOf}
 use Rattle.tsorvenk.specs.Energy.{energyRules, EnergyRefuses}
+use Rattle.tsorvenk.specs.Checking.{checkRules, CheckRefuses}
 use Rattle.tsorvenk.specs.Sweep.{WithOutcomes, outcomeRules, Counted, Uncounted}
 
 pub record Listed (r : ℕ) : Type 0 where
@@ -86,6 +87,14 @@ pub energy-listed : (t : Lattice) (xs : List ℤ) (k : ℕ) (es es′ : List ℤ
 energy-listed t xs k es es′ r h = broken-listed (energyRules t xs k es) r all (h .why)
   where
     all : AllListed (energyRules t xs k es)
+    all = search (listed, arith)
+
+-- ---- a vendor's check
+pub check-listed :
+    (c : Call) (xs ys : List ℤ) (rows fault rows′ fault′ : List ℕ) (r : ℕ) → CheckRefuses c xs ys rows fault r rows′ fault′ → Listed r
+check-listed c xs ys rows fault rows′ fault′ r h = broken-listed (checkRules c xs ys rows fault) r all (h .why)
+  where
+    all : AllListed (checkRules c xs ys rows fault)
     all = search (listed, arith)
 
 -- ---- the labelling

@@ -1,5 +1,6 @@
 // The library as C and Rust call it. Each function is a shell over a proved one: numbers in, a number out, and no caller is trusted.
 mod bytes;
+mod checking;
 mod drawing;
 mod framing;
 mod listing;

@@ -2,8 +2,10 @@
 //!
 //! A call borrows its buffers, so that what a side wrote, and what it left alone, is seen byte for byte.
 mod packed;
+mod vendor;
 
 pub use packed::{Pack, PackedStep, Unpack};
+pub use vendor::{CheckVendor, VendorAnswer};
 
 #[derive(Clone, Copy, Debug, PartialEq, Eq)]
 pub enum Mode {
@@ -296,4 +298,5 @@ pub trait Port {
     fn pack(&mut self, call: Pack) -> u8;
     /// 0, or a refusal number.
     fn unpack(&mut self, call: Unpack) -> u8;
+    fn check_vendor(&mut self, call: CheckVendor) -> VendorAnswer;
 }

@@ -1,4 +1,4 @@
-//! compare [cases] [seed]: the model of document 01, the published Rust and the port on the same random calls.
+//! compare [cases] [seed] [vendor]: the model of document 01, the published Rust and the port on the same random calls.
 //!
 //! `cases` is the number of random single moves, and of sweeps, for each mode and form (default 2000). Each is also
 //! damaged; damaged calls go to the model and the port alone, since the Rust checks nothing. Before them come all single
@@ -13,18 +13,21 @@
 //! too, and held to what the rows gave; as many more are on bytes with faults of their own, and are held to the move on the rows
 //! that these bytes stand for. As many moves and sweeps more are made on a panel that another team's systems share, twice, with
 //! rubbish in every row and total that the call does not name, and held to the call of a team that has the panel for itself; then
-//! they are damaged. Last come days that keep totals, a thousand calls each on one panel, some of them on bytes, with pins that
-//! change from call to call, every second one of two teams, whose calls are mixed; one day for every 50 cases.
+//! they are damaged. As many moves more of perm and gperm, in every form, are checked as a vendor's, each of them then changed in every
+//! way of `vendor::make` and damaged; the port is held to a model that tries every permutation. Last come days that keep totals, a
+//! thousand calls each on one panel, some of them on bytes, with pins that change from call to call, every second one of two teams,
+//! whose calls are mixed; one day for every 50 cases. With the word `vendor` only a vendor's moves are checked.
 use calls::{Coding, Form, Mode, Port};
 use std::process::ExitCode;
 use tsorvenk_runs::compare::{self, keep, Found, Line};
 use tsorvenk_runs::make::{self, Size};
 use tsorvenk_runs::rand::Rand;
-use tsorvenk_runs::{damage, days, exhaustive, port, teams};
+use tsorvenk_runs::{damage, days, exhaustive, port, teams, vendor};
 
 struct Run {
     cases: u64,
     seed: u64,
+    vendor_alone: bool,
     port: Option<Box<dyn Port>>,
     smallest: Option<Found>,
 }
@@ -157,6 +160,29 @@ impl Run {
         self.note(found);
     }
 
+    /// A move as a vendor would send it, then changed, and damaged.
+    fn vendor(&mut self, mode: Mode, form: Form, number: u64, line: &mut Line) {
+        let mut rand = self.rand(mode, form, 6, number);
+        let size = Size::mixed(&mut rand);
+        let pair = vendor::make::moved(&mut rand, mode, form, size, self.port.as_mut());
+        let found = compare::own_move(&pair, self.port.as_mut(), line);
+        self.note(found);
+        // trying every permutation on many components takes its time
+        let large = matches!(size, Size::Middle | Size::Full);
+        for (what, change) in vendor::make::CHANGES {
+            if large && !rand.once_in(4) {
+                continue;
+            }
+            let mut pair = pair.clone();
+            change(&mut rand, &mut pair);
+            let found = compare::vendored(what, &pair, self.port.as_mut(), line);
+            self.note(found);
+            damage::vendored(&mut rand, &mut pair);
+            let found = compare::vendored("damaged", &pair, self.port.as_mut(), line);
+            self.note(found);
+        }
+    }
+
     fn days(&mut self) -> days::Tally {
         let mut tally = days::Tally::default();
         for number in 0..self.cases.div_ceil(50) {
@@ -169,6 +195,12 @@ impl Run {
 
     fn mode_and_form(&mut self, mode: Mode, form: Form) -> Line {
         let mut line = Line::default();
+        for number in (0..self.cases).filter(|_| mode.permutes()) {
+            self.vendor(mode, form, number, &mut line);
+        }
+        if self.vendor_alone {
+            return line;
+        }
         exhaustive::each(mode, form, self.small(), |case| {
             let found = compare::small(&case, self.port.as_mut(), &mut line);
             self.note(found);
@@ -187,6 +219,24 @@ impl Run {
         }
         line
     }
+
+    /// How many differences there are.
+    fn all(&mut self) -> usize {
+        let mut differences = 0;
+        for mode in Mode::ALL {
+            for form in Form::ALL {
+                let line = self.mode_and_form(mode, form);
+                print(mode, form, &line);
+                differences += line.differences;
+            }
+        }
+        if !self.vendor_alone {
+            let tally = self.days();
+            print_days(&tally);
+            differences += tally.differences;
+        }
+        differences
+    }
 }
 
 fn print(mode: Mode, form: Form, line: &Line) {
@@ -195,7 +245,8 @@ fn print(mode: Mode, form: Form, line: &Line) {
         Rust: labelled {:6} depth first {:6} acting sites {:6} | beside Wolff {:6} | odd N {:5} idle {:6} | \
         pinned {:6} released {:6} held {:6} | port {:6} | damaged {:6} refused {:?} | \
         by number {:5} not of five {:6} | as pair {:6} houd of more {:5} | \
-        packed {:6} with own faults {:5} layouts {:?} | two teams {:6} | totals kept {:6} handed over {:?} | differences {}",
+        packed {:6} with own faults {:5} layouts {:?} | two teams {:6} | \
+        vendor's {:?} behind the first {:6} | totals kept {:6} handed over {:?} | differences {}",
         mode.name(),
         form.name(),
         line.singles,
@@ -221,6 +272,8 @@ fn print(mode: Mode, form: Form, line: &Line) {
         line.packed_damaged,
         line.layouts,
         line.shared,
+        line.vendor,
+        line.vendor_behind,
         line.kept,
         line.handed,
         line.differences,
@@ -248,39 +301,36 @@ fn print_days(tally: &days::Tally) {
     );
 }
 
-fn main() -> ExitCode {
-    let mut words = std::env::args().skip(1).map(|word| word.parse());
-    let mut number = |default: u64| words.next().map_or(Ok(default), |parsed| parsed);
-    let (Ok(cases), Ok(seed)) = (number(2000), number(1)) else {
-        eprintln!("compare [cases] [seed]");
-        return ExitCode::from(2);
-    };
-    let port = port::linked();
+/// What there is to compare.
+fn say_sides(linked: bool) {
     match published_patched::PRESENT {
         true => println!("published Rust: with lent choices"),
         false => println!("published Rust: left out, it was not found when this was built"),
     }
-    match port {
-        Some(_) => println!("port: linked"),
-        None => println!("port: left out, its static library was not found when this was built"),
+    match linked {
+        true => println!("port: linked"),
+        false => println!("port: left out, its static library was not found when this was built"),
     }
+}
+
+fn main() -> ExitCode {
+    let words: Vec<String> = std::env::args().skip(1).collect();
+    let number = |at: usize, default: u64| words.get(at).map_or(Ok(default), |word| word.parse());
+    let vendor_alone = words.get(2).map(String::as_str) == Some("vendor");
+    let (Ok(cases), Ok(seed)) = (number(0, 2000), number(1, 1)) else {
+        eprintln!("compare [cases] [seed] [vendor]");
+        return ExitCode::from(2);
+    };
+    let port = port::linked();
+    say_sides(port.is_some());
     let mut run = Run {
         cases,
         seed,
+        vendor_alone,
         port,
         smallest: None,
     };
-    let mut differences = 0;
-    for mode in Mode::ALL {
-        for form in Form::ALL {
-            let line = run.mode_and_form(mode, form);
-            print(mode, form, &line);
-            differences += line.differences;
-        }
-    }
-    let tally = run.days();
-    print_days(&tally);
-    differences += tally.differences;
+    let differences = run.all();
     match run.smallest {
         None => {
             println!("no difference");

@@ -5,10 +5,12 @@ use calls::{Coding, Form, Label, Mode, Port};
 use std::hint::black_box;
 use std::mem::MaybeUninit;
 use tsorvenk_runs::case::Single;
+use tsorvenk_runs::model::Model;
 use tsorvenk_runs::port;
 use tsorvenk_runs::rand::Rand;
 use tsorvenk_runs::timing::pieces::kept;
 use tsorvenk_runs::timing::{self, torus, N};
+use tsorvenk_runs::vendor::Vendored;
 
 const ROOM: usize = 1 << 20;
 const PAINT: u8 = 0xa5;
@@ -45,6 +47,16 @@ fn on_bytes(port: &mut dyn Port, case: &Single) {
     line("  on bytes", || port.packed_step(packed.step(&mut lent)));
 }
 
+/// What an SW move of eight made.
+fn vendor(port: &mut dyn Port, rand: &mut Rand, mode: Mode) {
+    let panel = timing::panel(rand, mode, Form::Sw, 4, 8);
+    let case = timing::single(rand, panel, 8);
+    let pair = Vendored::of(&case, &case.run(&mut Model).1);
+    let mut rows = pair.rows.clone();
+    let name = format!("{} check", mode.name());
+    line(&name, || port.check_vendor(pair.call(&mut rows)));
+}
+
 fn run(port: &mut dyn Port) {
     let mut rand = Rand::new(1);
     let mut most = |mode: Mode, form: Form| {
@@ -75,6 +87,8 @@ fn run(port: &mut dyn Port) {
     for mode in Mode::ALL {
         Form::ALL.iter().for_each(|&form| most(mode, form));
     }
+    vendor(port, &mut rand, Mode::Perm);
+    vendor(port, &mut rand, Mode::Gperm);
     let panel = timing::panel(&mut rand, Mode::Jorg, Form::Observe, 4, 64);
     let case = timing::single(&mut rand, panel, 2);
     line("meter", || port.energy(case.meter(63)));

@@ -34,6 +34,10 @@ pub struct Line {
     pub layouts: [usize; 4],
     /// Calls on a panel of two teams, each held to the call where its team has the panel for itself.
     pub shared: usize,
+    /// What the model answers to a vendor's pair: accepted, refused by number, and last not accepted; of the last those where a later component than
+    /// the first is at fault.
+    pub vendor: [usize; 11],
+    pub vendor_behind: usize,
     /// Calls that keep totals.
     pub kept: usize,
     /// What the model answers to a hand-over of the panel, good or damaged, by number.

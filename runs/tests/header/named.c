@@ -11,6 +11,7 @@ static struct tsorvenk_sweep_args sweep;
 static struct tsorvenk_pack_args packing;
 static struct tsorvenk_unpack_args unpacking;
 static struct tsorvenk_packed_step_args packed;
+static struct tsorvenk_check_vendor_args vendor;
 static struct tsorvenk_energy_args energy_of;
 static struct tsorvenk_hand_over_args handed;
 static struct tsorvenk_label_args label;
@@ -132,6 +133,17 @@ uint8_t tsorvenk_packed_step(uint8_t mode, uint8_t form, uint8_t coding, uint8_t
     return 122;
 }
 
+uint8_t tsorvenk_check_vendor(uint8_t mode, size_t n, size_t d, size_t members, size_t reference,
+    const uint32_t *fwd, size_t fwd_len, const uint32_t *bwd, size_t bwd_len, const uint8_t *pins, size_t pins_len,
+    const int8_t *before, size_t before_len, const int8_t *after, size_t after_len,
+    uint8_t *rows, size_t rows_len, uint32_t *fault, size_t fault_len) {
+    NUMBER(vendor, mode), NUMBER(vendor, n), NUMBER(vendor, d), NUMBER(vendor, members), NUMBER(vendor, reference);
+    PINS(vendor);
+    BUFFER(vendor, fwd), BUFFER(vendor, bwd), BUFFER(vendor, before), BUFFER(vendor, after);
+    BUFFER(vendor, rows), BUFFER(vendor, fault);
+    return 123;
+}
+
 uint8_t tsorvenk_energy(size_t n, size_t d, size_t s, uint8_t team, const uint8_t *owners, size_t owners_len,
     const int8_t *spins, size_t spins_len, const uint32_t *fwd, size_t fwd_len, const uint32_t *bwd, size_t bwd_len,
     const int32_t *couplings, size_t couplings_len, size_t system, int64_t *energy, size_t energy_len) {
@@ -242,6 +254,7 @@ static void call_all(void) {
     held(tsorvenk_pack_with(&packing) == 120, "pack", "the answer");
     held(tsorvenk_unpack_with(&unpacking) == 121, "unpack", "the answer");
     held(tsorvenk_packed_step_with(&packed) == 122, "packed_step", "the answer");
+    held(tsorvenk_check_vendor_with(&vendor) == 123, "check_vendor", "the answer");
     held(tsorvenk_energy_with(&energy_of) == 103, "energy", "the answer");
     held(tsorvenk_hand_over_with(&handed) == 117, "hand_over", "the answer");
     held(tsorvenk_label_with(&label) == 104, "label", "the answer");
@@ -304,6 +317,11 @@ int main(void) {
         .member_sites = u8 + 3, .member_sites_len = 23, .pins = u8 + 4, .pins_len = 27,
         .found = u32 + 7, .found_len = 25, .grey_found = u32 + 8, .grey_found_len = 26,
     };
+    vendor = (struct tsorvenk_check_vendor_args){
+        .mode = 1, .n = 2, .d = 3, .members = 4, .reference = 5, .fwd = u32, .fwd_len = 11, .bwd = u32 + 1, .bwd_len = 12,
+        .pins = u8, .pins_len = 13, .before = i8, .before_len = 14, .after = i8 + 1, .after_len = 15,
+        .rows = u8 + 1, .rows_len = 16, .fault = u32 + 2, .fault_len = 17,
+    };
     energy_of = (struct tsorvenk_energy_args){
         .n = 1, .d = 2, .s = 3, .system = 4, .team = 5, .owners = u8, .owners_len = 15,
         .spins = i8, .spins_len = 10, .fwd = u32, .fwd_len = 11, .bwd = u32 + 1, .bwd_len = 12,
@@ -339,12 +357,13 @@ int main(void) {
     step.found = NULL, step.grey_found = NULL, sweep.found = NULL, sweep.grey_found = NULL, label.found = NULL;
     step.member_sites = NULL, sweep.member_sites = NULL, reading.text = NULL, writing.written = NULL;
     packing.columns = NULL, unpacking.rows = NULL, packed.columns = NULL, packed.totals = NULL, packed.found = NULL;
-    step.pins = NULL, sweep.pins = NULL, packed.pins = NULL;
+    vendor.before = NULL, vendor.rows = NULL, vendor.fault = NULL;
+    step.pins = NULL, sweep.pins = NULL, packed.pins = NULL, vendor.pins = NULL;
     step.owners = NULL, sweep.owners = NULL, energy_of.owners = NULL, handed.owners = NULL;
     call_all(); /* null, and a length beside it */
-    step.n = 4096, sweep.n = 4096, packed.n = 4096, step.s = 64, sweep.s = 65, energy_of.s = 4096, handed.s = 0;
+    step.n = 4096, sweep.n = 4096, packed.n = 4096, vendor.n = 4096, step.s = 64, sweep.s = 65, energy_of.s = 4096, handed.s = 0;
     call_all(); /* as many sites as there may be, and more systems than that */
-    step.n = 4097, sweep.n = (size_t)-1, packed.n = 4097, step.s = 4097, handed.s = (size_t)-1;
+    step.n = 4097, sweep.n = (size_t)-1, packed.n = 4097, vendor.n = (size_t)-1, step.s = 4097, handed.s = (size_t)-1;
     call_all(); /* and more: no more than the table is lent */
     printf("room %d and %d\n", TSORVENK_FRAMES_ROOM, TSORVENK_EDGES_ROOM);
     for (int number = -1; number <= 256; number++)

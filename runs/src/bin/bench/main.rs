@@ -1,4 +1,4 @@
-//! bench [repetitions] [totals|numbers|pins|packed|teams]: the port against the published Rust, in one run, as the tables of docs/BENCHMARKS.md.
+//! bench [repetitions] [totals|numbers|pins|packed|teams|vendor]: the port against the published Rust, in one run, as the tables of docs/BENCHMARKS.md.
 //!
 //! Times are medians in microseconds. "Rust" is the published code with a generator, "lent" the same code with its
 //! draws read from the lent choices, "depth" the one-cluster form without outputs, a search from the seed; beside a
@@ -6,8 +6,8 @@
 //! last test; "move" is the rest. The standard output has the tables, and the standard error each case with all that
 //! was measured. Where the port is not linked the model stands in for it, so that the run itself can be tried. With the word
 //! `totals` behind the repetitions only the tables of totals are made, with `numbers` only those of permutations by number,
-//! with `pins` only those of panels with pinned sites, with `packed` only those of one byte for a site's group, and with `teams`
-//! only those of panels that two teams share, and of moves in a panel of 64 systems.
+//! with `pins` only those of panels with pinned sites, with `packed` only those of one byte for a site's group, with `teams` only
+//! those of panels that two teams share, and of moves in a panel of 64 systems, and with `vendor` only that of a vendor's moves.
 mod clusters;
 mod coded;
 mod draws;
@@ -20,6 +20,7 @@ mod pins;
 mod tables;
 mod teams;
 mod totals;
+mod vendor;
 
 use calls::{Form, Mode, Port};
 use tsorvenk_runs::model::Model;
@@ -166,6 +167,7 @@ fn main() {
             single_moves(&mut bench, Some(MANY));
             bench.teams();
         }
+        Some("vendor") => bench.vendor(),
         _ => all(&mut bench),
     }
 }
@@ -207,4 +209,5 @@ fn all(bench: &mut Bench) {
     bench.pins();
     bench.packed();
     bench.teams();
+    bench.vendor();
 }
