@@ -2,8 +2,8 @@
 use mathlib.Core.Path.{refl}
 use borrow.Author.Needs.{needs}
 use Rattle.grow.specs.Spread.{Next.kept, Next.newest}
-use Rattle.grow.proofs.next.Statement.{statement}
-use Rattle.grow.proofs.next.Tie as tie
+use Rattle.grow.proofs.growing.next.Statement.{statement}
+use Rattle.grow.proofs.growing.next.Tie as tie
 
 mul-wide : tie.Need-mul-wide
 mul-wide c = search needs

@@ -13,8 +13,8 @@ use Rattle.grow.specs.Kept.{Keeping, known-to-act}
 use Rattle.grow.specs.Growth.{Met, Met.known, Halfway, Visiting, visit-start, site}
 use Rattle.grow.specs.Contract.{graphFor, ruled}
 use Rattle.grow.proofs.Turns.{met-same, cell, cells, row, ahead-lt, behind-lt, turn-ahead, turn-behind}
-use Rattle.grow.proofs.visit.Statement.{statement}
-use Rattle.grow.proofs.visit.Tie as tie
+use Rattle.grow.proofs.growing.visit.Statement.{statement}
+use Rattle.grow.proofs.growing.visit.Tie as tie
 
 abbrev Inv-loop : tie.InvT-loop
 Inv-loop rule spins fwd bwd couplings cuts members₀ list₀ cols₀ start i own d base len₀ e₀ members list cols len e =

@@ -5,8 +5,8 @@ use borrow.Author.Needs.{needs}
 use Rattle.grow.specs.Kept.{Keeping}
 use Rattle.grow.specs.Contract.{graphFor, ruled}
 use Rattle.grow.specs.Spread.{Spreading, spread-start, spread-high, spread-room, next-spreading, next-at, next-marked, spread-more, spread-end}
-use Rattle.grow.proofs.spread.Statement.{statement}
-use Rattle.grow.proofs.spread.Tie as tie
+use Rattle.grow.proofs.growing.spread.Statement.{statement}
+use Rattle.grow.proofs.growing.spread.Tie as tie
 
 abbrev Inv-loop : tie.InvT-loop
 Inv-loop rule spins fwd bwd couplings cuts members₀ list₀ cols₀ start len₀ head₀ members list cols len head =

@@ -5,8 +5,8 @@ use native.Mathlib.Omega.{arith}
 use lib.ListN.{length-set}
 use borrow.Author.Needs.{needs}
 use Rattle.grow.proofs.Whole.{grounds, seeded, seed-kept, kept-of, kept-for, first-by, plain, blue-seeds, second-by, both}
-use Rattle.grow.proofs.grow_cluster.Statement.{statement}
-use Rattle.grow.proofs.grow_cluster.Tie as tie
+use Rattle.grow.proofs.growing.grow_cluster.Statement.{statement}
+use Rattle.grow.proofs.growing.grow_cluster.Tie as tie
 
 -- where the function starts, the clearing, and the first growth with its rule; of CMR the second rule
 abbrev S : tie.After-clear → tie.Start

@@ -11,8 +11,8 @@ use Rattle.judge.specs.Ends.{judgeable}
 use Rattle.grow.specs.Kept.{end-acts, kept-more}
 use Rattle.grow.specs.Growth.{Met.loose, Met.joins}
 use Rattle.grow.specs.Listed.{fits}
-use Rattle.grow.proofs.meet.Statement.{statement}
-use Rattle.grow.proofs.meet.Tie as tie
+use Rattle.grow.proofs.growing.meet.Statement.{statement}
+use Rattle.grow.proofs.growing.meet.Tie as tie
 
 -- where the function starts, and where the bond is judged
 abbrev S : tie.After-group → tie.Start
