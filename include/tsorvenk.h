@@ -22,14 +22,15 @@
  *      caller's own systems, t or r 0, or members above r; of a vendor's moves a mode that is not perm or gperm
  *  15  straight after 1: houd with a group of more than 2 in SW, Wolff or grow; a sweep is refused whole
  *   2  a buffer's length is not the exact one
- *   3  a spin of a system that the call names, and that is the caller's own, is not +1 or -1; a byte of packed columns has a
- *      bit from N upwards; a vendor's spin, before or after, is not +1 or -1
+ *   3  a spin of a system that the call names, and that is the caller's own, is not +1 or -1; a byte of packed columns, or of a
+ *      task's area, has a bit from N upwards; a vendor's spin, before or after, is not +1 or -1
  *   4  a neighbour is n or more, or fwd and bwd are not inverse; after the tables, a pin byte is not 0 or 1
  *   5  a system of the group, of the order or the meter's is s or more, or the other team's; one stands twice
  *   6  a coupling's size is above 1,000,000
  *   7  a temperature is not from 1/1024 to 1,048,576, or not a number
  *   8  a cut is below 0, infinite or not a number
- *   9  a permutation or its number, a flip, grey number, reference site or mask byte is out of its set
+ *   9  a permutation or its number, a flip, grey number, reference site or mask byte is out of its set; in a task's steps a label is
+ *      n or more, or a byte of member_sites or blue is not 0 or 1
  *  10  a seed is n or more; or, outside CMR, some site acts and the seed does not
  *  12  of the draws alone: the four words of a source are all 0, m is not 1 to 4096 (for bytes not 1 to 256), the members
  *      are not 2 to 8, or 64 words in a row are taken again
@@ -80,8 +81,8 @@
  * are named are looked at. So what comes back depends on the sizes, the shared tables, the owners, the caller's own rows, totals
  * and arguments, and on nothing else. The hand-over names nobody: it is of all the caller's own systems. Where one team has the
  * whole panel every owner byte is 0, and so is team. Two teams' calls on one buffer are made one after the other, as any others.
- * Packed calls, the check of a vendor's moves, labels, frames, draws and edge lists know no owners; the frame program tests the
- * spins of all its systems.
+ * Packed calls, a task's steps, the check of a vendor's moves, labels, frames, draws and edge lists know no owners; the frame program
+ * tests the spins of all its systems.
  */
 #ifndef TSORVENK_H
 #define TSORVENK_H
@@ -216,6 +217,114 @@ uint8_t tsorvenk_sweep(uint8_t mode, uint8_t form, uint8_t coding, uint8_t keeps
     uint8_t *member_sites, size_t member_sites_len,
     uint32_t *found, size_t found_len, uint32_t *grey_found, size_t grey_found_len,
     uint32_t *outcomes, size_t outcomes_len);
+
+/* A sweep's tasks in any order, on several threads or machines. Each task is three steps, each lent what is its task's alone:
+ *
+ *   tsorvenk_test_sweep    once: whether the sweep is refused. A refused sweep takes no step
+ *   tsorvenk_task_label    tests, labels and counts; no spin is written
+ *   tsorvenk_task_choose   from the labels and the choices, the column of each site after the move; no row is written
+ *   tsorvenk_task_write    the rows and totals from the columns; nothing else changes spins
+ *
+ * To run a sweep so: test it; copy each unmasked task's N rows, and its totals where they are kept, out of the panel in the group's
+ * order, which is that of its run of the sweep's order; make the three steps of each task, in this order, on its rows and on its
+ * areas of the sweep's buffers, with its entries of cuts, references, seeds and choices; and copy rows and totals back. Tasks may be
+ * taken in any order, their steps mixed, or run at the same time: the steps of two tasks share nothing that is written. Spins,
+ * totals and outputs are then those of tsorvenk_sweep, and its outcomes are counted from what tsorvenk_task_label answered:
+ * TSORVENK_IDLE, 0 and TSORVENK_HELD. Tasks of a masked temperature take no step, and systems that are left over are no task's.
+ * No step of an accepted sweep is refused. Idle and held tasks may go through all three steps, which leave their spins, or stop
+ * after the first. The steps of another team's sweep on the same panel may be mixed in: each team tests its own sweep, at any time,
+ * and has its own areas.
+ *
+ * The steps take permutations as rows: a sweep by numbers is first spelt out by tsorvenk_row_of.
+ *
+ * Whether a sweep is refused. Every argument is that of tsorvenk_sweep by rows, and nothing is written: of labels, grey_labels,
+ * counts, sizes, member_sites, found and grey_found the lengths alone are looked at.
+ *
+ * Returns 0, or the refusal that tsorvenk_sweep would give, where its outcomes have length 3. */
+uint8_t tsorvenk_test_sweep(uint8_t mode, uint8_t form, uint8_t keeps, size_t n, size_t d, size_t s,
+    uint8_t team, size_t t, size_t r, size_t members, const uint8_t *owners, size_t owners_len,
+    const int8_t *spins, size_t spins_len, const int64_t *totals, size_t totals_len,
+    const uint32_t *fwd, size_t fwd_len, const uint32_t *bwd, size_t bwd_len, const uint8_t *pins, size_t pins_len,
+    const int32_t *couplings, size_t couplings_len, const uint32_t *order, size_t order_len,
+    const uint8_t *masks, size_t masks_len, const float *temperatures, size_t temperatures_len,
+    const float *cuts, size_t cuts_len, const uint32_t *references, size_t references_len,
+    const uint32_t *seeds, size_t seeds_len,
+    const uint8_t *flips, size_t flips_len, const uint8_t *perms, size_t perms_len, const uint8_t *greys, size_t greys_len,
+    const uint32_t *labels, size_t labels_len, const uint32_t *grey_labels, size_t grey_labels_len,
+    const uint32_t *counts, size_t counts_len, const uint32_t *sizes, size_t sizes_len,
+    const uint8_t *member_sites, size_t member_sites_len,
+    const uint32_t *found, size_t found_len, const uint32_t *grey_found, size_t grey_found_len);
+
+/* The first step of a task of N = members systems: what tsorvenk_step does beside the spins, with s = N, one owner, no totals and
+ * the group 0, 1 .. N - 1.
+ *
+ *   rows         N * n: the spin of member k at site i is at k * n + i, +1 or -1; the members stand in the group's order
+ *   fwd, bwd, pins, couplings, temperature, cuts, reference, seed, flips, perms, greys
+ *                                                                  as in a step, perms by rows
+ *
+ * Written, unless refused:
+ *
+ *   labels, grey_labels, counts, sizes, member_sites, found, grey_found
+ *                                                                  as by a step
+ *   blue         n: 1 at the sites that blue bonds join to the seed, the seed too, else 0
+ *                                                                  grow of CMR
+ *
+ * Returns TSORVENK_IDLE, TSORVENK_HELD or 0, which is what the move will answer, else the refusal 1, 15, 2, 3, 4 (the tables, then
+ * the pins), 6, 7, 8, 9 or 10, in this order. */
+uint8_t tsorvenk_task_label(uint8_t mode, uint8_t form, size_t n, size_t d, size_t members,
+    const int8_t *rows, size_t rows_len,
+    const uint32_t *fwd, size_t fwd_len, const uint32_t *bwd, size_t bwd_len, const uint8_t *pins, size_t pins_len,
+    const int32_t *couplings, size_t couplings_len,
+    float temperature, const float *cuts, size_t cuts_len, size_t reference, size_t seed,
+    const uint8_t *flips, size_t flips_len, const uint8_t *perms, size_t perms_len, const uint8_t *greys, size_t greys_len,
+    uint32_t *labels, size_t labels_len, uint32_t *grey_labels, size_t grey_labels_len,
+    uint32_t *counts, size_t counts_len, uint32_t *sizes, size_t sizes_len,
+    uint8_t *member_sites, size_t member_sites_len,
+    uint32_t *found, size_t found_len, uint32_t *grey_found, size_t grey_found_len, uint8_t *blue, size_t blue_len);
+
+/* The second step: the choice of each component, as the column of each of its sites after the move. Tables, couplings and cuts are
+ * not taken: the labels say what hangs together. Whether they are those of the rows is not asked.
+ *
+ *   rows         N * n, as lent to the first step
+ *   pins, reference, seed, flips, perms, greys                     as in the first step; of the seed, that it is a site
+ *   labels       n, each below n                                   SW, Wolff
+ *   grey_labels  n, each below n                                   SW and Wolff of CMR
+ *   member_sites n, each 0 or 1                                    grow
+ *   blue         n, each 0 or 1                                    grow of CMR
+ *
+ * Written, unless refused:
+ *
+ *   area         n: bit k of the byte of site i is set where member k is +1 there after the move, and bits from N upwards are 0;
+ *                grow: at the member sites alone, and other bytes stay. To observe gives the columns as they are
+ *
+ * Returns 0, or the refusal 1, 15, 2, 3, 4 (the pins), 9 (the choices and the reference, then the labels and bytes of the first
+ * step) or 10 (a seed is n or more), in this order. */
+uint8_t tsorvenk_task_choose(uint8_t mode, uint8_t form, size_t n, size_t d, size_t members,
+    const int8_t *rows, size_t rows_len, const uint8_t *pins, size_t pins_len, size_t reference, size_t seed,
+    const uint8_t *flips, size_t flips_len, const uint8_t *perms, size_t perms_len, const uint8_t *greys, size_t greys_len,
+    const uint32_t *labels, size_t labels_len, const uint32_t *grey_labels, size_t grey_labels_len,
+    const uint8_t *member_sites, size_t member_sites_len, const uint8_t *blue, size_t blue_len,
+    uint8_t *area, size_t area_len);
+
+/* The third step: the rows become what the columns show, and the totals are brought current.
+ *
+ *   fwd, bwd, couplings                                            as in a step; taken where totals are kept, and there alone
+ *   member_sites n, each 0 or 1                                    grow
+ *   area         n, each without a bit from N upwards; in grow this is asked at the member sites alone
+ *
+ * Written, unless refused:
+ *
+ *   rows         N * n, as lent to the first step: the spin of member k at site i is +1 where bit k of the site's byte is set, and
+ *                else -1; grow: at the member sites alone
+ *   totals       N, in the members' order: each changes by its row's energy after less its energy before
+ *                                                                  SW, Wolff, grow where keeps is 1
+ *
+ * Returns 0, or the refusal 1, 15, 2, 3 (the rows, then the area), 4 (the tables), 6, 9 (a byte of member_sites) or 14, in this
+ * order; 4, 6 and 14 where totals are kept alone. */
+uint8_t tsorvenk_task_write(uint8_t mode, uint8_t form, uint8_t keeps, size_t n, size_t d, size_t members,
+    int8_t *rows, size_t rows_len, int64_t *totals, size_t totals_len,
+    const uint32_t *fwd, size_t fwd_len, const uint32_t *bwd, size_t bwd_len, const int32_t *couplings, size_t couplings_len,
+    const uint8_t *member_sites, size_t member_sites_len, const uint8_t *area, size_t area_len);
 
 /* One byte for a site's whole group: N = members systems, of which none has a number.
  *
@@ -556,6 +665,143 @@ struct tsorvenk_sweep_args {
     size_t outcomes_len;
 };
 
+struct tsorvenk_test_sweep_args {
+    uint8_t mode, form, keeps, team;
+    size_t n, d, s, t, r, members;
+    const uint8_t *owners;
+    size_t owners_len;
+    const int8_t *spins;
+    size_t spins_len;
+    const int64_t *totals;
+    size_t totals_len;
+    const uint32_t *fwd;
+    size_t fwd_len;
+    const uint32_t *bwd;
+    size_t bwd_len;
+    const uint8_t *pins;
+    size_t pins_len;
+    const int32_t *couplings;
+    size_t couplings_len;
+    const uint32_t *order;
+    size_t order_len;
+    const uint8_t *masks;
+    size_t masks_len;
+    const float *temperatures;
+    size_t temperatures_len;
+    const float *cuts;
+    size_t cuts_len;
+    const uint32_t *references;
+    size_t references_len;
+    const uint32_t *seeds;
+    size_t seeds_len;
+    const uint8_t *flips;
+    size_t flips_len;
+    const uint8_t *perms;
+    size_t perms_len;
+    const uint8_t *greys;
+    size_t greys_len;
+    const uint32_t *labels;
+    size_t labels_len;
+    const uint32_t *grey_labels;
+    size_t grey_labels_len;
+    const uint32_t *counts;
+    size_t counts_len;
+    const uint32_t *sizes;
+    size_t sizes_len;
+    const uint8_t *member_sites;
+    size_t member_sites_len;
+    const uint32_t *found;
+    size_t found_len;
+    const uint32_t *grey_found;
+    size_t grey_found_len;
+};
+
+struct tsorvenk_task_label_args {
+    uint8_t mode, form;
+    size_t n, d, members;
+    const int8_t *rows;
+    size_t rows_len;
+    const uint32_t *fwd;
+    size_t fwd_len;
+    const uint32_t *bwd;
+    size_t bwd_len;
+    const uint8_t *pins;
+    size_t pins_len;
+    const int32_t *couplings;
+    size_t couplings_len;
+    float temperature;
+    const float *cuts;
+    size_t cuts_len;
+    size_t reference, seed;
+    const uint8_t *flips;
+    size_t flips_len;
+    const uint8_t *perms;
+    size_t perms_len;
+    const uint8_t *greys;
+    size_t greys_len;
+    uint32_t *labels;
+    size_t labels_len;
+    uint32_t *grey_labels;
+    size_t grey_labels_len;
+    uint32_t *counts;
+    size_t counts_len;
+    uint32_t *sizes;
+    size_t sizes_len;
+    uint8_t *member_sites;
+    size_t member_sites_len;
+    uint32_t *found;
+    size_t found_len;
+    uint32_t *grey_found;
+    size_t grey_found_len;
+    uint8_t *blue;
+    size_t blue_len;
+};
+
+struct tsorvenk_task_choose_args {
+    uint8_t mode, form;
+    size_t n, d, members;
+    const int8_t *rows;
+    size_t rows_len;
+    const uint8_t *pins;
+    size_t pins_len;
+    size_t reference, seed;
+    const uint8_t *flips;
+    size_t flips_len;
+    const uint8_t *perms;
+    size_t perms_len;
+    const uint8_t *greys;
+    size_t greys_len;
+    const uint32_t *labels;
+    size_t labels_len;
+    const uint32_t *grey_labels;
+    size_t grey_labels_len;
+    const uint8_t *member_sites;
+    size_t member_sites_len;
+    const uint8_t *blue;
+    size_t blue_len;
+    uint8_t *area;
+    size_t area_len;
+};
+
+struct tsorvenk_task_write_args {
+    uint8_t mode, form, keeps;
+    size_t n, d, members;
+    int8_t *rows;
+    size_t rows_len;
+    int64_t *totals;
+    size_t totals_len;
+    const uint32_t *fwd;
+    size_t fwd_len;
+    const uint32_t *bwd;
+    size_t bwd_len;
+    const int32_t *couplings;
+    size_t couplings_len;
+    const uint8_t *member_sites;
+    size_t member_sites_len;
+    const uint8_t *area;
+    size_t area_len;
+};
+
 struct tsorvenk_pack_args {
     size_t n, members;
     const int8_t *rows;
@@ -789,6 +1035,60 @@ static inline uint8_t tsorvenk_sweep_with(const struct tsorvenk_sweep_args *args
         TSORVENK_LENT(found, no_u32), TSORVENK_LENT(grey_found, no_u32), TSORVENK_LENT(outcomes, no_u32));
 }
 
+static inline uint8_t tsorvenk_test_sweep_with(const struct tsorvenk_test_sweep_args *args) {
+    int8_t no_i8 = 0;
+    uint8_t no_u8 = 0;
+    int32_t no_i32 = 0;
+    uint32_t no_u32 = 0;
+    int64_t no_i64 = 0;
+    float no_f32 = 0;
+    return tsorvenk_test_sweep(args->mode, args->form, args->keeps, args->n, args->d, args->s, args->team,
+        args->t, args->r, args->members, TSORVENK_OWNERS, TSORVENK_LENT(spins, no_i8),
+        TSORVENK_LENT(totals, no_i64), TSORVENK_LENT(fwd, no_u32), TSORVENK_LENT(bwd, no_u32),
+        TSORVENK_PINS, TSORVENK_LENT(couplings, no_i32), TSORVENK_LENT(order, no_u32), TSORVENK_LENT(masks, no_u8),
+        TSORVENK_LENT(temperatures, no_f32), TSORVENK_LENT(cuts, no_f32), TSORVENK_LENT(references, no_u32),
+        TSORVENK_LENT(seeds, no_u32), TSORVENK_LENT(flips, no_u8), TSORVENK_LENT(perms, no_u8),
+        TSORVENK_LENT(greys, no_u8), TSORVENK_LENT(labels, no_u32), TSORVENK_LENT(grey_labels, no_u32),
+        TSORVENK_LENT(counts, no_u32), TSORVENK_LENT(sizes, no_u32), TSORVENK_LENT(member_sites, no_u8),
+        TSORVENK_LENT(found, no_u32), TSORVENK_LENT(grey_found, no_u32));
+}
+
+static inline uint8_t tsorvenk_task_label_with(const struct tsorvenk_task_label_args *args) {
+    int8_t no_i8 = 0;
+    uint8_t no_u8 = 0;
+    int32_t no_i32 = 0;
+    uint32_t no_u32 = 0;
+    float no_f32 = 0;
+    return tsorvenk_task_label(args->mode, args->form, args->n, args->d, args->members, TSORVENK_LENT(rows, no_i8),
+        TSORVENK_LENT(fwd, no_u32), TSORVENK_LENT(bwd, no_u32), TSORVENK_PINS, TSORVENK_LENT(couplings, no_i32),
+        args->temperature, TSORVENK_LENT(cuts, no_f32), args->reference, args->seed, TSORVENK_LENT(flips, no_u8),
+        TSORVENK_LENT(perms, no_u8), TSORVENK_LENT(greys, no_u8), TSORVENK_LENT(labels, no_u32),
+        TSORVENK_LENT(grey_labels, no_u32), TSORVENK_LENT(counts, no_u32), TSORVENK_LENT(sizes, no_u32),
+        TSORVENK_LENT(member_sites, no_u8), TSORVENK_LENT(found, no_u32), TSORVENK_LENT(grey_found, no_u32),
+        TSORVENK_LENT(blue, no_u8));
+}
+
+static inline uint8_t tsorvenk_task_choose_with(const struct tsorvenk_task_choose_args *args) {
+    int8_t no_i8 = 0;
+    uint8_t no_u8 = 0;
+    uint32_t no_u32 = 0;
+    return tsorvenk_task_choose(args->mode, args->form, args->n, args->d, args->members, TSORVENK_LENT(rows, no_i8),
+        TSORVENK_PINS, args->reference, args->seed, TSORVENK_LENT(flips, no_u8), TSORVENK_LENT(perms, no_u8),
+        TSORVENK_LENT(greys, no_u8), TSORVENK_LENT(labels, no_u32), TSORVENK_LENT(grey_labels, no_u32),
+        TSORVENK_LENT(member_sites, no_u8), TSORVENK_LENT(blue, no_u8), TSORVENK_LENT(area, no_u8));
+}
+
+static inline uint8_t tsorvenk_task_write_with(const struct tsorvenk_task_write_args *args) {
+    int8_t no_i8 = 0;
+    uint8_t no_u8 = 0;
+    int32_t no_i32 = 0;
+    uint32_t no_u32 = 0;
+    int64_t no_i64 = 0;
+    return tsorvenk_task_write(args->mode, args->form, args->keeps, args->n, args->d, args->members,
+        TSORVENK_LENT(rows, no_i8), TSORVENK_LENT(totals, no_i64), TSORVENK_LENT(fwd, no_u32), TSORVENK_LENT(bwd, no_u32),
+        TSORVENK_LENT(couplings, no_i32), TSORVENK_LENT(member_sites, no_u8), TSORVENK_LENT(area, no_u8));
+}
+
 static inline uint8_t tsorvenk_pack_with(const struct tsorvenk_pack_args *args) {
     int8_t no_i8 = 0;
     uint8_t no_u8 = 0;
@@ -960,8 +1260,8 @@ static inline const char *tsorvenk_refusal_words(int number) {
     case 7: return "a temperature is not from 1/1024 to 1,048,576";
     case 8: return "a cut is below 0, infinite or not a number";
     case 9:
-        return "a permutation or its number, flip, grey number, reference site, mask byte, or byte of holds or counted is out of "
-               "its set";
+        return "a permutation or its number, flip, grey number, reference site, mask byte, byte of holds or counted, or what a "
+               "task's first step found is out of its set";
     case 10: return "a seed is n or more, or does not act although some site does";
     case 11: return "a frame is missing, misplaced, misspelt or of the wrong length, or there is one too many";
     case 12: return "a source of draws is all 0, m or the members are out of range, or 64 words in a row were taken again";

@@ -14,6 +14,7 @@ mod labelling;
 mod line;
 mod packed;
 mod pinned;
+mod steps;
 mod teams;
 mod vendor;
 
@@ -21,6 +22,7 @@ pub use houd::{single_of_more, swept_of_more};
 pub use labelling::{damaged_labelling, labelling};
 pub use line::{keep, Found, Line};
 pub use packed::{damaged_layout, damaged_packed};
+pub use steps::{damaged_step, damaged_test, steps_of, swept_by_steps};
 pub use teams::{shared_single, shared_swept};
 pub use vendor::{own_move, vendored};
 

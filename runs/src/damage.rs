@@ -5,8 +5,10 @@ use crate::packed::Layout;
 use crate::rand::Rand;
 use calls::Coding;
 
+mod steps;
 mod vendor;
 
+pub use steps::task;
 pub use vendor::vendored;
 
 fn longer_or_shorter<T: Copy + Default>(rand: &mut Rand, buffer: &mut Vec<T>) {

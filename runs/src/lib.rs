@@ -17,6 +17,7 @@ pub mod port;
 pub mod rand;
 pub mod raw;
 pub mod replay;
+pub mod steps;
 pub mod teams;
 pub mod timing;
 pub mod vendor;

@@ -1,7 +1,8 @@
 //! Document 01 in plain Rust, written from its text and not from overlap.rs: every sentence once, no speed. Counts and sizes are those of
 //! request 4/14, the form that grows is that of request 5/14, the totals are those of 6/14, the components are numbered as in 7/14,
 //! permutations may be numbers as in 8/14, sites may be pinned as in 9/14, houd moves groups of two alone as in 10/14, a group may be
-//! one byte for each site as in 11/14, a panel may have systems of two teams as in 12/14, and a vendor's moves are checked as in 13/14.
+//! one byte for each site as in 11/14, a panel may have systems of two teams as in 12/14, a vendor's moves are checked as in 13/14, and a
+//! sweep's tasks have three steps each as in 14/14.
 use crate::case;
 use calls::{Answer, HandOver, Label, Meter, MeterAnswer, Port, Step, Sweep, SweepAnswer};
 use calls::{CheckVendor, Coding, Form, Mode, Pack, PackedStep, Unpack, VendorAnswer};
@@ -53,6 +54,7 @@ mod moves;
 mod orders;
 mod packed;
 mod single;
+mod steps;
 mod sweeps;
 mod teams;
 mod totals;
@@ -66,6 +68,7 @@ pub use orders::{number_of, orders, row_of};
 use refusals::sizes_refused;
 pub use refusals::{lengths, Lengths};
 use single::{single_refusal, single_task};
+pub use steps::{task_choose, task_label, task_write, test_sweep};
 use sweeps::{sweep_refusal, sweep_task, unmasked};
 pub use teams::owner_refusal;
 pub use totals::LARGEST;

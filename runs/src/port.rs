@@ -1,4 +1,5 @@
 //! The port, if the static library was there at build time.
+use crate::steps::Steps;
 use calls::Port;
 
 /// The port, if it was linked.
@@ -9,11 +10,21 @@ pub fn linked() -> Option<Box<dyn Port>> {
     None
 }
 
+/// The same, for the steps of a sweep's tasks.
+pub fn steps() -> Option<Box<dyn Steps>> {
+    #[cfg(port)]
+    return Some(Box::new(linked::Linked));
+    #[cfg(not(port))]
+    None
+}
+
 /// The calls of the runs as those of the crate `tsorvenk`, and its answers as those of the runs.
 #[cfg(port)]
 mod linked {
+    use crate::steps::Steps;
     use calls::{Answer, Coding, Form, HandOver, Keeps, Label, Meter, MeterAnswer, Mode, Port};
     use calls::{CheckVendor, Pack, PackedStep, Step, Sweep, SweepAnswer, Unpack, VendorAnswer};
+    use calls::{TaskChoose, TaskLabel, TaskWrite};
 
     pub struct Linked;
 
@@ -231,6 +242,117 @@ mod linked {
                 Ok(tsorvenk::Checked::Fault(component)) => VendorAnswer::No(component),
                 Err(refusal) => VendorAnswer::Refused(refusal.number),
             }
+        }
+    }
+
+    impl Steps for Linked {
+        fn test_sweep(&mut self, call: &Sweep) -> u8 {
+            number(tsorvenk::test_sweep(&tsorvenk::Sweep {
+                mode: mode(call.mode),
+                form: form(call.form),
+                coding: coding(call.coding),
+                keeps: keeps(call.keeps),
+                n: call.n,
+                d: call.d,
+                s: call.s,
+                team: call.team,
+                t: call.t,
+                r: call.r,
+                members: call.members,
+                owners: Some(call.owners),
+                spins: &mut call.spins.to_vec(),
+                totals: &mut call.totals.to_vec(),
+                fwd: call.fwd,
+                bwd: call.bwd,
+                pins: Some(call.pins),
+                couplings: call.couplings,
+                order: call.order,
+                masks: call.masks,
+                temperatures: call.temperatures,
+                cuts: call.cuts,
+                references: call.references,
+                seeds: call.seeds,
+                flips: call.flips,
+                perms: call.perms,
+                greys: call.greys,
+                labels: &mut call.labels.to_vec(),
+                grey_labels: &mut call.grey_labels.to_vec(),
+                counts: &mut call.counts.to_vec(),
+                sizes: &mut call.sizes.to_vec(),
+                member_sites: &mut call.member_sites.to_vec(),
+                found: &mut call.found.to_vec(),
+                grey_found: &mut call.grey_found.to_vec(),
+            }))
+        }
+
+        fn label(&mut self, call: TaskLabel) -> Answer {
+            answer(tsorvenk::task_label(tsorvenk::TaskLabel {
+                mode: mode(call.mode),
+                form: form(call.form),
+                n: call.n,
+                d: call.d,
+                members: call.members,
+                rows: call.rows,
+                fwd: call.fwd,
+                bwd: call.bwd,
+                pins: Some(call.pins),
+                couplings: call.couplings,
+                temperature: call.temperature,
+                cuts: call.cuts,
+                reference: call.reference,
+                seed: call.seed,
+                flips: call.flips,
+                perms: call.perms,
+                greys: call.greys,
+                labels: call.labels,
+                grey_labels: call.grey_labels,
+                counts: call.counts,
+                sizes: call.sizes,
+                member_sites: call.member_sites,
+                found: call.found,
+                grey_found: call.grey_found,
+                blue: call.blue,
+            }))
+        }
+
+        fn choose(&mut self, call: TaskChoose) -> u8 {
+            number(tsorvenk::task_choose(tsorvenk::TaskChoose {
+                mode: mode(call.mode),
+                form: form(call.form),
+                n: call.n,
+                d: call.d,
+                members: call.members,
+                rows: call.rows,
+                pins: Some(call.pins),
+                reference: call.reference,
+                seed: call.seed,
+                flips: call.flips,
+                perms: call.perms,
+                greys: call.greys,
+                labels: call.labels,
+                grey_labels: call.grey_labels,
+                member_sites: call.member_sites,
+                blue: call.blue,
+                area: call.area,
+            }))
+        }
+
+        fn write(&mut self, call: TaskWrite) -> u8 {
+            number(tsorvenk::task_write(tsorvenk::TaskWrite {
+                mode: mode(call.mode),
+                form: form(call.form),
+                keeps: keeps(call.keeps),
+                n: call.n,
+                d: call.d,
+                members: call.members,
+                rows: call.rows,
+                totals: call.totals,
+                fwd: call.fwd,
+                bwd: call.bwd,
+                couplings: call.couplings,
+                member_sites: call.member_sites,
+                area: call.area,
+            }))
         }
     }
 }

@@ -48,6 +48,17 @@ fn named_fields_arrive_and_words_are_those_of_the_crate() {
 }
 
 #[test]
+fn named_fields_of_a_tasks_steps_arrive() {
+    let program = Path::new(env!("CARGO_TARGET_TMPDIR")).join("steps");
+    let to = ["-o", program.to_str().unwrap()];
+    if compiles("cc", "-std=c99", "steps.c", &to) {
+        let ended = Command::new(&program).output().unwrap();
+        let text = String::from_utf8_lossy(&ended.stdout);
+        assert!(ended.status.success(), "{text}");
+    }
+}
+
+#[test]
 fn the_header_is_cpp_too() {
     for standard in ["-std=c++98", "-std=c++20"] {
         compiles("c++", standard, "plain.cc", &["-fsyntax-only"]);

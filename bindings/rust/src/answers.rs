@@ -90,7 +90,7 @@ pub fn refusal_words(number: u8) -> &'static str {
         6 => "a coupling's size is above 1,000,000",
         7 => "a temperature is not from 1/1024 to 1,048,576",
         8 => "a cut is below 0, infinite or not a number",
-        9 => "a permutation or its number, flip, grey number, reference site, mask byte, or byte of holds or counted is out of its set",
+        9 => "a permutation or its number, flip, grey number, reference site, mask byte, byte of holds or counted, or what a task's first step found is out of its set",
         10 => "a seed is n or more, or does not act although some site does",
         11 => "a frame is missing, misplaced, misspelt or of the wrong length, or there is one too many",
         12 => "a source of draws is all 0, m or the members are out of range, or 64 words in a row were taken again",

@@ -1,10 +1,12 @@
 //! What a call is lent.
 mod meter;
 mod packed;
+mod steps;
 mod vendor;
 
 pub use meter::{Energy, HandOver, MeterAll};
 pub use packed::{Pack, PackedStep, Unpack};
+pub use steps::{TaskChoose, TaskLabel, TaskWrite};
 pub use vendor::CheckVendor;
 
 /// Which sites act, which bonds hold and what a choice does.

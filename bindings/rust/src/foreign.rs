@@ -30,6 +30,47 @@ extern "C" {
         found: *mut u32, found_len: usize, grey_found: *mut u32, grey_found_len: usize,
         outcomes: *mut u32, outcomes_len: usize,
     ) -> u8;
+    pub fn tsorvenk_test_sweep(
+        mode: u8, form: u8, keeps: u8, n: usize, d: usize, s: usize,
+        team: u8, t: usize, r: usize, members: usize, owners: *const u8, owners_len: usize,
+        spins: *const i8, spins_len: usize, totals: *const i64, totals_len: usize,
+        fwd: *const u32, fwd_len: usize, bwd: *const u32, bwd_len: usize, pins: *const u8, pins_len: usize,
+        couplings: *const i32, couplings_len: usize, order: *const u32, order_len: usize,
+        masks: *const u8, masks_len: usize, temperatures: *const f32, temperatures_len: usize,
+        cuts: *const f32, cuts_len: usize, references: *const u32, references_len: usize,
+        seeds: *const u32, seeds_len: usize,
+        flips: *const u8, flips_len: usize, perms: *const u8, perms_len: usize, greys: *const u8, greys_len: usize,
+        labels: *const u32, labels_len: usize, grey_labels: *const u32, grey_labels_len: usize,
+        counts: *const u32, counts_len: usize, sizes: *const u32, sizes_len: usize,
+        member_sites: *const u8, member_sites_len: usize,
+        found: *const u32, found_len: usize, grey_found: *const u32, grey_found_len: usize,
+    ) -> u8;
+    pub fn tsorvenk_task_label(
+        mode: u8, form: u8, n: usize, d: usize, members: usize, rows: *const i8, rows_len: usize,
+        fwd: *const u32, fwd_len: usize, bwd: *const u32, bwd_len: usize, pins: *const u8, pins_len: usize,
+        couplings: *const i32, couplings_len: usize,
+        temperature: f32, cuts: *const f32, cuts_len: usize, reference: usize, seed: usize,
+        flips: *const u8, flips_len: usize, perms: *const u8, perms_len: usize, greys: *const u8, greys_len: usize,
+        labels: *mut u32, labels_len: usize, grey_labels: *mut u32, grey_labels_len: usize,
+        counts: *mut u32, counts_len: usize, sizes: *mut u32, sizes_len: usize,
+        member_sites: *mut u8, member_sites_len: usize,
+        found: *mut u32, found_len: usize, grey_found: *mut u32, grey_found_len: usize,
+        blue: *mut u8, blue_len: usize,
+    ) -> u8;
+    pub fn tsorvenk_task_choose(
+        mode: u8, form: u8, n: usize, d: usize, members: usize, rows: *const i8, rows_len: usize,
+        pins: *const u8, pins_len: usize, reference: usize, seed: usize,
+        flips: *const u8, flips_len: usize, perms: *const u8, perms_len: usize, greys: *const u8, greys_len: usize,
+        labels: *const u32, labels_len: usize, grey_labels: *const u32, grey_labels_len: usize,
+        member_sites: *const u8, member_sites_len: usize, blue: *const u8, blue_len: usize,
+        area: *mut u8, area_len: usize,
+    ) -> u8;
+    pub fn tsorvenk_task_write(
+        mode: u8, form: u8, keeps: u8, n: usize, d: usize, members: usize,
+        rows: *mut i8, rows_len: usize, totals: *mut i64, totals_len: usize,
+        fwd: *const u32, fwd_len: usize, bwd: *const u32, bwd_len: usize, couplings: *const i32, couplings_len: usize,
+        member_sites: *const u8, member_sites_len: usize, area: *const u8, area_len: usize,
+    ) -> u8;
     pub fn tsorvenk_pack(
         n: usize, members: usize, rows: *const i8, rows_len: usize, columns: *mut u8, columns_len: usize,
     ) -> u8;

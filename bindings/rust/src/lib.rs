@@ -12,7 +12,8 @@
 //! spins ([`Keeps::Totals`]). A permutation of five may be lent as one byte, its number ([`Coding::Numbers`]). Sites may be
 //! pinned ([`Step::pins`]): what hangs together with one does not move. A group may be lent as one byte for each site
 //! ([`PackedStep`]) instead of a row for each system. Two teams may have systems of their own on one panel ([`Teams`]): neither's
-//! calls see the other's. Spins before and after a move that another made are checked ([`CheckVendor`]).
+//! calls see the other's. Spins before and after a move that another made are checked ([`CheckVendor`]). A sweep's tasks may be run in
+//! any order, and at the same time ([`Sweep::test`]).
 //!
 //! ```
 //! use tsorvenk::{step, Form, Mode, Refusal, Step, Stepped};
@@ -65,6 +66,10 @@ mod orders;
 mod packed;
 #[cfg(linked)]
 mod safe;
+#[cfg(linked)]
+mod steps;
+#[cfg(linked)]
+mod tasks;
 mod teams;
 #[cfg(linked)]
 mod vendor;
@@ -72,7 +77,8 @@ mod vendor;
 pub use answers::{refusal_words, Checked, NoRoom, Refusal, Stepped, Swept};
 pub use calls::{
     CheckVendor, Coding, Energy, Form, Frames, HandOver, Keeps, Label, MeterAll, Mode, Pack,
-    PackedStep, ReadEdges, Step, Sweep, Unpack, WriteEdges, EDGES_ROOM, FRAMES_ROOM,
+    PackedStep, ReadEdges, Step, Sweep, TaskChoose, TaskLabel, TaskWrite, Unpack, WriteEdges,
+    EDGES_ROOM, FRAMES_ROOM,
 };
 #[cfg(linked)]
 pub use draws::Source;
@@ -84,6 +90,10 @@ pub use orders::{number_of, row_of};
 pub use packed::{pack, packed_step, unpack};
 #[cfg(linked)]
 pub use safe::{frames, label, read_edges, step, sweep, write_edges};
+#[cfg(linked)]
+pub use steps::{task_choose, task_label, task_write, test_sweep};
+#[cfg(linked)]
+pub use tasks::{Accepted, Chosen, Labelled, Merging, NotMerged, Task, Written};
 pub use teams::{OwnSystem, Team, Teams};
 #[cfg(linked)]
 pub use vendor::check_vendor;

@@ -2,8 +2,8 @@
 use crate::answers::Refusal;
 #[cfg(linked)]
 use crate::{
-    energy, hand_over, meter_all, step, sweep, Energy, HandOver, MeterAll, Step, Stepped, Sweep,
-    Swept,
+    energy, hand_over, meter_all, step, sweep, Accepted, Energy, HandOver, MeterAll, Step, Stepped,
+    Sweep, Swept,
 };
 
 /// Whose each system of a panel is: a byte for each, 0 or 1, fixed when the panel is set up.
@@ -139,7 +139,7 @@ fn numbers<const TEAM: u8>(systems: &[OwnSystem<TEAM>]) -> &[u32] {
 }
 
 #[cfg(linked)]
-impl<const TEAM: u8> Team<'_, TEAM> {
+impl<'a, const TEAM: u8> Team<'a, TEAM> {
     /// [`step`] of a group of its own systems.
     pub fn step(self, group: &[OwnSystem<TEAM>], call: Step) -> Result<Stepped, Refusal> {
         step(Step {
@@ -160,6 +160,28 @@ impl<const TEAM: u8> Team<'_, TEAM> {
             order: numbers(order),
             ..call
         })
+    }
+
+    /// [`Sweep::test`] of such a sweep, for its tasks to be taken in any order. Two teams' tasks may be mixed, since each has its own
+    /// rows; either's are merged when they are done.
+    pub fn test<'b>(
+        self,
+        order: &'b [OwnSystem<TEAM>],
+        call: Sweep<'b>,
+        spins: &[i8],
+        totals: &[i64],
+    ) -> Result<Accepted<'b>, Refusal>
+    where
+        'a: 'b,
+    {
+        let call = Sweep {
+            s: self.owners.len(),
+            team: TEAM,
+            owners: Some(self.owners),
+            order: numbers(order),
+            ..call
+        };
+        call.test(spins, totals)
     }
 
     /// [`energy`] of one of its own systems.

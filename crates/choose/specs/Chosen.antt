@@ -61,6 +61,11 @@ freed {pins} {l} s b = record {
   each = λ r h. b .at r (omega (arith, s .long)) ∙ ap (λ (x : ℕ). cond (hasOne (isOne pins) l r) 0 x) (s .each r h);
 }
 
+-- what `tally_free` is lent: labels that need not be those of any bonds. No number of sites overflows
+pub record Tallyable (pins labels tally : List ℕ) : Type 0 where
+  pub few : length pins ≤ 4096
+  pub holdable : Holdable pins labels tally
+
 -- ---- which sites move
 
 -- what `reach` is lent: a mark of each site that acts, its label, how many sites have each label that is not held, and the seed of one component

@@ -8,7 +8,7 @@ use lib.Seq.{ext-getD}
 use Rattle.paper.specs.declared.Form.{Form}
 use Rattle.paper.specs.declared.Group.{Group}
 use Rattle.paper.specs.declared.Mode.{Mode}
-use Rattle.choose.specs.Chosen.{Becomes, heldBack, Marked, Reached, flippedAt, greyed, greyedAt, permutedAt}
+use Rattle.choose.specs.Chosen.{Becomes, heldBack, Freed, Marked, Reached, flippedAt, greyed, greyedAt, permutedAt}
 
 -- a length and an entry at each place below it leave one list
 only : (n : ℕ) (f : ℕ → ℕ) (ys zs : List ℕ) → length ys ≡ n → length zs ≡ n → ((i : ℕ) → i < n → getD ys i 0 ≡ f i) → ((i : ℕ) → i < n → getD zs i 0 ≡ f i)
@@ -21,6 +21,9 @@ becomes-determined f xs ys zs p q = only (length xs) f ys zs (p .long) (q .long)
 pub hold-back-determined : (pins labels tally ys zs : List ℕ) → Becomes (heldBack pins labels tally) tally ys → Becomes (heldBack pins labels tally) tally zs
     → ys ≡ zs
 hold-back-determined pins labels tally ys zs p q = becomes-determined _ tally ys zs p q
+
+pub tally-free-determined : (pins labels ys zs : List ℕ) → Freed pins labels ys → Freed pins labels zs → ys ≡ zs
+tally-free-determined pins labels ys zs p q = only (length labels) _ ys zs (p .long) (q .long) (p .each) (q .each)
 
 pub reach-determined : (mode : Mode) (form : Form) (seed : ℕ) (acts labels tally reached ys zs : List ℕ) → Marked form seed acts labels tally reached
     → Reached form mode seed acts labels tally ys → Reached form mode seed acts labels tally zs → ys ≡ zs

@@ -5,12 +5,15 @@ ghost use Prim.Native.Nat.{_<_};
 ghost use lib.Dec.{eqb, leb};
 ghost use lib.ListN.{length, getD};
 ghost use Rattle.paper.specs.Panel.Takes.{isSw, oneCluster, growsBy, entry};
+ghost use Rattle.paper.specs.Component.Sizes.{Sized};
 ghost use Rattle.paper.specs.Move.Moving.{flipBy, leastSize};
 ghost use Rattle.lemmas.specs.Tells.{Tells, Each};
 ghost use Rattle.choose.specs.Chosen.{
   Becomes,
   Holdable,
   heldBack,
+  Freed,
+  Tallyable,
   Marked,
   Reached,
   Flips,
@@ -23,6 +26,7 @@ ghost use Rattle.choose.specs.Chosen.{
   permutedAt,
 };
 use lemmas::wide;
+use lemmas::words::clear;
 use paper::Form;
 use paper::Group;
 use paper::Mode;
@@ -98,6 +102,30 @@ pub fn hold_back(pins: &[u8], labels: &[u32], tally: &mut [u32])
     if !none_pinned(pins) {
         clear_held(pins, labels, tally);
     }
+}
+
+// How many sites have each label.
+fn tally_labels(labels: &[u32], tally: &mut [u32])
+    requires { ⌜ Tallyable (now labels) (now labels) (now tally) ⌝ }
+    ensures { λ _. ⌜ Sized (now (labels .entry)) (now (tally .exit)) ⌝ }
+{
+    clear(tally);
+    let n = labels.len();
+    let mut i: usize = 0;
+    while i < n {
+        let label = wide(labels[i]);
+        tally[label] = tally[label] + 1;
+        i += 1;
+    }
+}
+
+// The sizes that `reach` takes, from labels alone: how many sites have each label, and 0 where one of them is pinned.
+pub fn tally_free(pins: &[u8], labels: &[u32], tally: &mut [u32])
+    requires { ⌜ Tallyable (now pins) (now labels) (now tally) ⌝ }
+    ensures { λ _. ⌜ Freed (now (pins .entry)) (now (labels .entry)) (now (tally .exit)) ⌝ }
+{
+    tally_labels(labels, tally);
+    hold_back(pins, labels, tally);
 }
 
 // Does the form move the component with this label and size? One that is held has the size 0.

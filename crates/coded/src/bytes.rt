@@ -5,7 +5,8 @@ ghost use mathlib.Core.Path.{_≡_};
 ghost use mathlib.Core.Bool.{true};
 ghost use Rattle.paper.specs.Panel.Made.{callOf, choicesOf};
 ghost use Rattle.paper.specs.Panel.Takes.{permsBy, keepsBy};
-ghost use Rattle.packed.specs.Packed.{ownTask, lentOf};
+ghost use Rattle.packing.specs.Bytes.{ownTask};
+ghost use Rattle.packed.specs.Packed.{lentOf};
 ghost use Rattle.coded.specs.Packed.{PackedCoded};
 
 // A function of its own, so that a call by rows does not clear the area.

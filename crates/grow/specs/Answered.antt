@@ -15,26 +15,26 @@ use lib.Ieee.{Float}
 use Rattle.lemmas.specs.Bools.{never, and-no}
 use Rattle.lemmas.specs.Counts.{count-most}
 use Rattle.lemmas.specs.Places.{Placed, Unplaced, place}
-use Rattle.lemmas.specs.Stores.{Cleared}
 use Rattle.paper.specs.declared.Task.{Task}
 use Rattle.paper.specs.declared.Mode.{Mode}
 use Rattle.paper.specs.declared.Mode.the-variants.{Houd, Pair, Perm, Gperm, Jorg, Cmr}
-use Rattle.paper.specs.declared.Answer.the-variants.{Idle, Held, Moved}
+use Rattle.paper.specs.declared.Answer.{Answer}
+use Rattle.paper.specs.declared.Answer.the-variants.{Refused, Idle, Held, Moved}
 use Rattle.paper.specs.Panel.Input.{Call, Choices, Pattern, pinned, pattern, graph}
 use Rattle.paper.specs.Panel.Made.{callOf, choicesOf}
 use Rattle.paper.specs.Panel.Takes.{isCmr, permsBy, greysBy, takesGreys}
-use Rattle.paper.specs.Site.Acting.{acts, SomeActs}
+use Rattle.paper.specs.Site.Acting.{acts, SomeActs, NoneActs}
 use Rattle.paper.specs.Component.Labels.{Joined}
 use Rattle.paper.specs.Component.Sizes.{labelOf}
 use Rattle.paper.specs.Move.Moving.{flipSome, actBy, greyAt, greyBit, reachedBy, hasOne, held, reached, after, final, Moves}
 use Rattle.paper.specs.Refusal.Rules.{Permutes, permRow}
 use Rattle.paper.specs.Refusal.Kept.{Valid, valid-kept}
-use Rattle.paper.specs.Answer.Move.{memberBonds, Seen, Answers}
+use Rattle.paper.specs.Answer.Move.{memberBonds, SeedHeld, Seen, Answers}
 use Rattle.laws.specs.Choices.{perms-taken, perms-bytes}
 use Rattle.laws.specs.Forms.{forms-apart, grows-one}
 use Rattle.laws.specs.Counting.{cmr-acts, acts-one}
 use Rattle.laws.specs.Holding.{held-members}
-use Rattle.column_rules.specs.Sight.{actsAt, SightedAt, none-acts}
+use Rattle.column_rules.specs.Sight.{none-acts}
 use Rattle.judge.specs.Judged.{Growable}
 use Rattle.judge.specs.Laws.{growable}
 use Rattle.turn.specs.Turned.{bare, actedTo, turnedTo, OneCluster, Chooses, Turnable}
@@ -43,8 +43,9 @@ use Rattle.grow.specs.Formed.{one-cluster, reached-grown, is-cmr, and-ye
 use Rattle.grow.specs.Listed.{isIn, siteAt}
 use Rattle.grow.specs.Kept.{Kept}
 use Rattle.grow.specs.Spread.{cluster-site, cluster-joined}
-use Rattle.grow.specs.Contract.{Seedable, Grew}
-use Rattle.grow.specs.Pinned.{PinAmong, Lookable, TurnedFree, among-held, held-among}
+use Rattle.grow.specs.Contract.{Grew}
+use Rattle.grow.specs.Pinned.{PinAmong, TurnedFree, among-held, held-among}
+use Rattle.grow.specs.Finding.{Findable, FindsNone, Finds}
 use Rattle.grow.specs.Task.{Outputs, noOutputs, withOutputs, GrowAsks, grown-with}
 
 module _ (t : Task) (fwd bwd pins : List ℕ) (js : List ℤ) (cuts : List Float) (choices greys : List ℕ) (xs : List ℤ) (members : List ℕ)
@@ -65,24 +66,19 @@ module _ (t : Task) (fwd bwd pins : List ℕ) (js : List ℤ) (cuts : List Float
   panel : Growable t xs js cuts
   panel = growable t fwd bwd pins js cuts p (withOutputs noOutputs xs members) (v .sound) (v .fit .chosen .reference)
 
-  pub seen-at : SightedAt (t .mode) (t .n) (t .group) (t .reference) xs (t .seed)
-  seen-at = record { panel = panel .panel; below = seed-lt }
-
-  pub seedable :
-      (room cells : ℕ) → room ≡ 4096 → cells ≡ 4096 → actsAt (t .mode) (t .n) (t .group) (t .reference) xs (t .seed) ≡ true
-      → Seedable t fwd bwd xs js cuts (length members) room cells
-  seedable room cells e c on = record {
+  pub findable : {list cols : ℕ} → list ≡ 4096 → cols ≡ 4096 → Findable t fwd bwd pins xs js cuts (length members) list cols
+  findable e k = record {
     growable = panel;
     tables = record { fwd-long = v .sound .exact .fwd; bwd-long = v .sound .exact .bwd; inverse = v .sound .inverse };
     seed-lt = seed-lt;
+    pins-long = v .sound .exact .pins;
     members-long = v .sound .exact .members (asks .grows);
     list-long = omega (arith, e, v .sound .ranged .lattice .n-high);
-    cols-long = c;
-    seed-acts = λ _. on;
+    cols-long = k;
   }
 
-  pub members-long : length members ≡ t .n
-  members-long = v .sound .exact .members (asks .grows)
+  pub area-room : {area : ℕ} → area ≡ 4096 → t .n ≤ area
+  area-room e = omega (arith, e, v .sound .ranged .lattice .n-high)
 
   chooses : Chooses t choices
   chooses = record {
@@ -115,22 +111,16 @@ module _ (t : Task) (fwd bwd pins : List ℕ) (js : List ℤ) (cuts : List Float
   seed-tells : SomeActs c xs → acts c xs (t .seed) ≡ true
   seed-tells = v .fit .seeded .acting (grows-one (t .form) (asks .grows))
 
-  pub acts-seed : {r : Bool} → r ≡ actsAt (t .mode) (t .n) (t .group) (t .reference) xs (t .seed) → acts c xs (t .seed) ≡ r
-  unfolding acts
-  acts-seed e = sym e
+  module _ {after : List ℕ} {blue len : ℕ} (f : FindsNone c xs after blue len) where
+    pub idle-none : NoneActs c xs
+    idle-none = none-acts c xs (λ s. never (sym (f .off) ∙ seed-tells s))
 
-  pub idle-answers :
-      acts c xs (t .seed) ≡ false → {after : List ℕ} → Cleared (length members) after → (o : Outputs)
-      → Answers c p (withOutputs o xs members) Idle (withOutputs o xs after)
-  idle-answers off cleared o = record {
-    valid = valid-kept c p (withOutputs o xs members) (answered o);
-    none = none-acts c xs (λ s. never (sym off ∙ seed-tells s));
-    still = refl;
-    seen = record {
+    pub idle-seen : (o : Outputs) (ys : List ℤ) → Seen c (withOutputs o xs members) (withOutputs o ys after)
+    idle-seen o ys = record {
       all = λ l. forms-apart (t .form) l (asks .grows);
       one = λ g. record {
-        members = λ on. never (sym off ∙ on);
-        none = λ e. rw members-long at cleared;
+        members = λ on. never (sym (f .off) ∙ on);
+        none = λ _. f .cleared;
         labels-kept = refl;
         grey-kept = refl;
         counts-kept = refl;
@@ -138,8 +128,15 @@ module _ (t : Task) (fwd bwd pins : List ℕ) (js : List ℤ) (cuts : List Float
         found-kept = refl;
         grey-found-kept = refl;
       };
-    };
-  }
+    }
+
+    pub idle-answers : (o : Outputs) → Answers c p (withOutputs o xs members) Idle (withOutputs o xs after)
+    idle-answers o = record {
+      valid = valid-kept c p (withOutputs o xs members) (answered o);
+      none = idle-none;
+      still = refl;
+      seen = idle-seen o xs;
+    }
 
   -- ---- the seed acts
   module _ (on : acts c xs (t .seed) ≡ true) {m l : List ℕ} {blue len : ℕ} (g : Grew c xs m l blue len) where
@@ -296,8 +293,8 @@ module _ (t : Task) (fwd bwd pins : List ℕ) (js : List ℤ) (cuts : List Float
             and-no (takesGreys c),
           )
 
-    seen : (o : Outputs) (ys : List ℤ) → Seen c (withOutputs o xs members) (withOutputs o ys m)
-    seen o ys = record {
+    pub grown-seen : (o : Outputs) (ys : List ℤ) → Seen c (withOutputs o xs members) (withOutputs o ys m)
+    grown-seen o ys = record {
       all = λ e. forms-apart (t .form) e (asks .grows);
       one = λ e. record {
         members = λ _. g .cluster .members;
@@ -311,31 +308,20 @@ module _ (t : Task) (fwd bwd pins : List ℕ) (js : List ℤ) (cuts : List Float
       };
     }
 
-    -- ---- the pins of the list
-    pub lookable : (from to : ℕ) → from ≤ to → to ≤ len → Lookable (length pins) l from to
-    lookable from to h k = let w = g .cluster .listed in record {
-      order = h;
-      sites = record {
-        few = omega (arith, w .number, count-most (isIn m) (length m), g .cluster .members .long, v .sound .ranged .lattice .n-high);
-        long = omega (arith, w .number, count-most (isIn m) (length m), w .room);
-        below = λ a al. omega (arith, cluster-site (g .cluster) a (omega arith), v .sound .exact .pins);
-      };
-    }
-
-    -- one of a blue site holds the cluster
-    pub held-answers : PinAmong pins l 0 blue → (o : Outputs) → Answers c p (withOutputs o xs members) Held (withOutputs o xs m)
+    -- ---- the seed's component is held, or not
+    pub held-answers : SeedHeld c xs → (o : Outputs) → Answers c p (withOutputs o xs members) Held (withOutputs o xs m)
     held-answers q o = record {
       valid = valid-kept c p (withOutputs o xs members) (answered o);
       some = record { site = t .seed; below = seed-lt; does = on };
       one = grows-one (t .form) (asks .grows);
-      held = held-members c xs seed-lt (g .blues) (g .first .members) .0 (among-held c (g .first .listed) q);
+      held = q;
       still = refl;
-      seen = seen o xs;
+      seen = grown-seen o xs;
     }
 
-    module _ (none : PinAmong pins l 0 blue → ⊥) {ys : List ℤ} (w : TurnedFree t pins choices greys l blue len xs ys) where
+    module _ (none : SeedHeld c xs → ⊥) {ys : List ℤ} (w : TurnedFree t pins choices greys l blue len xs ys) where
       free : hasOne (pinned c) (g .blues) 1 ≡ false
-      free = not-true (hasOne (pinned c) (g .blues) 1) (λ e. none (held-among c (g .first .listed) e))
+      free = not-true (hasOne (pinned c) (g .blues) 1) (λ e. none (held-members c xs seed-lt (g .blues) (g .first .members) .0 e))
 
       moved : Moves c p xs (g .blues) m ys
       moved = record {
@@ -353,8 +339,17 @@ module _ (t : Task) (fwd bwd pins : List ℕ) (js : List ℤ) (cuts : List Float
       moved-answers o = record {
         valid = valid-kept c p (withOutputs o xs members) (answered o);
         some = record { site = t .seed; below = seed-lt; does = on };
-        free = λ _ s. never (sym free ∙ held-members c xs seed-lt (g .blues) (g .first .members) .1 s);
+        free = λ _. none;
         moved = λ e. forms-apart (t .form) e (asks .grows);
         turned = λ e. record { blue = g .blues; joined = g .first .members; moved = moved };
-        seen = seen o ys;
+        seen = grown-seen o ys;
       }
+
+  -- an answer that is no move leaves the spins
+  pub still-answers :
+      (m l : List ℕ) (blue len : ℕ) (a : Answer) → (a ≡ Moved → ⊥) → Finds c xs m l a blue len → (o : Outputs)
+      → Answers c p (withOutputs o xs members) a (withOutputs o xs m)
+  still-answers m l blue len (Refused r) still f o = absurd f
+  still-answers m l blue len Idle still f o = idle-answers f o
+  still-answers m l blue len Held still f o = held-answers (f .on) (f .grew) (f .held) o
+  still-answers m l blue len Moved still f o = absurd (still refl)

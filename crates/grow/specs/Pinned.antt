@@ -1,6 +1,6 @@
 -- Pins among the listed sites: the look at them, what turns then, and what of a cluster they hold.
 use Prim.Native.Nat.{ℕ, _+_, _≤_, _<_, zero-le}
-use mathlib.Core.Path.{_≡_, sym, ap, _∙_, subst}
+use mathlib.Core.Path.{_≡_, refl, sym, ap, _∙_, subst}
 use mathlib.Core.Logic.{_⊎_, inl, inr}
 use mathlib.Core.Bool.{Bool, true, false, _||_}
 use mathlib.Core.List.{List, [], _∷_}
@@ -17,7 +17,9 @@ use Rattle.paper.specs.Panel.Input.{Call, pinned}
 use Rattle.paper.specs.Move.Moving.{hasOne}
 use Rattle.laws.specs.Holding.{one-is, one-has}
 use Rattle.totals.specs.Listed.{SitesIn}
-use Rattle.turn.specs.Turned.{Turnable, Turned}
+use Rattle.judge.specs.Judged.{gaugeFor}
+use Rattle.turn.specs.Turned.{Turnable, ColumnsTurned, ListWritten, Turned}
+use Rattle.turn.specs.Laws.{written-turned}
 use Rattle.grow.specs.Members.{inside}
 use Rattle.grow.specs.Listed.{siteAt, Listed}
 
@@ -34,7 +36,18 @@ pub record Lookable (pins : ℕ) (list : List ℕ) (from to : ℕ) : Type 0 wher
   pub order : from ≤ to
   pub sites : SitesIn pins list to
 
--- what turns where no blue site is pinned: with another member pinned the grey number is 0
+-- where no blue site is pinned: with another member pinned the grey number is 0
+pub data GreyBy (pins greys list : List ℕ) (blue len : ℕ) (grey : List ℕ) : Type 0 where
+  free : (PinAmong pins list blue len → ⊥) → grey ≡ greys → GreyBy pins greys list blue len grey
+  held : PinAmong pins list blue len → grey ≡ 0 ∷ [] → GreyBy pins greys list blue len grey
+
+-- the columns that are chosen with it, from the rows xs
+pub record ChosenFree (t : Task) (pins choices greys list cols : List ℕ) (blue len : ℕ) (xs : List ℤ) (news news′ : List ℕ) : Type 0 where
+  pub grey : List ℕ
+  pub which : GreyBy pins greys list blue len grey
+  pub chosen : ColumnsTurned t (gaugeFor t xs) choices grey list cols blue len news news′
+
+-- and what turns
 pub record TurnedFree (t : Task) (pins choices greys list : List ℕ) (blue len : ℕ) (xs ys : List ℤ) : Type 0 where
   pub grey : List ℕ
   pub kept : (PinAmong pins list blue len → ⊥) → grey ≡ greys
@@ -58,6 +71,39 @@ none-turnable h = record {
   room = h .room;
   kept = h .kept;
 }
+
+-- the columns, chosen with the gauge of the rows
+pub chosen-with :
+    {t : Task} {pins choices greys list cols grey : List ℕ} {blue len gauge : ℕ} {xs : List ℤ} {news news′ : List ℕ} → gauge ≡ gaugeFor t xs
+    → GreyBy pins greys list blue len grey → ColumnsTurned t gauge choices grey list cols blue len news news′
+    → ChosenFree t pins choices greys list cols blue len xs news news′
+chosen-with {t} {pins} {choices} {greys} {list} {cols} {grey} {blue} {len} {gauge} {xs} {news} {news′} e w c = record {
+  grey = grey;
+  which = w;
+  chosen = subst (λ (z : ℕ). ColumnsTurned t z choices grey list cols blue len news news′) e c;
+}
+
+-- what is chosen and written is turned
+module _ {t : Task} {pins choices greys list cols : List ℕ} {blue len : ℕ} {xs ys : List ℤ} {news news′ : List ℕ}
+    (h : Turnable t xs choices greys list cols len) (w : ListWritten (t .n) (t .group) list len news′ xs ys) where
+  turned-by :
+      {grey : List ℕ} → GreyBy pins greys list blue len grey → ColumnsTurned t (gaugeFor t xs) choices grey list cols blue len news news′
+      → TurnedFree t pins choices greys list blue len xs ys
+  turned-by {grey} (free f e) c = record {
+    grey = grey;
+    kept = λ _. e;
+    none = λ pin. absurd (f pin);
+    turned = written-turned (subst (λ (z : List ℕ). Turnable t xs choices z list cols len) (sym e) h) refl c w;
+  }
+  turned-by {grey} (held p e) c = record {
+    grey = grey;
+    kept = λ f. absurd (f p);
+    none = λ _. e;
+    turned = written-turned (subst (λ (z : List ℕ). Turnable t xs choices z list cols len) (sym e) (none-turnable h)) refl c w;
+  }
+
+  pub turned-free : ChosenFree t pins choices greys list cols blue len xs news news′ → TurnedFree t pins choices greys list blue len xs ys
+  turned-free c = turned-by (c .which) (c .chosen)
 
 -- ---- the look: found tells of the places below a
 pub record Looking (pins list : List ℕ) (from to a : ℕ) (found : Bool) : Type 0 where

@@ -1,32 +1,31 @@
--- Totals kept beside the growth: what the members' columns before the turn and after it give.
-use Prim.Native.Nat.{ℕ, _+_, _≤_, _<_}
+-- A cluster written from any columns, and the totals beside it: what the members' columns before and after give.
+use Prim.Native.Nat.{ℕ, _*_, _≤_, _<_}
 use mathlib.Core.Path.{_≡_, refl, sym, ap, _∙_}
-use mathlib.Core.Logic.{_⊎_, inl, inr}
-use mathlib.Core.Bool.{Bool, true, false}
+use mathlib.Core.Bool.{Bool, true, false, cond}
 use mathlib.Core.List.{List}
 use native.Mathlib.Decide.{ℕ-discrete}
 use native.Mathlib.Nat.{mul-le-mul-right, suc-mul}
 use native.Mathlib.Omega.{arith}
-use lib.ListN.{length, getD, set, length-set}
+use borrow.Author.Tests.{eq-eqb, ne-eqb}
+use lib.ListN.{length, getD}
 use lib.IntN.{ℤ, _+ℤ_, +ℤ-idr, +ℤ-invr}
 use lib.Ieee.{Float}
 use Rattle.lemmas.specs.Bools.{never}
 use Rattle.lemmas.specs.Counts.{count-most}
-use Rattle.lemmas.specs.Places.{Placed, Unplaced, place}
-use Rattle.lemmas.specs.Stores.{AfterSet, AfterSet.here, AfterSet.there, after-set, lt-of-ne}
+use Rattle.lemmas.specs.Places.{Placed}
 use Rattle.paper.specs.declared.Group.{Group}
 use Rattle.paper.specs.declared.Task.{Task}
-use Rattle.paper.specs.Panel.Input.{Lattice, member, patternOf}
+use Rattle.paper.specs.Panel.Input.{Lattice, member, spin, patternOf}
 use Rattle.paper.specs.Panel.Made.{callOf, choicesOf}
 use Rattle.paper.specs.Panel.Takes.{keepsBy}
 use Rattle.paper.specs.Site.Energy.{energy}
-use Rattle.paper.specs.Refusal.Rules.{Spin, Distinct}
+use Rattle.paper.specs.Refusal.Rules.{Spin, Distinct, Grouped}
 use Rattle.paper.specs.Answer.Totals.{total, TotalsReady, TotalsAfter}
 use Rattle.laws.specs.Entries.{spin-of}
-use Rattle.columns.specs.Column.{Inside, Spinning, shown, shown-column}
+use Rattle.columns.specs.Column.{Spinning, shown, shown-column, shown-spin}
 use Rattle.totals.specs.Contract.{latticeFor, Bringable, Spun}
 use Rattle.totals.specs.Listed.{SitesIn, columnsBy, Listing, Unturned, BringsListed}
-use Rattle.turn.specs.Turned.{Turned}
+use Rattle.turn.specs.Turned.{ListWritable, ListWritten}
 use Rattle.grow.specs.Listed.{isIn, siteAt}
 use Rattle.grow.specs.Kept.{Kept}
 use Rattle.grow.specs.Spread.{cluster-site}
@@ -35,75 +34,95 @@ use Rattle.grow.specs.Task.{GrowAsks}
 
 -- ---- what the functions ask and promise
 
--- the group's rows, and a list of sites
-pub record Readable (n : ℕ) (g : Group) (xs : List ℤ) (list : List ℕ) (m news : ℕ) : Type 0 where
-  pub few : g .len ≤ 8
-  pub inside : Inside n g xs
-  pub sites : SitesIn n list m
-  pub room : n ≤ news
-
--- the first m sites of the list have the columns of the rows
-pub record ReadAt (n : ℕ) (g : Group) (xs : List ℤ) (list : List ℕ) (m : ℕ) (news news′ : List ℕ) : Type 0 where
-  pub long : length news′ ≡ length news
-  pub each : (a : ℕ) → a < m → getD news′ (siteAt list a) 0 ≡ columnsBy n g xs (siteAt list a)
-
--- the first m of the list are the members, each once
-pub record Changed (n : ℕ) (members list : List ℕ) (m olds : ℕ) : Type 0 where
+-- the first m of the list are the members, each once, and there is room for the columns of all sites
+pub record Changed (n : ℕ) (members list : List ℕ) (m area : ℕ) : Type 0 where
   pub sites : SitesIn n list m
   pub members-long : n ≤ length members
-  pub olds-long : n ≤ olds
+  pub room : n ≤ area
   pub distinct : Distinct m (siteAt list)
   pub marked : (a : ℕ) → a < m → getD members (siteAt list a) 0 ≡ 1
   pub listed : (i : ℕ) → i < n → getD members i 0 ≡ 1 → Placed m (siteAt list) i
 
--- ---- one column more is read
-pub read-none : {n : ℕ} {g : Group} {xs : List ℤ} {list news : List ℕ} → ReadAt n g xs list 0 news news
-read-none = record { long = refl; each = λ a l. absurd (omega arith) }
+-- rows, of which the group's hold spins, and the members: any columns can be written there
+pub record Writable (t : Task) (xs : List ℤ) (members list : List ℕ) (m area : ℕ) : Type 0 where
+  pub few : t .group .len ≤ 8
+  pub grouped : Grouped (t .s) (t .group)
+  pub long : length xs ≡ t .s * t .n
+  pub spins : Spinning (t .n) (t .group) xs
+  pub changed : Changed (t .n) members list m area
 
-pub read-more :
-    {n : ℕ} {g : Group} {xs : List ℤ} {list : List ℕ} {m : ℕ} {news₀ news : List ℕ} {i v : ℕ} → ReadAt n g xs list m news₀ news → i < length news
-    → i ≡ siteAt list m → v ≡ columnsBy n g xs i → ReadAt n g xs list (m + 1) news₀ (set news i v)
-read-more {n} {g} {xs} {list} {m} {news₀} {news} {i} {v} was l is e = record {
-  long = length-set news i v ∙ was .long;
-  each = λ a al. at a al (after-set news i v (siteAt list a) l) (ℕ-discrete a m);
-}
-  where
-    at : (a : ℕ) → a < m + 1 → AfterSet news i v (siteAt list a) → Dec (a ≡ m) → getD (set news i v) (siteAt list a) 0 ≡ columnsBy n g xs (siteAt list a)
-    at a al (here q f) d = f ∙ (e ∙ ap (columnsBy n g xs) (sym q))
-    at a al (there q f) (yes d) = absurd (q (ap (siteAt list) d ∙ sym is))
-    at a al (there q f) (no d) = f ∙ was .each a (lt-of-ne al d)
+-- the first m sites of the list have the columns of the rows
+pub record OldsRead (n : ℕ) (g : Group) (xs : List ℤ) (list : List ℕ) (m : ℕ) (olds : List ℕ) : Type 0 where
+  pub room : n ≤ length olds
+  pub each : (a : ℕ) → a < m → getD olds (siteAt list a) 0 ≡ columnsBy n g xs (siteAt list a)
 
--- ---- from the members' columns to the totals
-module _ {g : Lattice} {group : Group} {totals ys : List ℤ} (h : Bringable g group totals) (r : Spun g group ys) where
-  rows-inside : Inside (g .n) group ys
-  rows-inside k l = omega (arith, r .long, suc-mul (member group k) (g .n), mul-le-mul-right (g .n) (h .grouped .below k l))
+-- ---- any columns, written at the members
+module _ {t : Task} {xs : List ℤ} {members list : List ℕ} {m area : ℕ} (h : Writable t xs members list m area) where
+  pub list-writable : {news : List ℕ} → length news ≡ area → ListWritable (t .n) (t .group) xs list m news
+  list-writable e = record {
+    few = h .few;
+    inside = λ k l. omega (arith, h .long, suc-mul (member (t .group) k) (t .n), mul-le-mul-right (t .n) (h .grouped .below k l));
+    distinct = h .grouped .distinct;
+    long = h .changed .sites .long;
+    sites = h .changed .sites .below;
+    room = omega (arith, e, h .changed .room);
+  }
 
-  module _ {members list : List ℕ} {m olds-long : ℕ} (w : Changed (g .n) members list m olds-long) where
-    pub readable : {news : ℕ} → news ≡ 4096 → Readable (g .n) group ys list m news
-    readable e = record { few = h .few; inside = rows-inside; sites = w .sites; room = omega (arith, e, h .sizes .n-high) }
+  module _ {news : List ℕ} {ys : List ℤ} (w : ListWritten (t .n) (t .group) list m news xs ys) where
+    -- at a member's site
+    pub written-in : (i k : ℕ) → i < t .n → k < t .group .len → getD members i 0 ≡ 1 → patternOf (t .n) (t .group) ys i k ≡ shown (getD news i 0) k
+    written-in i k il kl on = let p = h .changed .listed i il on in rw (p .2) (w .listed (p .0) k (p .1) kl)
 
-    pub listing :
-        {olds news news′ : List ℕ} → ReadAt (g .n) group ys list m news news′ → length olds ≡ olds-long → length news ≡ 4096
-        → Listing (g .n) group ys members list m olds news′
-    listing {olds} {news} {news′} read o e = record {
-      sites = w .sites;
-      areas = record {
-        members-long = w .members-long;
-        olds-long = omega (arith, o, w .olds-long);
-        news-long = omega (arith, e, read .long, h .sizes .n-high);
-      };
-      distinct = w .distinct;
-      marked = w .marked;
-      listed = w .listed;
-      after = λ i k il on kl. after i k il kl (w .listed i il on);
-    }
+    -- at another
+    pub written-out : (i s : ℕ) → i < t .n → (getD members i 0 ≡ 1 → ⊥) → spin (t .n) ys s i ≡ spin (t .n) xs s i
+    written-out i s il off = w .others i s il (λ x xl e. off (rw e (h .changed .marked x xl)))
+
+    -- so at every site
+    pub written-at :
+        (i k : ℕ) → i < t .n → k < t .group .len
+        → patternOf (t .n) (t .group) ys i k ≡ cond (isIn members i) (shown (getD news i 0) k) (patternOf (t .n) (t .group) xs i k)
+    written-at i k il kl = at (ℕ-discrete (getD members i 0) 1)
       where
-        after : (i k : ℕ) → i < g .n → k < group .len → Placed m (siteAt list) i → patternOf (g .n) group ys i k ≡ shown (getD news′ i 0) k
-        after i k il kl p =
-            let column : getD news′ i 0 ≡ columnsBy (g .n) group ys i = rw (p .2) (read .each (p .0) (p .1)) in
-            sym
-            (ap (λ (x : ℕ). shown x k) column
-            ∙ shown-column (group .len) (patternOf (g .n) group ys i) k kl (r .spins i k il kl))
+        at :
+            Dec (getD members i 0 ≡ 1)
+            → patternOf (t .n) (t .group) ys i k ≡ cond (isIn members i) (shown (getD news i 0) k) (patternOf (t .n) (t .group) xs i k)
+        at (yes q) = rw (eq-eqb _ _ q) (written-in i k il kl q)
+        at (no q) = rw (ne-eqb _ _ q) (written-out i (member (t .group) k) il q)
+
+    -- every spin of the group is one again
+    pub spun : (fwd bwd : List ℕ) (js : List ℤ) → Spun (latticeFor t fwd bwd js) (t .group) ys
+    spun fwd bwd js = record { long = w .long ∙ h .long; spins = λ i k il kl. at i k il kl (ℕ-discrete (getD members i 0) 1) }
+      where
+        at : (i k : ℕ) → i < t .n → k < t .group .len → Dec (getD members i 0 ≡ 1) → Spin (patternOf (t .n) (t .group) ys i k)
+        at i k il kl (yes q) = rw (written-in i k il kl q) (shown-spin (getD news i 0) k)
+        at i k il kl (no q) = rw (written-out i (member (t .group) k) il q) (h .spins i k il kl)
+
+    module _ {olds : List ℕ} (r : OldsRead (t .n) (t .group) xs list m olds) where
+      pub listing : length news ≡ area → Listing (t .n) (t .group) ys members list m olds news
+      listing e = let c = h .changed in record {
+        sites = c .sites;
+        areas = record { members-long = c .members-long; olds-long = r .room; news-long = omega (arith, e, c .room) };
+        distinct = c .distinct;
+        marked = c .marked;
+        listed = c .listed;
+        after = λ i k il on kl. written-in i k il kl on;
+      }
+
+      unturned : Unturned (t .n) (t .group) members olds xs ys
+      unturned = record { before = λ i k il on kl. before i k il kl (h .changed .listed i il on); sites = written-out; systems = w .systems }
+        where
+          before : (i k : ℕ) → i < t .n → k < t .group .len → Placed m (siteAt list) i → patternOf (t .n) (t .group) xs i k ≡ shown (getD olds i 0) k
+          before i k il kl p =
+              let column : getD olds i 0 ≡ columnsBy (t .n) (t .group) xs i = rw (p .2) (r .each (p .0) (p .1)) in
+              sym
+              (ap (λ (x : ℕ). shown x k) column
+              ∙ shown-column (t .group .len) (patternOf (t .n) (t .group) xs i) k kl (h .spins i k il kl))
+
+      pub totals-kept :
+          {keeping : Bool} {fwd bwd : List ℕ} {js totals totals′ : List ℤ} → keeping ≡ true
+          → BringsListed (latticeFor t fwd bwd js) (t .group) ys members olds totals totals′
+          → TotalsAfter keeping (latticeFor t fwd bwd js) xs totals ys totals′
+      totals-kept on b = record { brought = λ _. b .each xs unturned; left = λ off. never (sym off ∙ on) }
 
 -- ---- one task
 module _ (t : Task) (fwd bwd pins : List ℕ) (js : List ℤ) (cuts : List Float) (choices greys : List ℕ) (xs : List ℤ) (members : List ℕ)
@@ -130,48 +149,32 @@ module _ (t : Task) (fwd bwd pins : List ℕ) (js : List ℤ) (cuts : List Float
       totals-small = ready .small on;
     }
 
-    module _ {m l : List ℕ} {blue len : ℕ} (grew : Grew (callOf t fwd bwd pins js cuts) xs m l blue len) {cols : List ℕ} (kept : Kept t xs m cols) where
-      pub changed : Changed (t .n) m l len (length cols)
-      changed = let w = grew .cluster .listed in record {
-        sites = record {
-          few = omega (arith, w .number, count-most (isIn m) (length m), grew .cluster .members .long, asks .valid .sound .ranged .lattice .n-high);
-          long = omega (arith, w .number, count-most (isIn m) (length m), w .room);
-          below = cluster-site (grew .cluster);
+    module _ {m l : List ℕ} {blue len : ℕ} (grew : Grew (callOf t fwd bwd pins js cuts) xs m l blue len) where
+      pub writable : {area : ℕ} → area ≡ 4096 → Writable t xs m l len area
+      writable e = let s = asks .valid .sound in let w = grew .cluster .listed in record {
+        few = s .ranged .size-high;
+        grouped = s .grouped;
+        long = s .exact .spins;
+        spins = λ i k il kl. spin-of (asks .valid) i il k kl;
+        changed = record {
+          sites = record {
+            few = omega (arith, w .number, count-most (isIn m) (length m), grew .cluster .members .long, s .ranged .lattice .n-high);
+            long = omega (arith, w .number, count-most (isIn m) (length m), w .room);
+            below = cluster-site (grew .cluster);
+          };
+          members-long = omega (arith, grew .cluster .members .long);
+          room = omega (arith, e, s .ranged .lattice .n-high);
+          distinct = w .apart;
+          marked = w .each;
+          listed = λ i il on. w .all i on;
         };
-        members-long = omega (arith, grew .cluster .members .long);
-        olds-long = omega (arith, kept .long, asks .valid .sound .ranged .lattice .n-high);
-        distinct = w .apart;
-        marked = w .each;
-        listed = λ i il on. w .all i on;
       }
 
-      module _ {grey : List ℕ} {ys : List ℤ} (turned : Turned t choices grey l blue len xs ys) where
-        was : Spinning (t .n) (t .group) xs
-        was i k il kl = spin-of (asks .valid) i il k kl
-
-        -- every spin of the group is one again
-        pub spun : Spun g (t .group) ys
-        spun = record {
-          long = turned .long ∙ asks .valid .sound .exact .spins;
-          spins = λ i k il kl. at i k il kl (place len (siteAt l) i);
-        }
-          where
-            at : (i k : ℕ) → i < t .n → k < t .group .len → Placed len (siteAt l) i ⊎ Unplaced len (siteAt l) i → Spin (patternOf (t .n) (t .group) ys i k)
-            at i k il kl (inl p) = rw (p .2) (turned .spins (p .0) k (p .1) kl)
-            at i k il kl (inr p) = rw (turned .others i (member (t .group) k) il p) (was i k il kl)
-
-        unturned : Unturned (t .n) (t .group) m cols xs ys
-        unturned = record {
-          before = λ i k il on kl.
-              sym
-              (ap (λ (x : ℕ). shown x k) (kept .at i on)
-              ∙ shown-column (t .group .len) (patternOf (t .n) (t .group) xs i) k kl (was i k il kl));
-          sites = λ i s il off. turned .others i s il (λ x xl e. off (rw e (grew .cluster .listed .each x xl)));
-          systems = turned .systems;
-        }
-
-        pub totals-kept : {totals′ : List ℤ} → keeping ≡ true → BringsListed g (t .group) ys m cols totals totals′ → TotalsAfter keeping g xs totals ys totals′
-        totals-kept on b = record { brought = λ _. b .each xs unturned; left = λ off. never (sym off ∙ on) }
+      pub olds-read : {cols : List ℕ} → Kept t xs m cols → OldsRead (t .n) (t .group) xs l len cols
+      olds-read k = record {
+        room = omega (arith, k .long, asks .valid .sound .ranged .lattice .n-high);
+        each = λ a al. k .at (siteAt l a) (grew .cluster .listed .each a al);
+      }
 
 -- not kept, they stay
 pub totals-left : {keeping : Bool} {g : Lattice} {xs ts ys : List ℤ} → keeping ≡ false → TotalsAfter keeping g xs ts ys ts

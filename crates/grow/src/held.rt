@@ -1,8 +1,9 @@
-// What pins hold: they are looked at where a site is listed.
+// What pins hold, and what is chosen of the rest: they are looked at where a site is listed.
+ghost use Prim.Native.Nat.{_≤_};
 ghost use lib.ListN.{length};
 ghost use Rattle.lemmas.specs.Tells.{Tells};
 ghost use Rattle.turn.specs.Turned.{Turnable};
-ghost use Rattle.grow.specs.Pinned.{PinAmong, Lookable, TurnedFree};
+ghost use Rattle.grow.specs.Pinned.{PinAmong, Lookable, ChosenFree};
 use lemmas::wide;
 use paper::Task;
 
@@ -21,11 +22,11 @@ pub(crate) fn some_pinned(pins: &[u8], list: &[u32], from: usize, to: usize) -> 
     found
 }
 
-// Turns a cluster of which no blue site is pinned. If another member is, which there is in CMR alone, the grey component is held: only the blue flip
-// stands, as with the grey number 0.
-pub(crate) fn turn_free(
+// The members' new columns, in a cluster of which no blue site is pinned. If another member is, which there is in CMR alone, the grey component is held:
+// only the blue flip stands, as with the grey number 0. gperm's gauge is read before any spin is written.
+pub(crate) fn choose_cluster(
     t: Task,
-    spins: &mut [i8],
+    spins: &[i8],
     pins: &[u8],
     choices: &[u8],
     greys: &[u8],
@@ -33,16 +34,22 @@ pub(crate) fn turn_free(
     cols: &[u8],
     blue: usize,
     len: usize,
+    news: &mut [u8],
 )
     requires { ⌜ Turnable t (now spins) (now choices) (now greys) (now list) (now cols) len ⌝ }
     requires { ⌜ Lookable (length (now pins)) (now list) blue len ⌝ }
-    ensures { λ _. ⌜ TurnedFree
-        t (now (pins .entry)) (now (choices .entry)) (now (greys .entry)) (now (list .entry)) blue len (now (spins .entry)) (now (spins .exit)) ⌝ }
+    requires { ⌜ t .n ≤ length (now news) ⌝ }
+    ensures { λ _. ⌜ ChosenFree
+        t (now (pins .entry)) (now (choices .entry)) (now (greys .entry)) (now (list .entry)) (now (cols .entry)) blue len (now (spins .entry))
+        (now (news .entry)) (now (news .exit)) ⌝ }
 {
+    let mode = t.mode;
+    let group = t.group;
+    let gauge = columns::gauge_at(mode, spins, t.n, group, t.reference);
     if some_pinned(pins, list, blue, len) {
         let none = [0u8; 1];
-        turn::turn(t, spins, choices, &none, list, cols, blue, len);
+        turn::turn_columns(t, gauge, choices, &none, list, cols, blue, len, news);
     } else {
-        turn::turn(t, spins, choices, greys, list, cols, blue, len);
+        turn::turn_columns(t, gauge, choices, greys, list, cols, blue, len, news);
     }
 }

@@ -1,275 +1,76 @@
-// The cluster of a seed, grown from site to site: only what it reaches is looked at.
-ghost use lib.ListN.{length, getD};
-ghost use mathlib.Core.Path.{_≡_};
-ghost use mathlib.Core.List.{List};
-ghost use Prim.Native.Nat.{ℕ};
+// One task of the form that grows: its cluster is found, and then chosen and written.
+ghost use lib.ListN.{length};
 ghost use Rattle.paper.specs.Panel.Made.{latticeOf, callOf, choicesOf};
 ghost use Rattle.paper.specs.Panel.Takes.{keepsBy};
 ghost use Rattle.paper.specs.Answer.Move.{Answers};
 ghost use Rattle.paper.specs.Answer.Totals.{TotalsReady, TotalsAfter};
-ghost use Rattle.judge.specs.Judged.{Ready, BondOf, KnownToAct, columnFor};
-ghost use Rattle.judge.specs.Drawn.{judgedOn};
-ghost use Rattle.grow.specs.Kept.{Kept, Keeping};
-ghost use Rattle.grow.specs.Growth.{Growing, Met, Visiting};
-ghost use Rattle.grow.specs.Spread.{Next, Spreads};
-ghost use Rattle.grow.specs.Contract.{graphFor, ruled, Grounds, Meeting, Waiting, Seedable, Grew};
+ghost use Rattle.grow.specs.Kept.{Keeping};
+ghost use Rattle.grow.specs.Finding.{Findable, Finds};
 ghost use Rattle.grow.specs.Task.{Outputs, withOutputs, GrowAsks};
 
+mod growing;
 mod held;
-mod keep;
+pub mod write;
 
+use growing::grow_cluster;
+use held::choose_cluster;
 use held::some_pinned;
-use held::turn_free;
-use judge::Rule;
-use judge::judge;
-use judge::prepare;
-use keep::keep_totals;
 use lemmas::bytes::clear;
-use lemmas::wide;
 use paper::Answer;
-use paper::Mode;
-use paper::Sampler;
 use paper::Task;
+use write::write_cluster;
 
-// A bond: the site that it starts at, and its direction.
-struct Bond(usize, usize);
-
-// A bond is met at one end, which has the column `own`; `found` is its other end, which is not marked. If it holds, that site is marked and listed, and
-// its column is kept. The new number of sites. What only the modes that draw read comes last: the first eight arguments need no memory.
-fn meet(
-    rule: Rule,
-    spins: &[i8],
-    members: &mut [u8],
-    list: &mut [u32],
-    cols: &mut [u8],
-    len: usize,
-    own: u8,
-    found: usize,
-    bond: Bond,
-    couplings: &[i32],
-    cuts: &[f32],
-) -> usize
-    requires { ⌜ Ready rule (now spins) (now couplings) (now cuts) ⌝ }
-    requires { ⌜ BondOf (rule .task) (bond .0) (bond .1) ⌝ }
-    requires { ⌜ KnownToAct rule own ⌝ }
-    requires { ⌜ Meeting (rule .task .n) found (now members) (now list) len ⌝ }
-    requires { ⌜ Kept (rule .task) (now spins) (now members) (now cols) ⌝ }
-    ensures { λ r. ⌜ Keeping (Met
-        (judgedOn rule (now (couplings .entry)) (now (cuts .entry)) (bond .0) (bond .1) own (columnFor (rule .task) (now (spins .entry)) found))
-        found (now (members .entry)) (now (list .entry)) len (now (members .exit)) (now (list .exit)) r)
-        (rule .task) (now (spins .entry)) (now (members .exit)) (now (cols .exit)) ⌝ }
-{
-    let t = rule.task;
-    let group = t.group;
-    let other = columns::quick_column_at(spins, t.n, group, found);
-    if judge(rule, couplings, cuts, bond.0, bond.1, own, other) {
-        members[found] = 1;
-        list[len] = found as u32;
-        cols[found] = other;
-        return len + 1;
-    }
-    len
+// What finding a cluster comes to: what the move answers, how many sites of the list the bonds join to the seed, in CMR the blue ones, and how many
+// members there are.
+pub struct Found {
+    pub answer: Answer,
+    pub blue: usize,
+    pub len: usize,
 }
 
-// Meets the bonds of site i in both senses that do not lead to a marked site. A bond has the coupling and the cut of the site that it starts at: one
-// behind leads from its other end to i.
-fn visit(
-    rule: Rule,
-    spins: &[i8],
-    fwd: &[u32],
-    bwd: &[u32],
-    couplings: &[i32],
-    cuts: &[f32],
-    members: &mut [u8],
-    list: &mut [u32],
-    cols: &mut [u8],
-    start: usize,
-    i: usize,
-) -> usize
-    requires { ⌜ Grounds rule (now fwd) (now bwd) (now spins) (now couplings) (now cuts) ⌝ }
-    requires { ⌜ Growing
-        (graphFor (rule .task) (now fwd)) (ruled rule (now fwd) (now spins) (now couplings) (now cuts)) (rule .task .seed) (now members) (now list) start ⌝ }
-    requires { ⌜ getD (now members) i 0 ≡ 1 ⌝ }
-    requires { ⌜ Kept (rule .task) (now spins) (now members) (now cols) ⌝ }
-    ensures { λ r. ⌜ Keeping (Visiting
-        (graphFor (rule .task) (now (fwd .entry)))
-        (ruled rule (now (fwd .entry)) (now (spins .entry)) (now (couplings .entry)) (now (cuts .entry)))
-        (rule .task .seed) i (now (members .entry)) (now (list .entry)) start (rule .task .d) (now (members .exit)) (now (list .exit)) r)
-        (rule .task) (now (spins .entry)) (now (members .exit)) (now (cols .exit)) ⌝ }
-{
-    let t = rule.task;
-    let own = cols[i];
-    let d = t.d;
-    let base = i * d;
-    let mut len = start;
-    let mut e = 0;
-    while e < d {
-        let to = wide(fwd[base + e]);
-        if members[to] != 1 {
-            let ahead = Bond(i, e);
-            len = meet(
-                rule,
-                spins,
-                members,
-                list,
-                cols,
-                len,
-                own,
-                to,
-                ahead,
-                couplings,
-                cuts,
-            );
-        }
-        let from = wide(bwd[base + e]);
-        if members[from] != 1 {
-            let back = Bond(from, e);
-            len = meet(
-                rule,
-                spins,
-                members,
-                list,
-                cols,
-                len,
-                own,
-                from,
-                back,
-                couplings,
-                cuts,
-            );
-        }
-        e += 1;
-    }
-    len
-}
-
-// The site to visit at the place head. Of the entries that the list started with each keeps its place; behind them the newest, at the place last, is
-// put there, so that the growth goes deep first.
-fn next(list: &mut [u32], start: usize, head: usize, last: usize) -> usize
-    requires { ⌜ Waiting head last (length (now list)) ⌝ }
-    ensures { λ r. ⌜ Next start head last (now (list .entry)) (now (list .exit)) r ⌝ }
-{
-    if head < start {
-        return wide(list[head]);
-    }
-    let newest = list[last];
-    list[last] = list[head];
-    list[head] = newest;
-    wide(newest)
-}
-
-// Grows the cluster on from the `start` sites of the list, until none waits. The number of its sites.
-fn spread(
-    rule: Rule,
-    spins: &[i8],
-    fwd: &[u32],
-    bwd: &[u32],
-    couplings: &[i32],
-    cuts: &[f32],
-    members: &mut [u8],
-    list: &mut [u32],
-    cols: &mut [u8],
-    start: usize,
-) -> usize
-    requires { ⌜ Grounds rule (now fwd) (now bwd) (now spins) (now couplings) (now cuts) ⌝ }
-    requires { ⌜ Growing
-        (graphFor (rule .task) (now fwd)) (ruled rule (now fwd) (now spins) (now couplings) (now cuts)) (rule .task .seed) (now members) (now list) start ⌝ }
-    requires { ⌜ Kept (rule .task) (now spins) (now members) (now cols) ⌝ }
-    ensures { λ r. ⌜ Keeping (Spreads
-        (graphFor (rule .task) (now (fwd .entry)))
-        (ruled rule (now (fwd .entry)) (now (spins .entry)) (now (couplings .entry)) (now (cuts .entry)))
-        (rule .task .seed) start (now (list .entry)) (now (members .exit)) (now (list .exit)) r)
-        (rule .task) (now (spins .entry)) (now (members .exit)) (now (cols .exit)) ⌝ }
-{
-    let mut len = start;
-    let mut head = 0;
-    while head < len {
-        let i = next(list, start, head, len - 1);
-        len = visit(
-            rule,
-            spins,
-            fwd,
-            bwd,
-            couplings,
-            cuts,
-            members,
-            list,
-            cols,
-            len,
-            i,
-        );
-        head += 1;
-    }
-    len
-}
-
-// How many sites of the list the bonds join to the seed, in CMR the blue ones; and how many members there are.
-struct Grown {
-    blue: usize,
-    len: usize,
-}
-
-// The cluster of the task's seed, whatever is pinned. In CMR it is the grey one: it grows on from every site of the blue one, which stands first in the
-// list.
-fn grow_cluster(
+// The members of the seed's cluster, and what the move answers: nothing of it is written but these. Beside the seed, and in gperm the reference, no site is
+// read that the cluster does not reach, nor its pin.
+pub fn find(
     t: Task,
     spins: &[i8],
     fwd: &[u32],
     bwd: &[u32],
+    pins: &[u8],
     couplings: &[i32],
     cuts: &[f32],
     members: &mut [u8],
     list: &mut [u32],
     cols: &mut [u8],
-) -> Grown
-    requires { ⌜ Seedable t (now fwd) (now bwd) (now spins) (now couplings) (now cuts) (length (now members)) (length (now list)) (length (now cols)) ⌝ }
-    ensures { λ r. ⌜ Keeping ((pins : List ℕ) → Grew
-        (callOf t (now (fwd .entry)) (now (bwd .entry)) pins (now (couplings .entry)) (now (cuts .entry))) (now (spins .entry))
-        (now (members .exit)) (now (list .exit)) (r .blue) (r .len))
+) -> Found
+    requires { ⌜ Findable
+        t (now fwd) (now bwd) (now pins) (now spins) (now couplings) (now cuts) (length (now members)) (length (now list)) (length (now cols)) ⌝ }
+    ensures { λ r. ⌜ Keeping (Finds
+        (callOf t (now (fwd .entry)) (now (bwd .entry)) (now (pins .entry)) (now (couplings .entry)) (now (cuts .entry))) (now (spins .entry))
+        (now (members .exit)) (now (list .exit)) (r .answer) (r .blue) (r .len))
         t (now (spins .entry)) (now (members .exit)) (now (cols .exit)) ⌝ }
 {
-    let seed = t.seed;
-    lemmas::bytes::clear(members);
-    members[seed] = 1;
-    list[0] = seed as u32;
-    let group = t.group;
-    cols[seed] = columns::column_at(spins, t.n, group, seed);
-    let rule = prepare(t, false, spins);
-    let blue = spread(
-        rule,
-        spins,
-        fwd,
-        bwd,
-        couplings,
-        cuts,
-        members,
-        list,
-        cols,
-        1,
-    );
     let mode = t.mode;
-    if mode.is_cmr() {
-        let both = prepare(t, true, spins);
-        let len = spread(
-            both,
-            spins,
-            fwd,
-            bwd,
-            couplings,
-            cuts,
-            members,
-            list,
-            cols,
-            blue,
-        );
-        return Grown {
-            blue: blue,
-            len: len,
+    let group = t.group;
+    if !column_rules::acts_at(mode, t.n, spins, group, t.reference, t.seed) {
+        clear(members);
+        return Found {
+            answer: Answer::Idle,
+            blue: 0,
+            len: 0,
         };
     }
-    Grown {
-        blue: blue,
-        len: blue,
+    let grown = grow_cluster(t, spins, fwd, bwd, couplings, cuts, members, list, cols);
+    if some_pinned(pins, list, 0, grown.blue) {
+        return Found {
+            answer: Answer::Held,
+            blue: grown.blue,
+            len: grown.len,
+        };
+    }
+    Found {
+        answer: Answer::Moved,
+        blue: grown.blue,
+        len: grown.len,
     }
 }
 
@@ -302,29 +103,26 @@ pub fn run_grow(
         (keepsBy (t .keeps) (t .form)) (latticeOf (t .n) (t .d) (t .s) (now (fwd .entry)) (now (bwd .entry)) (now (couplings .entry)))
         (now (spins .entry)) (now (totals .entry)) (now (spins .exit)) (now (totals .exit)) ⌝ }
 {
-    let mode = t.mode;
-    let group = t.group;
-    if !column_rules::acts_at(mode, t.n, spins, group, t.reference, t.seed) {
-        clear(members);
-        return Answer::Idle;
-    }
     let mut list = [0u32; 4096];
     let mut cols = [0u8; 4096];
-    let grown = grow_cluster(
+    let found = find(
         t,
         spins,
         fwd,
         bwd,
+        pins,
         couplings,
         cuts,
         members,
         &mut list,
         &mut cols,
     );
-    if some_pinned(pins, &list, 0, grown.blue) {
-        return Answer::Held;
-    }
-    turn_free(
+    let answer = found.answer;
+    let Answer::Moved = answer else {
+        return answer;
+    };
+    let mut news = [0u8; 4096];
+    choose_cluster(
         t,
         spins,
         pins,
@@ -332,24 +130,22 @@ pub fn run_grow(
         greys,
         &list,
         &cols,
-        grown.blue,
-        grown.len,
+        found.blue,
+        found.len,
+        &mut news,
     );
-    let keeps = t.keeps;
-    let form = t.form;
-    if keeps.totals(form) {
-        keep_totals(
-            t,
-            spins,
-            totals,
-            fwd,
-            bwd,
-            couplings,
-            members,
-            &list,
-            grown.len,
-            &mut cols,
-        );
-    }
+    write_cluster(
+        t,
+        spins,
+        totals,
+        fwd,
+        bwd,
+        couplings,
+        members,
+        &list,
+        found.len,
+        &mut cols,
+        &mut news,
+    );
     Answer::Moved
 }

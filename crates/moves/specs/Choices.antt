@@ -6,16 +6,13 @@ use mathlib.Core.List.{List}
 use native.Mathlib.Nat.{div-add-mod', mod-lt, div-lt-iff-lt-mul}
 use lib.ListN.{length, getD}
 use lib.IntN.{ℤ}
-use Rattle.paper.specs.Panel.Input.{Call, Choices, Pattern, size, graph}
+use Rattle.paper.specs.Panel.Input.{Call, Choices, Pattern, size}
 use Rattle.paper.specs.Panel.Takes.{moves, entries, entry, permsBy}
 use Rattle.paper.specs.Site.Acting.{acts}
-use Rattle.paper.specs.Site.Bonds.{holds}
-use Rattle.paper.specs.Component.Labels.{Labels}
 use Rattle.paper.specs.Component.Sizes.{labelOf}
 use Rattle.paper.specs.Component.Marks.{Flags}
 use Rattle.paper.specs.Move.Moving.{reached, reachedBy, held}
 use Rattle.paper.specs.Refusal.Rules.{Permutes}
-use Rattle.laws.specs.Unique.{label-lt}
 use Rattle.laws.specs.Entries.{entry-lt}
 use Rattle.columns.specs.Column.{Columns, column-lt}
 use Rattle.choose.specs.Chosen.{reachedAt}
@@ -32,11 +29,11 @@ places-of rows m perms some long each x h =
 
 -- the permutation of every label
 pub rows-of :
-    (c : Call) (p : Choices) (xs : List ℤ) (l : List ℕ) {found : ℕ} → moves (c .form) ≡ true → Labels (graph c) (holds c xs) l found
+    (c : Call) (p : Choices) (l : List ℕ) → moves (c .form) ≡ true → ((i : ℕ) → i < c .lattice .n → getD l i 0 < c .lattice .n)
     → (permsBy (c .mode) (c .form) ≡ true → (r : ℕ) → r < entries (c .form) (c .lattice .n) → Permutes (size c) (λ k. getD (p .choices) (r * size c + k) 0))
     → Rows c p l
-rows-of c p xs l m h each e i hi =
-    each (rw (m, e) refl) (entry (c .form) (labelOf l i)) (entry-lt (c .form) (c .lattice .n) (labelOf l i) m (label-lt (graph c) (holds c xs) l h i hi))
+rows-of c p l m below each e i hi =
+    each (rw (m, e) refl) (entry (c .form) (labelOf l i)) (entry-lt (c .form) (c .lattice .n) (labelOf l i) m (below i hi))
 
 -- the sites that the choosing functions reach are the call's
 pub reached-is :

@@ -1,25 +1,21 @@
 -- The new columns that the choosing functions leave are those of the components' choices.
 use Prim.Native.Nat.{ℕ, _^_, _<_}
-use mathlib.Core.Path.{_≡_, refl, sym, _∙_, ap, subst}
+use mathlib.Core.Path.{_≡_, refl, _∙_, ap, subst}
 use mathlib.Core.Bool.{Bool, true, false, cond, _&&_}
 use mathlib.Core.List.{List}
-use native.Mathlib.Omega.{arith}
-use borrow.Author.Tests.{ne-eqb}
-use lib.Dec.{eqb}
 use lib.ListN.{length, getD}
-use Rattle.paper.specs.declared.Form.{Form}
 use Rattle.paper.specs.declared.Task.{Task}
-use Rattle.paper.specs.Panel.Takes.{isPerm, isCmr, oneCluster}
-use Rattle.paper.specs.Component.Sizes.{labelOf, sizeOf}
+use Rattle.paper.specs.Panel.Takes.{isPerm, isCmr}
+use Rattle.paper.specs.Component.Sizes.{labelOf}
 use Rattle.paper.specs.Component.Marks.{Flags}
-use Rattle.paper.specs.Move.Moving.{flipBy, greyAt, hasOne}
+use Rattle.paper.specs.Move.Moving.{flipBy, greyAt}
 use Rattle.columns.specs.Column.{shown, columnOf, flipped}
 use Rattle.columns.specs.Gauge.{gaugeOf}
 use Rattle.column_rules.specs.Tables.{Table}
-use Rattle.choose.specs.Chosen.{Becomes, isOne, has-itself, Holdable, heldBack, Freed, freed, reachedAt, flippedAt, permutedAt, greyed, greyedAt}
+use Rattle.choose.specs.Chosen.{Becomes, reachedAt, flippedAt, permutedAt, greyed, greyedAt}
 use Rattle.column_rules.specs.Sight.{flag-at}
 use Rattle.column_rules.specs.Acted.{choiceColumn, flip-choice, perm-choice, cmr-narrow}
-use Rattle.moves.specs.Steps.{SeedAsks, ChooseAsks, chosenAt, finalAt}
+use Rattle.moves.specs.Steps.{chosenAt, finalAt}
 
 -- ---- `choose_columns`
 module _
@@ -85,54 +81,3 @@ module _ (t : Task) (pins acts labels choices : List ℕ) {cols mid : List ℕ} 
           w .at i (rw (b .long) l)
           ∙ (ap (λ (r : Bool). cond r (greyed (greyAt (t .form) greys (labelOf greyLabels i)) (getD mid i 0)) (getD mid i 0)) (flag-at _ _ reached marks i l)
           ∙ rw (e, b .at i l) refl)
-
--- ---- whether the seed's component is held: by its size, which is then 0
-none-left : (held : Bool) (size : ℕ) → 0 < size → eqb (cond held 0 size) 0 ≡ held
-none-left true size h = refl
-none-left false size h = ne-eqb size 0 (λ q. omega arith)
-
-held-by-size :
-    (form : Form) (seed : ℕ) {pins labels tally : List ℕ} → Freed pins labels tally → (oneCluster form ≡ true → SeedAsks seed labels tally)
-    → (oneCluster form && eqb (getD tally (labelOf labels seed) 0) 0) ≡ (oneCluster form && hasOne (isOne pins) labels (labelOf labels seed))
-held-by-size form seed {pins} {labels} {tally} f asks = go (oneCluster form) refl
-  where
-    go :
-        (one : Bool) → oneCluster form ≡ one
-        → (one && eqb (getD tally (labelOf labels seed) 0) 0) ≡ (one && hasOne (isOne pins) labels (labelOf labels seed))
-    go true q =
-        let a = asks q in
-        rw (f .each (labelOf labels seed) (omega (arith, a .below, f .long)))
-        (none-left (hasOne (isOne pins) labels (labelOf labels seed)) (sizeOf labels (labelOf labels seed)) (has-itself labels seed (a .site)))
-    go false q = refl
-
--- ---- the first `hold_back` of `choose_task`: what it asks, and what the sizes that it leaves tell
-module _
-    {t : Task} {fwd pins choices greys flags grey labels tally reached cols greyLabels greyFound : List ℕ}
-    (p : ChooseAsks t fwd pins choices greys flags grey labels tally reached cols greyLabels greyFound)
-  where
-    pub holdable : Holdable pins labels tally
-    holdable = record {
-      labelled = p .choosable .labels-long ∙ same;
-      tallied = p .tallied .long ∙ (p .choosable .labels-long ∙ same);
-      below = λ i h. subst (λ (z : ℕ). getD labels i 0 < z) same (p .choosable .below i (subst (λ (z : ℕ). i < z) (sym same) h));
-    }
-      where
-        same : length cols ≡ length pins
-        same = p .cols-long ∙ sym (p .pins-long)
-
-    module _ {new : List ℕ} (b : Becomes (heldBack pins labels tally) tally new) where
-      pub free-sizes : Freed pins labels new
-      free-sizes = freed {pins = pins} (p .tallied) b
-
-      pub seed-asks : oneCluster (t .form) ≡ true → SeedAsks (t .seed) labels new
-      seed-asks e =
-          let h = p .choosable .seeded e in
-          record {
-            site = omega (arith, h, p .choosable .labels-long);
-            below = omega (arith, p .choosable .below (t .seed) h, p .choosable .labels-long, p .tallied .long, b .long);
-          }
-
-      pub held-told :
-          (oneCluster (t .form) && eqb (getD new (labelOf labels (t .seed)) 0) 0)
-          ≡ (oneCluster (t .form) && hasOne (isOne pins) labels (labelOf labels (t .seed)))
-      held-told = held-by-size (t .form) (t .seed) free-sizes seed-asks

@@ -19,7 +19,7 @@ use Rattle.paper.specs.Component.Marks.{Flags}
 use Rattle.paper.specs.Move.Moving.{flipSome, greyBit, greyAt, reached, reachedBy, held, after, final, Moves}
 use Rattle.paper.specs.Refusal.Rules.{Spin}
 use Rattle.laws.specs.Patterns.{flip-spin}
-use Rattle.columns.specs.Column.{shown, columnOf, shown-column, column-ext, Columns}
+use Rattle.columns.specs.Column.{shown, columnOf, shown-column, column-ext, Columns, Spinning}
 use Rattle.columns.specs.Gauge.{gaugeOf, gauge-is}
 use Rattle.columns.specs.Laws.{columns-shown}
 use Rattle.choose.specs.Chosen.{Becomes, greyed}
@@ -63,25 +63,8 @@ module _
       where
         go : (t : Bool) → Spin (cond t (flipSome (greyBit (greyAt (c .form) (p .greys) (labelOf g i))) (after c p xs l i) k) (after c p xs l i k))
         go true =
-            flip-spin (greyBit (greyAt (c .form) (p .greys) (labelOf g i)) k) (after c p xs l i k) (after-spin c p xs l r reference rows i hi k hk)
-        go false = after-spin c p xs l r reference rows i hi k hk
-
-    -- the column of the site i after the first choice, and its grey number
-    abbrev mid : ℕ → ℕ
-    mid i = columnOf (size c) (after c p xs l i)
-
-    abbrev greyOf : ℕ → ℕ
-    greyOf i = greyAt (c .form) (p .greys) (labelOf g i)
-
-    -- a grey number on the column of the pattern after the blue flip
-    grey-column :
-        isCmr (c .mode) ≡ true → (x i : ℕ) → i < c .lattice .n → greyed x (mid i) ≡ columnOf (size c) (flipSome (greyBit x) (after c p xs l i))
-    grey-column e x i hi =
-        ap (λ (m : ℕ). columnOf m (flipSome (greyBit x) (shown (mid i)))) (sym (r .two e))
-        ∙ column-ext (size c) _ _
-        (λ k hk.
-        ap (λ (z : ℤ). cond (greyBit x k) (negℤ z) z)
-        (shown-column (size c) (after c p xs l i) k hk (after-spin c p xs l r reference rows i hi k hk)))
+            flip-spin (greyBit (greyAt (c .form) (p .greys) (labelOf g i)) k) (after c p xs l i k) (after-spin c p xs l (r .spins) reference rows i hi k hk)
+        go false = after-spin c p xs l (r .spins) reference rows i hi k hk
 
     -- rows written from columns of spins are those spins
     pub spins-back :
@@ -90,9 +73,29 @@ module _
         → (i k : ℕ) → i < c .lattice .n → k < size c → pattern c ys i k ≡ final c p xs l g i k
     spins-back cols ys h w i k hi hk = w i k hi hk ∙ columns-shown h i k hi hk (final-spin i k hi hk)
 
+-- from the spins alone: no neighbour table
+module _
+    (c : Call) (p : Choices) (xs : List ℤ) (l : List ℕ) (spins : Spinning (c .lattice .n) (c .group) xs) (two : isCmr (c .mode) ≡ true → size c ≡ 2)
+    (reference : isGperm (c .mode) ≡ true → c .reference < c .lattice .n) (rows : moves (c .form) ≡ true → Rows c p l)
+  where
+    -- the column of the site i after the first choice
+    abbrev mid : ℕ → ℕ
+    mid i = columnOf (size c) (after c p xs l i)
+
+    -- a grey number on the column of the pattern after the blue flip
+    grey-column :
+        isCmr (c .mode) ≡ true → (x i : ℕ) → i < c .lattice .n → greyed x (mid i) ≡ columnOf (size c) (flipSome (greyBit x) (after c p xs l i))
+    grey-column e x i hi =
+        ap (λ (m : ℕ). columnOf m (flipSome (greyBit x) (shown (mid i)))) (sym (two e))
+        ∙ column-ext (size c) _ _
+        (λ k hk.
+        ap (λ (z : ℤ). cond (greyBit x k) (negℤ z) z)
+        (shown-column (size c) (after c p xs l i) k hk (after-spin c p xs l spins reference rows i hi k hk)))
+
 module _
     (t : Task) (fwd bwd pins : List ℕ) (couplings : List ℤ) (cuts : List Float) (p : Choices) (xs : List ℤ) (l g : List ℕ)
-    (r : TestedFor (callOf t fwd bwd pins couplings cuts) xs) (reference : isGperm (t .mode) ≡ true → t .reference < t .n)
+    (spins : Spinning (t .n) (t .group) xs) (two : isCmr (t .mode) ≡ true → t .group .len ≡ 2)
+    (reference : isGperm (t .mode) ≡ true → t .reference < t .n)
     (rows : moves (t .form) ≡ true → Rows (callOf t fwd bwd pins couplings cuts) p l) {flags cols : List ℕ} (moving : moves (t .form) ≡ true)
     (acting : Flags (t .n) (acts (callOf t fwd bwd pins couplings cuts) xs) flags)
     (columns : Columns (t .n) (t .group .len) (pattern (callOf t fwd bwd pins couplings cuts) xs) cols)
@@ -118,7 +121,7 @@ module _
         ∙ (ap (λ (x : ℕ). cond (reached c xs l i) (to i y x) x) (columns .at i hi)
         ∙ (ap (λ (z : ℕ). cond (reached c xs l i) (to i z (columnOf m (pattern c xs i))) (columnOf m (pattern c xs i)))
         (gauge-is (t .mode) m (t .n) (t .reference) (pattern c xs) columns reference)
-        ∙ chosen-column c p xs l r reference rows i hi))
+        ∙ chosen-column c p xs l spins reference rows i hi))
 
     abbrev greyNumber : ℕ → ℕ
     greyNumber i = greyAt (t .form) (p .greys) (labelOf g i)
@@ -139,7 +142,7 @@ module _
             ≡ columnOf m (λ k. cond ((moves (t .form) && b) && u) (flipSome (greyBit (greyNumber i)) (after c p xs l i) k) (after c p xs l i k))
         go false q u = rw moving refl
         go true q false = rw moving refl
-        go true q true = rw moving (grey-column c p xs l g r reference rows q (greyNumber i) i hi)
+        go true q true = rw moving (grey-column c p xs l spins two reference rows q (greyNumber i) i hi)
 
     pub final-columns :
         {new : List ℕ}

@@ -4,11 +4,16 @@ pub mod Tested
 pub mod Looked
 pub mod Moved
 pub mod Steps
+pub mod Leaves
+pub mod Labelling
 pub mod Held
+pub mod Freeing
+pub mod Labelled
 pub mod Choosing
 pub mod Choices
 pub mod Finish
+pub mod Given
 pub mod Rewritten
 pub mod Answered
-pub mod Leaves
+pub mod Done
 pub mod Determined

@@ -1,7 +1,7 @@
--- What the steps of a task on columns ask and what they leave: hold, label, choose, settle.
+-- What the parts of a task on columns ask and what they leave: hold, label, choose.
 use Prim.Native.Nat.{ℕ, _+_, _*_, _^_, _≤_, _<_}
 use mathlib.Core.Path.{_≡_}
-use mathlib.Core.Bool.{Bool, true, false, cond, _&&_}
+use mathlib.Core.Bool.{Bool, true, cond, _&&_}
 use mathlib.Core.List.{List}
 use lib.ListN.{length, getD}
 use lib.IntN.{ℤ}
@@ -10,8 +10,6 @@ use Rattle.lemmas.specs.Tells.{Tells}
 use Rattle.paper.specs.declared.Task.{Task}
 use Rattle.paper.specs.declared.Mode.{Mode}
 use Rattle.paper.specs.declared.Sampler.{Sampler}
-use Rattle.paper.specs.declared.Answer.{Answer}
-use Rattle.paper.specs.declared.Answer.the-variants.{Held, Moved}
 use Rattle.paper.specs.Panel.Input.{Call, pattern, patternOf, graph, size}
 use Rattle.paper.specs.Panel.Made.{callOf}
 use Rattle.paper.specs.Panel.Takes.{isPerm, isGperm, isCmr, isDrawn, oneCluster, moves, entries, flipsBy}
@@ -19,14 +17,13 @@ use Rattle.paper.specs.Site.Acting.{acts, SomeActs}
 use Rattle.paper.specs.Site.Bonds.{samplerOf, holds, holdsGrey}
 use Rattle.paper.specs.Component.Labels.{Numbered}
 use Rattle.paper.specs.Component.Sizes.{labelOf, Sized, Counted, Largest}
-use Rattle.paper.specs.Component.Marks.{Flags, Marks, marked}
-use Rattle.paper.specs.Move.Moving.{greyAt, hasOne}
+use Rattle.paper.specs.Component.Marks.{Flags, Marks}
+use Rattle.paper.specs.Move.Moving.{greyAt}
 use Rattle.columns.specs.Column.{Columns}
 use Rattle.columns.specs.Gauge.{gaugeOf}
 use Rattle.bonds.specs.Table as table
 use Rattle.bonds.specs.Table.{Coupled, ActiveIn, bothActing, jorgAt, blueAt}
-use Rattle.label.specs.Contract.{graphOf}
-use Rattle.choose.specs.Chosen.{Becomes, isOne, Freed, reachedAt, greyed}
+use Rattle.choose.specs.Chosen.{Becomes, Freed, reachedAt, greyed}
 use Rattle.column_rules.specs.Acted.{choiceColumn}
 use Rattle.moves.specs.Tested.{Tested}
 
@@ -96,6 +93,11 @@ LabelsFor t fwd couplings cuts cols flags grey tally labels counts sizes found r
     (bwd pins : List ℕ) (xs : List ℤ) → Tested (t .mode) (t .n) (t .d) fwd (t .group) xs → ColumnsOf t xs cols
     → LabelLeaves (callOf t fwd bwd pins couplings cuts) xs cols flags grey tally labels counts sizes found r
 
+-- the seed has a label, and that a size
+pub record SeedAsks (seed : ℕ) (labels tally : List ℕ) : Type 0 where
+  pub site : seed < length labels
+  pub below : getD labels seed 0 < length tally
+
 -- ---- choose: the new columns. Of the labels it needs a key for each site, below n, and how many sites have it
 pub record Choosable (t : Task) (flags labels choices reached cols : List ℕ) : Type 0 where
   pub few : length cols ≤ 4096
@@ -113,16 +115,13 @@ pub record Choosable (t : Task) (flags labels choices reached cols : List ℕ) :
   pub places : isPerm (t .mode) ≡ true → (x : ℕ) → x < length choices → getD choices x 0 < t .group .len
   pub narrow : (i : ℕ) → i < length cols → getD cols i 0 < 2 ^ t .group .len
 
--- what CMR's grey half is lent
-pub record Greyable (t : Task) (fwd greys grey greyLabels greyFound : List ℕ) : Type 0 where
-  pub d-high : t .d ≤ 4
-  pub fwd-long : length fwd ≡ t .n * t .d
-  pub ahead-lt : (i e : ℕ) → i < t .n → e < t .d → getD fwd (i * t .d + e) 0 < t .n
-  pub grey-long : length grey ≡ t .n * t .d
-  pub greys-long : length greys ≡ entries (t .form) (t .n)
+-- what CMR's grey half is lent: keys of their own, with sizes from which the same pins' components were taken
+pub record Greyable (t : Task) (pins greys greyLabels greyTally cols : List ℕ) : Type 0 where
+  pub greys-long : length greys ≡ entries (t .form) (length cols)
   pub small : (x : ℕ) → x < length greys → getD greys x 0 ≤ 3
-  pub labels-long : length greyLabels ≡ t .n
-  pub found-long : length greyFound ≡ 1
+  pub labels-long : length greyLabels ≡ length cols
+  pub below : (i : ℕ) → i < length cols → getD greyLabels i 0 < length cols
+  pub tallied : Freed pins greyLabels greyTally
   pub two : t .group .len ≡ 2
 
 -- with sizes from which the held components were taken
@@ -131,17 +130,11 @@ pub record ColumnsAsks (t : Task) (flags labels tally choices reached cols : Lis
   pub pins : List ℕ
   pub tallied : Freed pins labels tally
 
--- the seed has a label, and that a size
-pub record SeedAsks (seed : ℕ) (labels tally : List ℕ) : Type 0 where
-  pub site : seed < length labels
-  pub below : getD labels seed 0 < length tally
-
-pub record ChooseAsks (t : Task) (fwd pins choices greys flags grey labels tally reached cols greyLabels greyFound : List ℕ) : Type 0 where
+pub record ChooseAsks (t : Task) (choices greys flags labels tally greyLabels greyTally reached cols : List ℕ) : Type 0 where
   pub choosable : Choosable t flags labels choices reached cols
-  pub tallied : Sized labels tally
-  pub cols-long : length cols ≡ t .n
-  pub pins-long : length pins ≡ t .n
-  pub greyable : isCmr (t .mode) ≡ true → Greyable t fwd greys grey greyLabels greyFound
+  pub pins : List ℕ
+  pub tallied : Freed pins labels tally
+  pub greyable : isCmr (t .mode) ≡ true → Greyable t pins greys greyLabels greyTally cols
 
 -- the new column of the site i from the choice of its component
 abbrev pub chosenAt : Task → List ℕ → List ℕ → List ℕ → List ℕ → List ℕ → ℕ → ℕ
@@ -162,16 +155,8 @@ finalAt t pins flags labels greyLabels choices greys cols i =
     (greyed (greyAt (t .form) greys (labelOf greyLabels i)) (chosenAt t pins flags labels choices cols i))
     (chosenAt t pins flags labels choices cols i)
 
--- r tells whether the one component that the form moves is held
-pub record ChooseLeaves (t : Task) (fwd pins choices greys flags grey labels cols lent lentFound new greyLabels greyFound : List ℕ) (r : Bool) : Type 0 where
-  pub columns : Becomes (finalAt t pins flags labels greyLabels choices greys cols) cols new
-  pub held : r ≡ (oneCluster (t .form) && hasOne (isOne pins) labels (labelOf labels (t .seed)))
-  pub grey-labels : isCmr (t .mode) ≡ true → Numbered (graphOf (t .n) (t .d) fwd) (marked (t .d) grey) greyLabels greyFound
-  pub grey-kept : isCmr (t .mode) ≡ false → greyLabels ≡ lent
-  pub grey-found-kept : isCmr (t .mode) ≡ false → greyFound ≡ lentFound
-
--- ---- settle: the chosen columns stand, unless the seed's component is held: then all are what they were
-pub record Settled (held : Bool) (cols chosen : List ℕ) (r : Answer) (new : List ℕ) : Type 0 where
-  pub answer : r ≡ cond held Held Moved
-  pub moved : held ≡ false → new ≡ chosen
-  pub kept : held ≡ true → new ≡ cols
+-- for the pins by which the components were taken from both lists of sizes
+abbrev pub ChooseLeaves : Task → List ℕ → List ℕ → List ℕ → List ℕ → List ℕ → List ℕ → List ℕ → List ℕ → List ℕ → Type 0
+ChooseLeaves t choices greys flags labels tally greyLabels greyTally cols new =
+    (pins : List ℕ) → Freed pins labels tally → (isCmr (t .mode) ≡ true → Freed pins greyLabels greyTally)
+    → Becomes (finalAt t pins flags labels greyLabels choices greys cols) cols new

@@ -6,26 +6,10 @@ use mathlib.Core.List.{List}
 use lib.IntN.{ℤ}
 use Rattle.paper.specs.declared.Answer.{Answer}
 use Rattle.paper.specs.declared.Answer.the-variants.{Refused, Idle, Held, Moved}
-use Rattle.paper.specs.declared.Task.{Task}
 use Rattle.paper.specs.Panel.Input.{Call, Choices, Buffers, size}
 use Rattle.paper.specs.Panel.Made.{buffersOf}
 use Rattle.paper.specs.Answer.Totals.{KeepAnswers}
-use Rattle.packing.specs.Bytes.{rowsOf, Narrow, ownGroup}
-
--- the task on rows of its own: as many systems as members, in their order. The systems that it names are not looked at
-abbrev pub ownTask : Task → Task
-ownTask t = record {
-  mode = t .mode;
-  form = t .form;
-  keeps = t .keeps;
-  n = t .n;
-  d = t .d;
-  s = t .group .len;
-  group = ownGroup (t .group .len);
-  temperature = t .temperature;
-  reference = t .reference;
-  seed = t .seed;
-}
+use Rattle.packing.specs.Bytes.{rowsOf, Narrow}
 
 -- the buffers beside the spins
 abbrev pub lentOf : List ℕ → List ℕ → List ℕ → List ℕ → List ℕ → List ℕ → List ℕ → List ℤ → Buffers

@@ -11,7 +11,8 @@ use paper::Mode;
 use paper::Task;
 ghost use Rattle.paper.specs.Panel.Made.{callOf, choicesOf};
 ghost use Rattle.paper.specs.Panel.Takes.{keepsBy};
-ghost use Rattle.packed.specs.Packed.{ownTask, lentOf, PackedAnswers};
+ghost use Rattle.packing.specs.Bytes.{ownTask};
+ghost use Rattle.packed.specs.Packed.{lentOf, PackedAnswers};
 
 // One move or observation in any mode and form, on the bytes of the group. Of the group only its size is looked at, and not the number of systems.
 pub fn packed_step(

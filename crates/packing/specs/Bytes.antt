@@ -7,6 +7,7 @@ use lib.ListN.{length, getD}
 use lib.IntN.{ℤ, pos}
 use Rattle.lemmas.specs.Cells.{table, tabulate}
 use Rattle.paper.specs.declared.Group.{Group}
+use Rattle.paper.specs.declared.Task.{Task}
 use Rattle.paper.specs.Panel.Input.{spin}
 use Rattle.columns.specs.Column.{shown, columnOf}
 
@@ -29,3 +30,18 @@ Narrow m xs = (i : ℕ) → i < length xs → getD xs i 0 < 2 ^ m
 -- the group of the systems 0 to m - 1: its member k has row k
 abbrev pub ownGroup : ℕ → Group
 ownGroup m = record { len = m; systems = 0 ∷ 1 ∷ 2 ∷ 3 ∷ 4 ∷ 5 ∷ 6 ∷ 7 ∷ [] }
+
+-- the task on rows of its own: as many systems as members, in their order. The systems that it names are not looked at
+abbrev pub ownTask : Task → Task
+ownTask t = record {
+  mode = t .mode;
+  form = t .form;
+  keeps = t .keeps;
+  n = t .n;
+  d = t .d;
+  s = t .group .len;
+  group = ownGroup (t .group .len);
+  temperature = t .temperature;
+  reference = t .reference;
+  seed = t .seed;
+}

@@ -12,7 +12,7 @@ use Rattle.paper.specs.declared.Task.{Task}
 use Rattle.paper.specs.declared.Lengths.{Lengths}
 use Rattle.paper.specs.Panel.Input.{patternOf}
 use Rattle.paper.specs.Panel.Made.{callOf, choicesOf}
-use Rattle.paper.specs.Refusal.Rules.{Seeded, choiceRules}
+use Rattle.paper.specs.Refusal.Rules.{Chosen, Seeded, choiceRules}
 use Rattle.paper.specs.Refusal.Verdict.{Verdict, verdict-unique}
 use Rattle.columns.specs.Column.{Columns}
 use Rattle.tests.specs.Lengths.{FitsEach}
@@ -39,6 +39,14 @@ pub test-panel-determined : (t : Task) (spins totals : List ℤ) (fwd bwd pins :
 test-panel-determined t spins totals fwd bwd pins couplings l = verdict-unique (panelRules t spins totals fwd bwd pins couplings l)
 
 -- at any one choice of what the tests do not look at
+pub chosen-ok-determined : (t : Task) (choices greys : List ℕ) (a b : Bool)
+    → EveryCut t (λ c. Tells a (Chosen c (choicesOf choices greys)))
+    → EveryCut t (λ c. Tells b (Chosen c (choicesOf choices greys)))
+    → a ≡ b
+chosen-ok-determined t choices greys a b p q =
+    tells-determined (Chosen (callOf t [] [] [] [] []) (choicesOf choices greys)) a b
+    (p [] (t .d) (t .s) (t .temperature) [] [] [] []) (q [] (t .d) (t .s) (t .temperature) [] [] [] [])
+
 pub test-chosen-determined : (t : Task) (cuts : List Float) (choices greys : List ℕ) (a b : ℕ)
     → EveryCall t cuts (λ c. Verdict (chosenRules c (choicesOf choices greys)) a)
     → EveryCall t cuts (λ c. Verdict (chosenRules c (choicesOf choices greys)) b)

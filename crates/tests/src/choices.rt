@@ -64,7 +64,7 @@ fn grey_fit(taken: bool, greys: &[u8]) -> bool
 }
 
 // Test 9: every entry of what is taken, used or not.
-fn chosen_ok(t: Task, choices: &[u8], greys: &[u8]) -> bool
+pub fn chosen_ok(t: Task, choices: &[u8], greys: &[u8]) -> bool
     requires { ⌜ Long t (now choices) (now greys) ⌝ }
     ensures { λ r. ⌜ EveryCut t (λ c. Tells r (Chosen c (choicesOf (now (choices .entry)) (now (greys .entry))))) ⌝ }
 {

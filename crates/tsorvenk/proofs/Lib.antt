@@ -7,3 +7,4 @@ mod Written
 mod Listed
 mod Numbered
 mod Checked
+mod Tasks

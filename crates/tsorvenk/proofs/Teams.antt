@@ -122,12 +122,12 @@ module _ (w : Sweep) (xs ys : List ℕ) where
 
 -- ---- an order that is too long is not read
 module _ (w : Sweep) (f : ℕ → ℕ) (order : List ℕ) where
-  take-all : (xs : List ℕ) → take (length xs) xs ≡ xs
+  pub take-all : (xs : List ℕ) → take (length xs) xs ≡ xs
   take-all [] = refl
   take-all (x ∷ xs) = ap (λ (ys : List ℕ). x ∷ ys) (take-all xs)
 
   -- such a sweep has at least two systems, and at most 64
-  none-fit : SweepRanged w → length (map f (take 0 order)) ≡ w .systems → ⊥
+  pub none-fit : SweepRanged w → length (map f (take 0 order)) ≡ w .systems → ⊥
   none-fit k e = omega (
     arith,
     e,
@@ -138,7 +138,7 @@ module _ (w : Sweep) (f : ℕ → ℕ) (order : List ℕ) where
     k .ranged .size-low,
   )
 
-  long-unfit : (leb (w .lattice .s) 64 && leb (length order) 64) ≡ false → SweepRanged w → length (map f order) ≡ w .systems → ⊥
+  pub long-unfit : (leb (w .lattice .s) 64 && leb (length order) 64) ≡ false → SweepRanged w → length (map f order) ≡ w .systems → ⊥
   long-unfit off k e =
       denied off (both (test-le (w .lattice .s) 64) (test-le (length order) 64) .says)
       (k .ranged .lattice .s-high, omega (arith, e, length-map order f, k .few, k .ranged .lattice .s-high))

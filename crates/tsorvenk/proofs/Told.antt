@@ -57,6 +57,11 @@ module _ {t : Lattice} {pins : List ℕ} {x : Float} {cuts : List Float} {q s : 
   pub same-call : m ≡ m′ → f ≡ f′ → g ≡ g′ → callBy t pins x cuts q s m f g ≡ callBy t pins x cuts q s m′ f′ g′
   same-call em ef eg = λ i. callBy t pins x cuts q s (em i) (ef i) (eg i)
 
+-- where the temperature is not taken it may be any
+module _ {t : Lattice} {pins : List ℕ} {x x′ : Float} {cuts : List Float} {q s : ℕ} {m m′ : Mode} {f f′ : Form} {g : Group} where
+  pub same-call-at : m ≡ m′ → f ≡ f′ → x ≡ x′ → callBy t pins x cuts q s m f g ≡ callBy t pins x′ cuts q s m′ f′ g
+  same-call-at em ef ex = λ i. callBy t pins (ex i) cuts q s (em i) (ef i) g
+
 -- and the choices of that mode
 pub same-choices :
     {m m′ : Mode} {choices greys : List ℕ} (flips perms : List ℕ) → choices ≡ takenOf m flips perms → m ≡ m′

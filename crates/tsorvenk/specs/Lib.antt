@@ -6,6 +6,7 @@ pub mod Checking
 pub mod Energy
 pub mod Label
 pub mod Sweep
+pub mod Tasks
 pub mod Frames
 pub mod Edges
 pub mod Listed
@@ -15,3 +16,4 @@ pub mod Isolated
 pub mod SweepIsolated
 pub mod Determined
 pub mod CheckDetermined
+pub mod TasksDetermined

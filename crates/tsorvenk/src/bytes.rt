@@ -15,9 +15,9 @@ use paper::Mode;
 use paper::Task;
 ghost use Rattle.paper.specs.Panel.Made.{callOf, choicesOf};
 ghost use Rattle.steps.specs.Rule.{taskOf};
-ghost use Rattle.packing.specs.Bytes.{ownGroup};
+ghost use Rattle.packing.specs.Bytes.{ownGroup, ownTask};
 ghost use Rattle.packing.specs.Answer.{PackAnswers, UnpackAnswers};
-ghost use Rattle.packed.specs.Packed.{ownTask, lentOf};
+ghost use Rattle.packed.specs.Packed.{lentOf};
 ghost use Rattle.tsorvenk.specs.Number.{modeOf, formOf, keepsOf, takenOf};
 ghost use Rattle.tsorvenk.specs.Packed.{PackedStepAnswers};
 

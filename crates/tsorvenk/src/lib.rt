@@ -6,7 +6,9 @@ mod framing;
 mod listing;
 mod numbering;
 mod owned;
+mod stepping;
 mod sweeping;
+mod testing;
 
 use coded::Coding;
 use label::Labelling;

@@ -1,81 +1,82 @@
--- The list in the making: no member is turned yet, and one member more.
+-- The list in the making: no column is chosen yet and no site written, and one more.
 use Prim.Native.Nat.{ℕ, _+_, _<_}
 use mathlib.Core.Path.{_≡_, refl, sym, _∙_, ap}
-use mathlib.Core.Logic.{_≢_}
 use mathlib.Core.List.{List}
 use native.Mathlib.Omega.{arith}
 use native.Mathlib.Decide.{ℕ-discrete}
 use lib.Dec.{ltb}
-use lib.ListN.{getD}
+use lib.ListN.{length, getD, set, length-set}
 use lib.IntN.{ℤ}
+use Rattle.lemmas.specs.Places.{Unplaced}
+use Rattle.lemmas.specs.Stores.{AfterSet, AfterSet.here, AfterSet.there, after-set, lt-of-ne}
+use Rattle.paper.specs.declared.Group.{Group}
 use Rattle.paper.specs.declared.Task.{Task}
-use Rattle.paper.specs.Panel.Input.{Pattern, member, patternOf}
-use Rattle.paper.specs.Refusal.Rules.{Spin}
-use Rattle.columns.specs.Column.{shown, shown-spin, columnOf}
-use Rattle.columns.specs.Gauge.{gaugeOf}
+use Rattle.paper.specs.Panel.Input.{member, patternOf}
+use Rattle.paper.specs.Refusal.Rules.{Distinct}
+use Rattle.columns.specs.Column.{shown}
 use Rattle.columns.specs.Rows.{SiteWritten}
 use Rattle.columns.specs.Laws.{other-sites, other-systems}
-use Rattle.turn.specs.Turned.{turnedTo, turnedColumn, Turnable, Turned}
-use Rattle.turn.specs.Laws.{turned-shown}
+use Rattle.turn.specs.Turned.{turnedColumn, ColumnsTurned, ListWritten}
 
-module _ (t : Task) (choices greys list : List ℕ) (blue : ℕ) (xs : List ℤ) where
-  abbrev site : ℕ → ℕ
-  site x = getD list x 0
+abbrev site : List ℕ → ℕ → ℕ
+site list x = getD list x 0
 
-  abbrev m : ℕ
-  m = t .group .len
+-- ---- columns
+module _ (t : Task) (gauge : ℕ) (choices greys list cols : List ℕ) (blue : ℕ) (news : List ℕ) where
+  pub none-chosen : ColumnsTurned t gauge choices greys list cols blue 0 news news
+  none-chosen = record { long = refl; listed = λ x h. absurd (omega arith); others = λ i o. refl }
 
-  abbrev at : List ℤ → ℕ → Pattern
-  at = patternOf (t .n) (t .group)
+  module _ {len x : ℕ} {was : List ℕ} (apart : Distinct len (site list)) (h : x < len) (w : ColumnsTurned t gauge choices greys list cols blue x news was)
+      {i new : ℕ} (room : i < length was) (is : i ≡ site list x) (e : new ≡ turnedColumn t gauge choices greys (ltb x blue) (getD cols i 0)) where
+    pub one-chosen : ColumnsTurned t gauge choices greys list cols blue (x + 1) news (set was i new)
+    one-chosen = record {
+      long = length-set was i new ∙ w .long;
+      listed = λ y l. listed y l (after-set was i new (site list y) room) (ℕ-discrete y x);
+      others = λ j o. other j o (after-set was i new j room);
+    }
+      where
+        listed :
+            (y : ℕ) → y < x + 1 → AfterSet was i new (site list y) → Dec (y ≡ x)
+            → getD (set was i new) (site list y) 0 ≡ turnedColumn t gauge choices greys (ltb y blue) (getD cols (site list y) 0)
+        listed y l (here q g) (yes p) =
+            let back = sym p in
+            let home = sym q in
+            g ∙ (e ∙ (λ j. turnedColumn t gauge choices greys (ltb (back j) blue) (getD cols (home j) 0)))
+        listed y l (there q g) (yes p) = absurd (q (ap (site list) p ∙ sym is))
+        listed y l (here q g) (no p) = absurd (p (apart y x (omega arith) h (q ∙ is)))
+        listed y l (there q g) (no p) = g ∙ w .listed y (lt-of-ne l p)
 
-  pub none-turned : Turned t choices greys list blue 0 xs xs
-  none-turned = record {
+        other : (j : ℕ) → Unplaced (x + 1) (site list) j → AfterSet was i new j → getD (set was i new) j 0 ≡ getD news j 0
+        other j o (here q g) = absurd (o x (omega arith) (q ∙ is))
+        other j o (there q g) = g ∙ w .others j (λ y l. o y (omega arith))
+
+-- ---- rows
+module _ (n : ℕ) (g : Group) (list news : List ℕ) (xs : List ℤ) where
+  pub none-written : ListWritten n g list 0 news xs xs
+  none-written = record {
     long = refl;
     listed = λ x k h l. absurd (omega arith);
-    spins = λ x k h l. absurd (omega arith);
     others = λ i s h o. refl;
     systems = λ i s h o. refl;
     empty = λ e. refl;
   }
 
-  module _ {cols : List ℕ} {len x : ℕ} {ys : List ℤ} (a : Turnable t xs choices greys list cols len) (h : x < len)
-      (was : Turned t choices greys list blue x xs ys) where
-    -- the sites before it on the list are others
-    before : (y : ℕ) → y < x → site x ≢ site y
-    before y l e = absurd (omega (arith, a .apart x y h (omega arith) e))
-
-    -- the member is turned
-    module _
-        {gauge new : ℕ} {zs : List ℤ} (seen : gauge ≡ gaugeOf (t .mode) m (columnOf m (at xs (t .reference))))
-        (e : new ≡ turnedColumn t gauge choices greys (ltb x blue) (columnOf m (at xs (site x)))) (w : SiteWritten (t .n) m (t .group) (site x) new ys zs)
+  -- what was written before at the same site has the same column
+  module _ {x : ℕ} {ys zs : List ℤ} (below : (y : ℕ) → y < x + 1 → site list y < n) (was : ListWritten n g list x news xs ys)
+      (w : SiteWritten n (g .len) g (site list x) (getD news (site list x) 0) ys zs) where
+    pub one-written : ListWritten n g list (x + 1) news xs zs
+    one-written = let last = below x (omega arith) in record {
+      long = w .long ∙ was .long;
+      listed = λ y k l h. listed y k l h (ℕ-discrete (site list y) (site list x));
+      others = λ i s l o. other-sites w last i s l (o x (omega arith)) ∙ was .others i s l (λ y h. o y (omega arith));
+      systems = λ i s l o. other-systems w last i s l o ∙ was .systems i s l o;
+      empty = λ z. absurd (omega (arith, last));
+    }
       where
-        here : (k : ℕ) → k < m → at zs (site x) k ≡ turnedTo t choices greys (at xs (t .reference)) (ltb x blue) (at xs (site x)) k
-        here k l =
-            w .group k l
-            ∙ (ap (λ (z : ℕ). shown z k) (e ∙ (λ i. turnedColumn t (seen i) choices greys (ltb x blue) (columnOf m (at xs (site x)))))
-            ∙ turned-shown t choices greys (a .chooses) (a .two) (at xs (t .reference)) (at xs (site x))
-            (λ q j g. a .panel .spins (t .reference) j (a .panel .reference q) g) (λ j g. a .panel .spins (site x) j (a .sites x h) g) (ltb x blue) k l)
-
-        pub one-turned : Turned t choices greys list blue (x + 1) xs zs
-        one-turned = record {
-          long = w .long ∙ was .long;
-          listed = λ y k l g. listed y k l g (ℕ-discrete y x);
-          spins = λ y k l g. spins y k l g (ℕ-discrete y x);
-          others = λ i s l o. other-sites w (a .sites x h) i s l (o x (omega arith)) ∙ was .others i s l (λ y g. o y (omega arith));
-          systems = λ i s l o. other-systems w (a .sites x h) i s l o ∙ was .systems i s l o;
-          empty = λ z. absurd (omega (arith, a .sites x h));
-        }
-          where
-            spins : (y k : ℕ) → y < x + 1 → k < m → Dec (y ≡ x) → Spin (at zs (site y) k)
-            spins y k l g (yes q) = rw (q, w .group k g) (shown-spin new k)
-            spins y k l g (no q) =
-                let b : y < x = omega arith in
-                rw (other-sites w (a .sites x h) (site y) (member (t .group) k) (a .sites y (omega arith)) (λ z. before y b (sym z))) (was .spins y k b g)
-
-            listed :
-                (y k : ℕ) → y < x + 1 → k < m → Dec (y ≡ x)
-                → at zs (site y) k ≡ turnedTo t choices greys (at xs (t .reference)) (ltb y blue) (at xs (site y)) k
-            listed y k l g (yes q) = rw q (here k g)
-            listed y k l g (no q) =
-                let b : y < x = omega arith in
-                other-sites w (a .sites x h) (site y) (member (t .group) k) (a .sites y (omega arith)) (λ z. before y b (sym z)) ∙ was .listed y k b g
+        listed :
+            (y k : ℕ) → y < x + 1 → k < g .len → Dec (site list y ≡ site list x)
+            → patternOf n g zs (site list y) k ≡ shown (getD news (site list y) 0) k
+        listed y k l h (yes q) = rw q (w .group k h)
+        listed y k l h (no q) =
+            other-sites w (below x (omega arith)) (site list y) (member g k) (below y l) q
+            ∙ was .listed y k (lt-of-ne l (λ e. q (ap (site list) e))) h

@@ -1,5 +1,6 @@
--- A member's new column shows its new pattern, and that pattern is the paper's, whatever the cluster's label.
-use Prim.Native.Nat.{ℕ, _*_, _/_, _<_}
+-- A member's new column shows its new pattern, and that pattern is the paper's, whatever the cluster's label. So a cluster whose new columns are written
+-- is turned.
+use Prim.Native.Nat.{ℕ, _*_, _/_, _≤_, _<_}
 use mathlib.Core.Path.{_≡_, refl, sym, _∙_, ap, subst}
 use mathlib.Core.Bool.{Bool, true, false, cond, _&&_}
 use mathlib.Core.List.{List}
@@ -11,17 +12,18 @@ use lib.Ieee.{Float}
 use Rattle.paper.specs.declared.Mode.{Mode}
 use Rattle.paper.specs.declared.Mode.the-variants.{Houd, Pair, Perm, Gperm, Jorg, Cmr}
 use Rattle.paper.specs.declared.Task.{Task}
-use Rattle.paper.specs.Panel.Input.{Pattern}
+use Rattle.paper.specs.Panel.Input.{Pattern, patternOf}
 use Rattle.paper.specs.Panel.Made.{callOf, choicesOf}
 use Rattle.paper.specs.Panel.Takes.{isPerm, isGperm, isCmr}
 use Rattle.paper.specs.Move.Moving.{partner, flipBy, permAt, flipSome, actBy, greyAt, greyBit}
 use Rattle.paper.specs.Refusal.Rules.{Permutes, When}
 use Rattle.laws.specs.Patterns.{Spinning, flip-spin}
-use Rattle.columns.specs.Column.{shown, columnOf, shown-column, column-ext}
+use Rattle.columns.specs.Column.{shown, columnOf, shown-column, shown-spin, column-lt, column-ext}
 use Rattle.columns.specs.Gauge.{gaugeOf}
 use Rattle.column_rules.specs.Acted.{acted, acted-spin}
 use Rattle.choose.specs.Chosen.{greyed}
 use Rattle.turn.specs.Turned.{bare, actedTo, turnedTo, actedColumn, turnedColumn, OneCluster, Chooses}
+use Rattle.turn.specs.Turned.{Choosable, Turnable, ColumnsTurned, ListWritten, Turned}
 
 -- ---- the entry of the one cluster
 module _ (t : Task) (choices : List ℕ) (one : OneCluster (t .form) choices) where
@@ -81,13 +83,75 @@ module _
         (column-ext 2 _ _ (λ k l. ap (λ (z : ℤ). cond (greyBit x k) (negℤ z) z) (shown-column m h k (rw e l) (s k (rw e l)))))
 
     -- a grey number, or none
-    grey-shown :
-        (q : Bool) (x : ℕ) (h : Pattern) → (q ≡ true → m ≡ 2) → Spinning m h → (k : ℕ) → k < m
-        → shown (cond q (greyed x (columnOf m h)) (columnOf m h)) k ≡ cond q (flipSome (greyBit x) h k) (h k)
-    grey-shown true x h e s k l = rw (greyed-column x h (e refl) s) (shown-column m (flipSome (greyBit x) h) k l (flip-spin (greyBit x k) (h k) (s k l)))
-    grey-shown false x h e s k l = shown-column m h k l (s k l)
+    grey-column : (q : Bool) (x : ℕ) (h : Pattern) → (q ≡ true → m ≡ 2) → Spinning m h
+        → cond q (greyed x (columnOf m h)) (columnOf m h) ≡ columnOf m (λ k. cond q (flipSome (greyBit x) h k) (h k))
+    grey-column true x h e s = greyed-column x h (e refl) s
+    grey-column false x h e s = refl
+
+    grey-spin : (q : Bool) (x : ℕ) (h : Pattern) → Spinning m h → Spinning m (λ k. cond q (flipSome (greyBit x) h k) (h k))
+    grey-spin true x h s k l = flip-spin (greyBit x k) (h k) (s k l)
+    grey-spin false x h s k l = s k l
+
+    pub turned-column : (b : Bool)
+        → turnedColumn t (gaugeOf (t .mode) m (columnOf m P)) choices greys b (columnOf m f) ≡ columnOf m (turnedTo t choices greys P b f)
+    turned-column b = rw (acted-column b) (grey-column (isCmr (t .mode)) (greyAt (t .form) greys 0) (actedTo t choices greys P b f) two (acted-spins b))
 
     pub turned-shown :
         (b : Bool) (k : ℕ) → k < m
         → shown (turnedColumn t (gaugeOf (t .mode) m (columnOf m P)) choices greys b (columnOf m f)) k ≡ turnedTo t choices greys P b f k
-    turned-shown b k h = rw (acted-column b) (grey-shown (isCmr (t .mode)) (greyAt (t .form) greys 0) (actedTo t choices greys P b f) two (acted-spins b) k h)
+    turned-shown b k h =
+        rw (turned-column b)
+        (shown-column m (turnedTo t choices greys P b f) k h
+        (grey-spin (isCmr (t .mode)) (greyAt (t .form) greys 0) (actedTo t choices greys P b f) (acted-spins b) k h))
+
+-- ---- chosen and written
+module _ {t : Task} {xs : List ℤ} {choices greys list cols : List ℕ} {len : ℕ} (a : Turnable t xs choices greys list cols len) where
+  abbrev site : ℕ → ℕ
+  site x = getD list x 0
+
+  abbrev at : ℕ → Pattern
+  at = patternOf (t .n) (t .group) xs
+
+  pub choosable : {area : ℕ} → t .n ≤ area → Choosable t choices greys list cols len area
+  choosable room = record {
+    chooses = a .chooses;
+    two = a .two;
+    lent = a .lent;
+    small = a .small;
+    long = a .long;
+    sites = a .sites;
+    apart = a .apart;
+    cols-room = a .room;
+    area-room = room;
+    narrow = λ x h. rw (a .kept x h) (column-lt (t .group .len) (at (site x)));
+  }
+
+  -- the rows that the columns were read from become those after the move
+  pub written-turned :
+      {gauge blue : ℕ} {news news′ : List ℕ} {ys : List ℤ} → gauge ≡ gaugeOf (t .mode) (t .group .len) (columnOf (t .group .len) (at (t .reference)))
+      → ColumnsTurned t gauge choices greys list cols blue len news news′ → ListWritten (t .n) (t .group) list len news′ xs ys
+      → Turned t choices greys list blue len xs ys
+  written-turned {gauge} {blue} {news} {news′} {ys} seen c w = record {
+    long = w .long;
+    listed = λ x k h l. w .listed x k h l ∙ (ap (λ (z : ℕ). shown z k) (column x h) ∙ shows x k h l);
+    spins = λ x k h l. rw (w .listed x k h l) (shown-spin (getD news′ (site x) 0) k);
+    others = w .others;
+    systems = w .systems;
+    empty = w .empty;
+  }
+    where
+      column :
+          (x : ℕ) → x < len
+          → getD news′ (site x) 0
+          ≡ turnedColumn t (gaugeOf (t .mode) (t .group .len) (columnOf (t .group .len) (at (t .reference)))) choices greys (ltb x blue)
+          (columnOf (t .group .len) (at (site x)))
+      column x h = c .listed x h ∙ (λ i. turnedColumn t (seen i) choices greys (ltb x blue) (a .kept x h i))
+
+      shows :
+          (x k : ℕ) → x < len → k < t .group .len
+          → shown (turnedColumn t (gaugeOf (t .mode) (t .group .len) (columnOf (t .group .len) (at (t .reference)))) choices greys (ltb x blue)
+          (columnOf (t .group .len) (at (site x)))) k
+          ≡ turnedTo t choices greys (at (t .reference)) (ltb x blue) (at (site x)) k
+      shows x k h l =
+          turned-shown t choices greys (a .chooses) (a .two) (at (t .reference)) (at (site x))
+          (λ q j g. a .panel .spins (t .reference) j (a .panel .reference q) g) (λ j g. a .panel .spins (site x) j (a .sites x h) g) (ltb x blue) k l

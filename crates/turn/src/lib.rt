@@ -1,12 +1,11 @@
-// The members of one cluster turned, from a list of their sites. No other site is read or written.
+// The members of one cluster turned, from a list of their sites: their new columns are chosen, and then written. No other site is read or written.
 use lemmas::wide;
-use paper::Form;
 use paper::Group;
-use paper::Mode;
 use paper::Task;
 ghost use mathlib.Core.Path.{_≡_};
 ghost use Rattle.column_rules.specs.Acted.{choiceColumn};
-ghost use Rattle.turn.specs.Turned.{Chooses, Turns, turnedColumn, Turnable, Turned};
+ghost use lib.ListN.{length};
+ghost use Rattle.turn.specs.Turned.{Chooses, Turns, turnedColumn, Choosable, ColumnsTurned, ListWritable, ListWritten};
 
 // What the cluster's choice makes of a member's column.
 fn act_column(t: Task, gauge: u8, choices: &[u8], column: u8) -> u8
@@ -22,7 +21,7 @@ fn act_column(t: Task, gauge: u8, choices: &[u8], column: u8) -> u8
 }
 
 // A member's new column: where it acts the cluster's choice is made, and in CMR then the grey flips.
-fn turned_column(t: Task, gauge: u8, choices: &[u8], greys: &[u8], acts: bool, column: u8) -> u8
+pub fn turned_column(t: Task, gauge: u8, choices: &[u8], greys: &[u8], acts: bool, column: u8) -> u8
     requires { ⌜ Turns t (now choices) (now greys) column ⌝ }
     ensures { λ r. ⌜ r ≡ turnedColumn t gauge (now (choices .entry)) (now (greys .entry)) acts column ⌝ }
 {
@@ -37,32 +36,42 @@ fn turned_column(t: Task, gauge: u8, choices: &[u8], greys: &[u8], acts: bool, c
     out
 }
 
-// The group's spins at the first `len` sites of the list become those after the move, from their columns before it, which are kept by site. The first
-// `blue` sites take the cluster's choice; in CMR all take the grey flips. gperm's gauge is read before any spin is written.
-pub fn turn(
+// The new columns of the first `len` sites of the list, from those that they have, both by site. The first `blue` sites take the cluster's choice; in CMR
+// all take the grey flips. gperm's gauge is that of the spins before the move: no spin is read.
+pub fn turn_columns(
     t: Task,
-    spins: &mut [i8],
+    gauge: u8,
     choices: &[u8],
     greys: &[u8],
     list: &[u32],
     cols: &[u8],
     blue: usize,
     len: usize,
+    news: &mut [u8],
 )
-    requires { ⌜ Turnable t (now spins) (now choices) (now greys) (now list) (now cols) len ⌝ }
-    ensures { λ _. ⌜ Turned t (now (choices .entry)) (now (greys .entry)) (now (list .entry)) blue len (now (spins .entry)) (now (spins .exit)) ⌝ }
+    requires { ⌜ Choosable t (now choices) (now greys) (now list) (now cols) len (length (now news)) ⌝ }
+    ensures { λ _. ⌜ ColumnsTurned
+        t gauge (now (choices .entry)) (now (greys .entry)) (now (list .entry)) (now (cols .entry)) blue len (now (news .entry)) (now (news .exit)) ⌝ }
 {
-    let mode = t.mode;
-    let group = t.group;
-    let n = t.n;
-    let gauge = columns::gauge_at(mode, spins, n, group, t.reference);
+    let mut x: usize = 0;
+    while x < len {
+        let i = wide(list[x]);
+        news[i] = turned_column(t, gauge, choices, greys, x < blue, cols[i]);
+        x += 1;
+    }
+}
+
+// Writes the group's spins at the first `len` sites of the list from their columns.
+pub fn write_listed(spins: &mut [i8], n: usize, group: Group, list: &[u32], len: usize, news: &[u8])
+    requires { ⌜ ListWritable n group (now spins) (now list) len (now news) ⌝ }
+    ensures { λ _. ⌜ ListWritten n group (now (list .entry)) len (now (news .entry)) (now (spins .entry)) (now (spins .exit)) ⌝ }
+{
     let size = group.len;
     let systems = group.systems;
     let mut x: usize = 0;
     while x < len {
         let i = wide(list[x]);
-        let new = turned_column(t, gauge, choices, greys, x < blue, cols[i]);
-        columns::write_site(spins, n, size, &systems, i, new);
+        columns::write_site(spins, n, size, &systems, i, news[i]);
         x += 1;
     }
 }

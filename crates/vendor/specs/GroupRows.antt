@@ -1,18 +1,16 @@
 -- One group's rows in its members' order, and the call that is asked of them: it sees what the move of the group saw.
-use Prim.Native.Nat.{ℕ, _+_, _*_, _/_, _%_, _≤_, _<_}
+use Prim.Native.Nat.{ℕ, _≤_, _<_}
 use mathlib.Core.Path.{_≡_, refl, _∙_}
 use mathlib.Core.Bool.{true}
 use mathlib.Core.List.{List, []}
-use lib.ListN.{length}
 use lib.IntN.{ℤ}
 use lib.Ieee.{Float}
 use Rattle.lemmas.specs.Bools.{never}
-use Rattle.lemmas.specs.Cells.{tabulate, tabulate-at, length-tabulate, row-of, column-of, cell-lt}
 use Rattle.paper.specs.declared.Mode.{Mode}
 use Rattle.paper.specs.declared.Mode.the-variants.{Houd, Pair, Perm, Gperm, Jorg, Cmr}
 use Rattle.paper.specs.declared.Form.the-variants.{Observe}
 use Rattle.paper.specs.declared.Task.{Task}
-use Rattle.paper.specs.Panel.Input.{Call, graph, spin, pattern, size, system, ahead}
+use Rattle.paper.specs.Panel.Input.{Call, graph, pattern, size, ahead}
 use Rattle.paper.specs.Panel.Made.{latticeOf}
 use Rattle.paper.specs.Panel.Takes.{isPerm, isGperm}
 use Rattle.paper.specs.Site.Acting.{acts}
@@ -21,24 +19,9 @@ use Rattle.paper.specs.Component.Labels.{Labels}
 use Rattle.laws.specs.Acting.{acts-same, gauge-ext}
 use Rattle.laws.specs.Unique.{HoldAlike, labels-ext}
 use Rattle.packing.specs.Bytes.{ownGroup}
+use Rattle.packing.specs.Gathered.{groupRows, group-at}
 use Rattle.packing.specs.Laws.{own-pattern}
 use Rattle.vendor.specs.Vendor.{askedBy}
-
--- the group's rows in its members' order
-unfoldable pub groupRows : Call → List ℤ → List ℤ
-groupRows c xs =
-    tabulate (size c * c .lattice .n) (λ a. spin (c .lattice .n) xs (system c (a / c .lattice .n)) (a % c .lattice .n))
-
-pub length-group : (c : Call) (xs : List ℤ) → length (groupRows c xs) ≡ size c * c .lattice .n
-unfolding groupRows
-length-group c xs = length-tabulate (size c * c .lattice .n) _
-
-pub group-at : (c : Call) (xs : List ℤ) (i k : ℕ) → i < c .lattice .n → k < size c → spin (c .lattice .n) (groupRows c xs) k i ≡ pattern c xs i k
-unfolding groupRows
-group-at c xs i k hi hk =
-    let n = c .lattice .n in
-    tabulate-at (size c * n) (λ a. spin n xs (system c (a / n)) (a % n)) (k * n + i) (cell-lt (size c) n k i hk hi)
-    ∙ rw (row-of n k i hi, column-of n k i hi) refl
 
 -- the vendor's task tells the move's mode, sizes and reference site
 pub record SameMove (t : Task) (c : Call) : Type 0 where

@@ -25,7 +25,8 @@ use Rattle.laws.specs.Entries.{spin-of}
 use Rattle.vendor.specs.declared.Checked.{Checked}
 use Rattle.vendor.specs.declared.Checked.the-variants.{Refused, No, Yes}
 use Rattle.vendor.specs.Vendor.{askedBy, turnedBy, Explained, Unchanged, Fair, Lent, vendorRules, number, VendorAnswers}
-use Rattle.vendor.specs.GroupRows.{groupRows, length-group, group-at, SameMove, alone, asked-alone, alone-pattern, alone-acts, alone-labels}
+use Rattle.packing.specs.Gathered.{groupRows, length-group, group-at}
+use Rattle.vendor.specs.GroupRows.{SameMove, alone, asked-alone, alone-pattern, alone-acts, alone-labels}
 use Rattle.vendor.specs.OwnFair.{own-valid, own-spins, own-fair}
 
 -- a permutation makes the same of patterns that agree below n

@@ -2,9 +2,11 @@
 //!
 //! A call borrows its buffers, so that what a side wrote, and what it left alone, is seen byte for byte.
 mod packed;
+mod steps;
 mod vendor;
 
 pub use packed::{Pack, PackedStep, Unpack};
+pub use steps::{TaskChoose, TaskLabel, TaskWrite};
 pub use vendor::{CheckVendor, VendorAnswer};
 
 #[derive(Clone, Copy, Debug, PartialEq, Eq)]

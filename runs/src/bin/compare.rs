@@ -1,4 +1,4 @@
-//! compare [cases] [seed] [vendor]: the model of document 01, the published Rust and the port on the same random calls.
+//! compare [cases] [seed] [vendor|steps]: the model of document 01, the published Rust and the port on the same random calls.
 //!
 //! `cases` is the number of random single moves, and of sweeps, for each mode and form (default 2000). Each is also
 //! damaged; damaged calls go to the model and the port alone, since the Rust checks nothing. Before them come all single
@@ -14,20 +14,31 @@
 //! that these bytes stand for. As many moves and sweeps more are made on a panel that another team's systems share, twice, with
 //! rubbish in every row and total that the call does not name, and held to the call of a team that has the panel for itself; then
 //! they are damaged. As many moves more of perm and gperm, in every form, are checked as a vendor's, each of them then changed in every
-//! way of `vendor::make` and damaged; the port is held to a model that tries every permutation. Last come days that keep totals, a
+//! way of `vendor::make` and damaged; the port is held to a model that tries every permutation. As many sweeps more, half of them among another
+//! team's systems, are made by their tasks' steps in shuffled orders and held to the sweep as one call; as many moves by their three steps, each held to the
+//! model's, also on lists and columns that the step before it did not leave; and all of them are damaged. Last come days that keep totals, a
 //! thousand calls each on one panel, some of them on bytes, with pins that change from call to call, every second one of two teams,
-//! whose calls are mixed; one day for every 50 cases. With the word `vendor` only a vendor's moves are checked.
+//! whose calls are mixed; one day for every 50 cases. With the word `vendor` only a vendor's moves are
+//! checked, with `steps` only steps.
 use calls::{Coding, Form, Mode, Port};
 use std::process::ExitCode;
 use tsorvenk_runs::compare::{self, keep, Found, Line};
 use tsorvenk_runs::make::{self, Size};
 use tsorvenk_runs::rand::Rand;
+use tsorvenk_runs::steps::{Task, Which};
 use tsorvenk_runs::{damage, days, exhaustive, port, teams, vendor};
+
+/// What is checked and nothing else.
+#[derive(Clone, Copy, PartialEq)]
+enum Alone {
+    Vendor,
+    Steps,
+}
 
 struct Run {
     cases: u64,
     seed: u64,
-    vendor_alone: bool,
+    alone: Option<Alone>,
     port: Option<Box<dyn Port>>,
     smallest: Option<Found>,
 }
@@ -183,6 +194,30 @@ impl Run {
         }
     }
 
+    /// A sweep by its tasks' steps, a move by its three, and then damaged.
+    fn steps(&mut self, mode: Mode, form: Form, number: u64, line: &mut Line) {
+        let mut rand = self.rand(mode, form, 7, number);
+        let size = Size::mixed(&mut rand);
+        let mut case = make::swept(&mut rand, mode, form, size);
+        if rand.once_in(2) {
+            case = teams::around_swept(&mut rand, &case).swept(&case);
+        }
+        let found = compare::swept_by_steps(&case, &mut rand, self.port.as_mut(), line);
+        self.note(found);
+        damage::swept(&mut rand, &mut case);
+        let found = compare::damaged_test(&case, self.port.as_mut(), line);
+        self.note(found);
+        let case = make::single(&mut rand, mode, form, size);
+        let found = compare::steps_of(&case, &mut rand, line);
+        self.note(found);
+        for which in Which::ALL {
+            let mut task = Task::of(&case).drawn(&mut rand);
+            damage::task(&mut rand, &mut task);
+            let found = compare::damaged_step(&task, which, line);
+            self.note(found);
+        }
+    }
+
     fn days(&mut self) -> days::Tally {
         let mut tally = days::Tally::default();
         for number in 0..self.cases.div_ceil(50) {
@@ -195,10 +230,17 @@ impl Run {
 
     fn mode_and_form(&mut self, mode: Mode, form: Form) -> Line {
         let mut line = Line::default();
-        for number in (0..self.cases).filter(|_| mode.permutes()) {
-            self.vendor(mode, form, number, &mut line);
+        let with = |what: Alone| self.alone.is_none_or(|alone| alone == what);
+        let (vendor, steps) = (mode.permutes() && with(Alone::Vendor), with(Alone::Steps));
+        for number in 0..self.cases {
+            if vendor {
+                self.vendor(mode, form, number, &mut line);
+            }
+            if steps {
+                self.steps(mode, form, number, &mut line);
+            }
         }
-        if self.vendor_alone {
+        if self.alone.is_some() {
             return line;
         }
         exhaustive::each(mode, form, self.small(), |case| {
@@ -230,7 +272,7 @@ impl Run {
                 differences += line.differences;
             }
         }
-        if !self.vendor_alone {
+        if self.alone.is_none() {
             let tally = self.days();
             print_days(&tally);
             differences += tally.differences;
@@ -246,7 +288,8 @@ fn print(mode: Mode, form: Form, line: &Line) {
         pinned {:6} released {:6} held {:6} | port {:6} | damaged {:6} refused {:?} | \
         by number {:5} not of five {:6} | as pair {:6} houd of more {:5} | \
         packed {:6} with own faults {:5} layouts {:?} | two teams {:6} | \
-        vendor's {:?} behind the first {:6} | totals kept {:6} handed over {:?} | differences {}",
+        vendor's {:?} behind the first {:6} | \
+        by steps {:5} with {:6} tasks, each step {:6} damaged {:?} | totals kept {:6} handed over {:?} | differences {}",
         mode.name(),
         form.name(),
         line.singles,
@@ -274,6 +317,10 @@ fn print(mode: Mode, form: Form, line: &Line) {
         line.shared,
         line.vendor,
         line.vendor_behind,
+        line.step_sweeps,
+        line.step_tasks,
+        line.steps,
+        line.step_refused,
         line.kept,
         line.handed,
         line.differences,
@@ -316,9 +363,13 @@ fn say_sides(linked: bool) {
 fn main() -> ExitCode {
     let words: Vec<String> = std::env::args().skip(1).collect();
     let number = |at: usize, default: u64| words.get(at).map_or(Ok(default), |word| word.parse());
-    let vendor_alone = words.get(2).map(String::as_str) == Some("vendor");
+    let alone = match words.get(2).map(String::as_str) {
+        Some("vendor") => Some(Alone::Vendor),
+        Some("steps") => Some(Alone::Steps),
+        _ => None,
+    };
     let (Ok(cases), Ok(seed)) = (number(0, 2000), number(1, 1)) else {
-        eprintln!("compare [cases] [seed] [vendor]");
+        eprintln!("compare [cases] [seed] [vendor|steps]");
         return ExitCode::from(2);
     };
     let port = port::linked();
@@ -326,7 +377,7 @@ fn main() -> ExitCode {
     let mut run = Run {
         cases,
         seed,
-        vendor_alone,
+        alone,
         port,
         smallest: None,
     };

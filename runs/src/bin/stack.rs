@@ -4,10 +4,11 @@
 use calls::{Coding, Form, Label, Mode, Port};
 use std::hint::black_box;
 use std::mem::MaybeUninit;
-use tsorvenk_runs::case::Single;
+use tsorvenk_runs::case::{Single, Swept};
 use tsorvenk_runs::model::Model;
 use tsorvenk_runs::port;
 use tsorvenk_runs::rand::Rand;
+use tsorvenk_runs::steps::{Task, Which};
 use tsorvenk_runs::timing::pieces::kept;
 use tsorvenk_runs::timing::{self, torus, N};
 use tsorvenk_runs::vendor::Vendored;
@@ -47,6 +48,20 @@ fn on_bytes(port: &mut dyn Port, case: &Single) {
     line("  on bytes", || port.packed_step(packed.step(&mut lent)));
 }
 
+/// The same move by its three steps.
+fn in_steps(case: &Single) {
+    let mut side = port::steps().expect("the port is there");
+    let (mut task, mut blue) = (Task::of(case), vec![0; case.panel.n]);
+    let mut lent = task.lent.clone();
+    line("  label", || side.label(task.label(&mut lent, &mut blue)));
+    task = task.run(Which::Label, &mut Model).1;
+    line("  choose", || side.choose(task.choose(&mut lent.columns)));
+    task = task.run(Which::Choose, &mut Model).1;
+    line("  write", || {
+        side.write(task.write(&mut lent.spins, &mut lent.totals))
+    });
+}
+
 /// What an SW move of eight made.
 fn vendor(port: &mut dyn Port, rand: &mut Rand, mode: Mode) {
     let panel = timing::panel(rand, mode, Form::Sw, 4, 8);
@@ -71,9 +86,11 @@ fn run(port: &mut dyn Port) {
         let mut lent = kept.lent.clone();
         line("  its totals", || port.step(kept.step(&mut lent)));
         on_bytes(port, &kept);
+        in_steps(&kept);
         let case = timing::swept(&mut rand, mode, form, 4, members);
         let mut lent = case.lent.clone();
         line("  its sweep", || port.sweep(case.sweep(&mut lent)));
+        test_alone(&case);
         if Coding::Numbers.numbers(mode, form) {
             let panel = timing::panel(&mut rand, mode, form, 4, 64);
             let case = timing::single(&mut rand, panel, 5).by_number();
@@ -112,6 +129,13 @@ fn run(port: &mut dyn Port) {
         draws();
         edges();
     }
+}
+
+/// The test of a sweep without the sweep. What the side makes for the call is not on the stack.
+fn test_alone(case: &Swept) {
+    let mut side = port::steps().expect("the port is there");
+    let mut lent = case.lent.clone();
+    line("  its test", || side.test_sweep(&case.sweep(&mut lent)));
 }
 
 #[cfg(port)]

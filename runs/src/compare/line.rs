@@ -38,6 +38,12 @@ pub struct Line {
     /// the first is at fault.
     pub vendor: [usize; 11],
     pub vendor_behind: usize,
+    /// Sweeps by their tasks' steps, and their tasks; steps beside the model's; and what the model answers where the test of a sweep, label, choose and
+    /// write have faults, by number.
+    pub step_sweeps: usize,
+    pub step_tasks: usize,
+    pub steps: usize,
+    pub step_refused: [[usize; 16]; 4],
     /// Calls that keep totals.
     pub kept: usize,
     /// What the model answers to a hand-over of the panel, good or damaged, by number.

@@ -33,12 +33,18 @@ fn follow(panel: Panel, task: &Task, grey: bool, marked: &mut [bool]) {
     }
 }
 
-/// A call that is not refused: its seed acts, or no site does.
-pub fn grown(panel: Panel, task: &Task) -> Grown {
-    let cmr = task.mode == Mode::Cmr;
+/// What the seed's bonds reach, in CMR its blue ones.
+pub fn blue(panel: Panel, task: &Task) -> Vec<bool> {
     let mut first = vec![false; panel.n];
     first[task.seed] = acts(panel, task, task.seed);
     follow(panel, task, false, &mut first);
+    first
+}
+
+/// A call that is not refused: its seed acts, or no site does.
+pub fn grown(panel: Panel, task: &Task) -> Grown {
+    let cmr = task.mode == Mode::Cmr;
+    let first = blue(panel, task);
     let mut members = first.clone();
     if cmr {
         follow(panel, task, true, &mut members);

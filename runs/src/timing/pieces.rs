@@ -8,6 +8,7 @@ use calls::{Form, Keeps, Mode};
 /// The sites that move.
 #[derive(Clone, Copy, PartialEq)]
 pub enum Share {
+    Ten,
     Hundredth,
     Quarter,
     All,
@@ -21,6 +22,7 @@ impl Share {
         let side: usize = if d == 2 { 64 } else { 16 };
         let [x, y, z] = [0, 1, 2].map(|along| site / side.pow(along) % side);
         match (self, d) {
+            (Share::Ten, _) => x < 5 && y < 2 && z < 1,
             (Share::Hundredth, 2) => x < 7 && y < 6,
             (Share::Hundredth, _) => x < 4 && y < 3 && z < 3,
             (Share::Quarter, 2) => x < 32 && y < 32,
@@ -31,6 +33,7 @@ impl Share {
 
     pub fn name(self) -> &'static str {
         match self {
+            Share::Ten => "ten sites",
             Share::Hundredth => "1 %",
             Share::Quarter => "a quarter",
             Share::All => "all",

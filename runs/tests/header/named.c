@@ -1,9 +1,7 @@
 /* The calls with named fields of include/tsorvenk.h over stand-ins of the exported functions: each field must reach
  * the argument of its name, and a buffer that is left out must get a pointer that is not null, with length 0, but pins and
  * owners that are left out zeros. Then the words of every number, and the room for frames, are printed for the Rust crate to be held to. */
-#include "tsorvenk.h"
-#include <stdio.h>
-#include <stdlib.h>
+#include "named.h"
 
 /* what the stand-ins must be given; every number and pointer in it is another */
 static struct tsorvenk_step_args step;
@@ -27,32 +25,6 @@ static float f32[4];
 static int64_t i64[2];
 static uint64_t u64[2];
 static size_t sizes_of[1];
-
-static void held(int so, const char *call, const char *field) {
-    if (!so) {
-        printf("%s: %s did not arrive\n", call, field);
-        exit(1);
-    }
-}
-
-#define NUMBER(call, field) held(field == call.field, #call, #field)
-#define BUFFER(call, field) \
-    held(call.field ? field == call.field && field##_len == call.field##_len \
-                    : field != NULL && (uintptr_t)field % sizeof *field == 0 && field##_len == 0, #call, #field)
-
-/* a table that is left out is zeros, so many as are wanted or 4096 */
-static int zeros(const uint8_t *bytes, size_t bytes_len, size_t wanted) {
-    size_t k;
-    for (k = 0; bytes && k < bytes_len && !bytes[k];)
-        k++;
-    return bytes && k == bytes_len && bytes_len == (wanted < 4096 ? wanted : 4096);
-}
-
-#define BYTES(call, field, number) \
-    held(call.field ? field == call.field && field##_len == call.field##_len : zeros(field, field##_len, call.number), \
-        #call, #field)
-#define PINS(call) BYTES(call, pins, n)
-#define OWNERS(call) NUMBER(call, team), BYTES(call, owners, s)
 
 uint8_t tsorvenk_step(uint8_t mode, uint8_t form, uint8_t coding, uint8_t keeps, size_t n, size_t d, size_t s,
     uint8_t team, const uint8_t *owners, size_t owners_len,

@@ -1,39 +1,45 @@
--- `run_columns` meets its contract: the three steps one after another, and which of them are taken.
+-- `run_columns` meets its contract: the label step, and the choose step where columns may change.
 use borrow.Author.Needs.{needs}
 use Prim.Native.Nat.{_*_, _≤_}
-use mathlib.Core.Path.{_≡_, refl, sym, _∙_}
+use mathlib.Core.Path.{_≡_, sym, _∙_}
 use mathlib.Core.Bool.{true, false}
 use mathlib.Core.List.{[]}
 use native.Mathlib.Omega.{arith}
+use borrow.Author.Tests.{not-true, not-false}
 use denote.Ref.{now}
 use lib.Seq.{length-take-le}
 use Rattle.paper.specs.Panel.Input.{Call, Choices, Buffers}
 use Rattle.paper.specs.Panel.Made.{callOf, choicesOf, buffersOf}
-use Rattle.paper.specs.Panel.Takes.{moves}
 use Rattle.moves.specs.Tested.{ready}
-use Rattle.moves.specs.Steps.{LabelLeaves}
+use Rattle.moves.specs.Leaves.{changes}
 use Rattle.moves.specs.Answered as answered
-use Rattle.moves.specs.Leaves as leaves
+use Rattle.moves.specs.Done as done
 use Rattle.moves.proofs.run_columns.Statement.{statement}
 use Rattle.moves.proofs.run_columns.Tie as tie
 
--- the start, the labelling, and the copy behind it
+-- the start, the label step, and the copy behind it
 abbrev A : tie.After-struct-known → tie.Start
 A k = k .before .before .before .before .before .before .before .before .before .before .before .before .before .before .before
 
 abbrev S : tie.After-label-task → tie.Start
-S o = A (o .before .before .before .before .before .before .before .before .before .before .before .before)
+S o = A (o .before .before .before .before .before .before .before .before .before .before .before .before .before .before .before)
 
 abbrev L : tie.After-copy → tie.After-label-task
-L y = y .before .before .before .before .before .before .before .before .before .before .before .before .before .before .before .before .before
+L y = y .before .before .before .before .before .before .before .before .before .before .before
+    .before .before .before .before .before .before .before .before .before .before .before
 
-abbrev T : tie.After-slice-known15 → tie.After-copy
-T k = k .before .before
+abbrev T : tie.After-changed → tie.After-copy
+T k = k .before .before .before
 
--- from past the settling
-abbrev D : tie.After-slice-known19 → tie.After-label-task
-D s = L (T (s .before .before .before .before .before .before .before .before .before .before .before .before .before
-    .before .before .before .before .before .before .before .before .before .before .before .before))
+abbrev C : tie.After-grey-tally2 → tie.After-label-task
+C s = L (T (s .before .before .before .before))
+
+-- from past the choose step
+abbrev E : tie.After-choose-task → tie.Else1
+E k = k .before .before .before .before .before .before .before .before
+
+abbrev D : tie.After-slice-known18 → tie.After-label-task
+D s = L (T (E (s .before .before .before .before .before .before) .before))
 
 abbrev callAt : tie.Start → Call
 callAt b = let a = b .args in callOf (a .t) (now (a .fwd)) (now (a .bwd)) (now (a .pins)) (now (a .couplings)) (now (a .cuts))
@@ -52,22 +58,15 @@ high b = b .pre .valid .sound .ranged .lattice .n-high
 many : (b : tie.Start) → b .args .t .n * b .args .t .d ≤ 16384
 many b =
     let a = b .args in
-    answered.bonds-high (a .t) (now (a .fwd)) (now (a .bwd)) (now (a .pins)) (now (a .couplings)) (now (a .cuts)) (choicesAt b) (lentAt b)
+    answered.bonds-high (a .t) (now (a .fwd)) (now (a .bwd)) (now (a .pins)) (now (a .couplings)) (now (a .cuts)) (choicesAt b)
     (b .pre .labelled) (b .pre .valid)
 
--- what the labelling left, for those rows
-labelled : (o : tie.After-label-task) → let z = o .label-task .last in let w = z .1 .1 .1 .1 .1 in
-    LabelLeaves (callAt (S o)) (S o .pre .rows) (now (S o .args .cols)) (w .0) (w .1 .1 .0) (w .1 .1 .1 .0) (w .1 .1 .1 .1 .0) (w .1 .1 .1 .1 .1 .0)
-    (w .1 .1 .1 .1 .1 .1 .0) (w .1 .1 .1 .1 .1 .1 .1 .0) (o .label-task .result)
-labelled o =
-    let b = S o in
-    o .label-task .ensures _ _ (b .pre .rows) (ready (callAt b) (choicesAt b) (lentAt b) (b .pre .valid .sound)) (b .pre .columns)
+-- whether the answer is one with which columns may have changed
+still : (m : tie.Then1) → changes (S (L (T (m .before))) .args .t .form) (L (T (m .before)) .label-task .result) ≡ false
+still m = sym (m .before .changed .ensures) ∙ not-true _ (m .if1 .taken)
 
-moving : (m : tie.Then2) → moves (S (L (T (m .before .before .before))) .args .t .form) ≡ true
-moving m = sym (m .before .moves .ensures) ∙ m .if2 .taken
-
-resting : (m : tie.Else2) → moves (S (L (T (m .before .before .before))) .args .t .form) ≡ false
-resting m = sym (m .before .moves .ensures) ∙ m .if2 .left
+goes : (m : tie.Else1) → changes (S (L (T (m .before))) .args .t .form) (L (T (m .before)) .label-task .result) ≡ true
+goes m = sym (m .before .changed .ensures) ∙ not-false _ (m .if1 .left)
 
 mul-bonds : tie.Need-mul-bonds
 mul-bonds c = omega (arith, many (A c))
@@ -96,32 +95,48 @@ array-borrow-prefix-tally-area c = high (A (c .before .before .before))
 slice-aggregate-tally : tie.Need-slice-aggregate-tally
 slice-aggregate-tally c = let b = A (c .before .before .before .before) in sym (length-take-le (b .args .t .n) _ (high b))
 
+array-borrow-prefix-grey-tally-area : tie.Need-array-borrow-prefix-grey-tally-area
+array-borrow-prefix-grey-tally-area c = high (A (c .before .before .before .before))
+
+slice-aggregate-grey-tally : tie.Need-slice-aggregate-grey-tally
+slice-aggregate-grey-tally c = let b = A (c .before .before .before .before .before) in sym (length-take-le (b .args .t .n) _ (high b))
+
 label-task-requires : tie.Need-label-task-requires
 label-task-requires c κs =
-    let b = A (c .before .before .before .before .before .before .before .before .before .before .before) in
+    let b = A (c .before .before .before .before .before .before .before .before .before .before .before .before .before .before) in
     let a = b .args in
-    answered.label-asks (a .t) (now (a .fwd)) (now (a .bwd)) (now (a .pins)) (now (a .couplings)) (now (a .cuts)) (choicesAt b) (lentAt b)
+    answered.task-asks (a .t) (now (a .fwd)) (now (a .bwd)) (now (a .pins)) (now (a .couplings)) (now (a .cuts)) (choicesAt b)
     (b .pre .labelled) (b .pre .valid) (b .pre .columns)
 
 copy-requires : tie.Need-copy-requires
 copy-requires c κs =
-    let b = S (c .before .before .before .before .before .before .before .before .before .before .before .before .before .before .before .before) in
+    let b = S (c .before .before .before .before .before .before .before .before .before .before .before
+    .before .before .before .before .before .before .before .before .before .before) in
     b .pre .columns .long ∙ sym (b .pre .news-long)
+
+changed-requires : tie.Need-changed-requires
+changed-requires c κs = search needs
 
 same-length : tie.Need-same-length
 same-length c = search needs
 
 same-length-2 : tie.Need-same-length-2
-same-length-2 c = search needs
+same-length-2 c = C c .label-task .kept .1 .1 .1 .1 .1 .1 .1 .1 .1 .1 .1 .0
 
 same-length-3 : tie.Need-same-length-3
-same-length-3 c = search needs
+same-length-3 c = C c .label-task .kept .1 .1 .1 .1 .1 .1 .1 .1 .1 .1 .1 .1 .0
 
 same-length-4 : tie.Need-same-length-4
-same-length-4 c = search needs
+same-length-4 c = C c .label-task .kept .1 .1 .1 .1 .1 .1 .1 .1 .1 .1 .1 .1 .1 .0
 
 same-length-5 : tie.Need-same-length-5
-same-length-5 c = search needs
+same-length-5 c = C c .label-task .kept .1 .1 .1 .1 .1 .1 .1 .1 .1 .1 .1 .1 .1 .1 .0
+
+same-length-6 : tie.Need-same-length-6
+same-length-6 c = C c .label-task .kept .1 .1 .1 .1 .1 .1 .1 .1 .1 .1 .1 .1 .1 .1 .1 .0
+
+same-length-7 : tie.Need-same-length-7
+same-length-7 c = C c .label-task .kept .1 .1 .1 .1 .1 .1 .1 .1 .1 .1 .1 .1 .1 .1 .1 .1 .0
 
 returns : tie.Need-returns
 returns c =
@@ -131,127 +146,71 @@ returns c =
     let b = S o in
     let a = b .args in
     rw (y .copy .ensures)
-    (leaves.idle-leaves (a .t) (now (a .fwd)) (now (a .bwd)) (now (a .pins)) (now (a .couplings)) (now (a .cuts)) (choicesAt b) (b .pre)
-    (o .label-task .ensures) (m .if1 .taken))
-
-moves-requires : tie.Need-moves-requires
-moves-requires c κs = search needs
+    (done.stays-leaves (a .t) (now (a .fwd)) (now (a .bwd)) (now (a .pins)) (now (a .couplings)) (now (a .cuts)) (choicesAt b) (b .pre)
+    (o .label-task .ensures) (still m))
 
 array-borrow-prefix-reached : tie.Need-array-borrow-prefix-reached
 array-borrow-prefix-reached c = high (S (L (T (c .before .before .before .before .before .before))))
 
 slice-aggregate-choose-task : tie.Need-slice-aggregate-choose-task
-slice-aggregate-choose-task c = let b = S (L (T (c .before .before .before .before .before .before .before))) in sym (length-take-le (b .args .t .n) _ (high b))
+slice-aggregate-choose-task c =
+    let b = S (L (T (c .before .before .before .before .before .before .before))) in
+    sym (length-take-le (b .args .t .n) _ (high b))
 
 choose-task-requires : tie.Need-choose-task-requires
 choose-task-requires c κs =
     let m = c .before .before .before .before .before .before .before in
-    let y = T (m .before .before .before) in
+    let y = T (m .before) in
     let o = L y in
     let b = S o in
     let a = b .args in
     rw (y .copy .ensures)
-    (answered.choose-asks (a .t) (now (a .fwd)) (now (a .bwd)) (now (a .pins)) (now (a .couplings)) (now (a .cuts)) (choicesAt b) (lentAt b)
-    (b .pre .labelled) (b .pre .valid) (labelled o) (moving m))
+    (answered.choose-asks (a .t) (now (a .fwd)) (now (a .bwd)) (now (a .pins)) (now (a .couplings)) (now (a .cuts)) (choicesAt b)
+    (b .pre .labelled) (b .pre .valid)
+    (o .label-task .ensures (now (a .bwd)) (b .pre .rows) (ready (callAt b) (choicesAt b) (lentAt b) (b .pre .valid .sound)) (b .pre .columns))
+    (goes m))
 
-settle-requires : tie.Need-settle-requires
-settle-requires c κs =
-    let k = c .before .before .before .before .before .before .before .before .before .before .before in
-    let y = T (k .before .before .before .before .before .before .before .before .before .before .before) in
-    sym (k .choose-task .ensures .columns .long ∙ rw (y .copy .ensures) refl)
-
-same-length-6 : tie.Need-same-length-6
-same-length-6 c =
-    let w = c .before .before in
-    let k = w .before .before .before .before .before .before .before .before .before .before .before .before in
-    let m = k .before .before .before .before .before .before .before .before in
-    let e = m .before .before in
-    let y = T (e .before) in
+same-length-8 : tie.Need-same-length-8
+same-length-8 c =
+    let k = c .before .before .before .before .before .before in
+    let m = E k in
+    let y = T (m .before) in
     let o = L y in
     let b = S o in
     let a = b .args in
     let r =
-    leaves.done-leaves (a .t) (now (a .fwd)) (now (a .bwd)) (now (a .pins)) (now (a .couplings)) (now (a .cuts)) (choicesAt b) (b .pre)
-    (o .label-task .ensures) (rw (y .copy .ensures) at (k .choose-task .ensures)) (e .if1 .left) (moving m) (w .settle .ensures) in
+    done.goes-leaves (a .t) (now (a .fwd)) (now (a .bwd)) (now (a .pins)) (now (a .couplings)) (now (a .cuts)) (choicesAt b) (b .pre)
+    (o .label-task .ensures) (goes m) (rw (y .copy .ensures) at (k .choose-task .ensures)) in
     r .long ∙ sym (b .pre .news-long)
 
-same-length-7 : tie.Need-same-length-7
-same-length-7 c =
-    let o = D c in
-    let b = S o in
-    let a = b .args in
-    answered.labels-kept (a .t) (now (a .fwd)) (now (a .bwd)) (now (a .pins)) (now (a .couplings)) (now (a .cuts)) (choicesAt b) (lentAt b)
-    (b .pre .labelled) (b .pre .valid) (labelled o)
-
-same-length-8 : tie.Need-same-length-8
-same-length-8 c = search needs
-
 same-length-9 : tie.Need-same-length-9
-same-length-9 c =
-    let o = D c in
-    let b = S o in
-    let a = b .args in
-    answered.counts-kept (a .t) (now (a .fwd)) (now (a .bwd)) (now (a .pins)) (now (a .couplings)) (now (a .cuts)) (choicesAt b) (lentAt b)
-    (b .pre .labelled) (b .pre .valid) (labelled o)
+same-length-9 c = D c .label-task .kept .1 .1 .1 .1 .1 .1 .1 .1 .1 .1 .1 .0
 
 same-length-10 : tie.Need-same-length-10
-same-length-10 c =
-    let o = D c in
-    let b = S o in
-    let a = b .args in
-    answered.sizes-kept (a .t) (now (a .fwd)) (now (a .bwd)) (now (a .pins)) (now (a .couplings)) (now (a .cuts)) (choicesAt b) (lentAt b)
-    (b .pre .labelled) (b .pre .valid) (labelled o)
+same-length-10 c = D c .label-task .kept .1 .1 .1 .1 .1 .1 .1 .1 .1 .1 .1 .1 .0
 
 same-length-11 : tie.Need-same-length-11
-same-length-11 c =
-    let o = D c in
-    let b = S o in
-    let a = b .args in
-    answered.found-kept (a .t) (now (a .fwd)) (now (a .bwd)) (now (a .pins)) (now (a .couplings)) (now (a .cuts)) (choicesAt b) (lentAt b)
-    (b .pre .labelled) (b .pre .valid) (labelled o)
+same-length-11 c = D c .label-task .kept .1 .1 .1 .1 .1 .1 .1 .1 .1 .1 .1 .1 .1 .0
 
 same-length-12 : tie.Need-same-length-12
-same-length-12 c = search needs
+same-length-12 c = D c .label-task .kept .1 .1 .1 .1 .1 .1 .1 .1 .1 .1 .1 .1 .1 .1 .0
+
+same-length-13 : tie.Need-same-length-13
+same-length-13 c = D c .label-task .kept .1 .1 .1 .1 .1 .1 .1 .1 .1 .1 .1 .1 .1 .1 .1 .0
+
+same-length-14 : tie.Need-same-length-14
+same-length-14 c = D c .label-task .kept .1 .1 .1 .1 .1 .1 .1 .1 .1 .1 .1 .1 .1 .1 .1 .1 .0
 
 returns-2 : tie.Need-returns-2
 returns-2 c =
-    let w = c .before .before in
-    let k = w .before .before .before .before .before .before .before .before .before .before .before .before in
-    let m = k .before .before .before .before .before .before .before .before in
-    let e = m .before .before in
-    let y = T (e .before) in
+    let k = c .before .before .before .before .before .before in
+    let m = E k in
+    let y = T (m .before) in
     let o = L y in
     let b = S o in
     let a = b .args in
-    leaves.done-leaves (a .t) (now (a .fwd)) (now (a .bwd)) (now (a .pins)) (now (a .couplings)) (now (a .cuts)) (choicesAt b) (b .pre)
-    (o .label-task .ensures) (rw (y .copy .ensures) at (k .choose-task .ensures)) (e .if1 .left) (moving m) (w .settle .ensures)
-
-same-length-13 : tie.Need-same-length-13
-same-length-13 c = search needs
-
-same-length-14 : tie.Need-same-length-14
-same-length-14 c = search needs
-
-same-length-15 : tie.Need-same-length-15
-same-length-15 c = search needs
-
-same-length-16 : tie.Need-same-length-16
-same-length-16 c = search needs
-
-same-length-17 : tie.Need-same-length-17
-same-length-17 c = search needs
-
-returns-3 : tie.Need-returns-3
-returns-3 c =
-    let m = c .before .before .before in
-    let e = m .before .before in
-    let y = T (e .before) in
-    let o = L y in
-    let b = S o in
-    let a = b .args in
-    rw (y .copy .ensures)
-    (leaves.observe-leaves (a .t) (now (a .fwd)) (now (a .bwd)) (now (a .pins)) (now (a .couplings)) (now (a .cuts)) (choicesAt b) (b .pre)
-    (o .label-task .ensures) (e .if1 .left) (resting m))
+    done.goes-leaves (a .t) (now (a .fwd)) (now (a .bwd)) (now (a .pins)) (now (a .couplings)) (now (a .cuts)) (choicesAt b) (b .pre)
+    (o .label-task .ensures) (goes m) (rw (y .copy .ensures) at (k .choose-task .ensures))
 
 pub run-columns-spec : {M : Type 1} → statement M
 run-columns-spec =
@@ -266,30 +225,27 @@ run-columns-spec =
     slice-aggregate-grey
     array-borrow-prefix-tally-area
     slice-aggregate-tally
+    array-borrow-prefix-grey-tally-area
+    slice-aggregate-grey-tally
     label-task-requires
     copy-requires
+    changed-requires
     same-length
     same-length-2
     same-length-3
     same-length-4
     same-length-5
+    same-length-6
+    same-length-7
     returns
-    moves-requires
     array-borrow-prefix-reached
     slice-aggregate-choose-task
     choose-task-requires
-    settle-requires
-    same-length-6
-    same-length-7
     same-length-8
     same-length-9
     same-length-10
     same-length-11
     same-length-12
-    returns-2
     same-length-13
     same-length-14
-    same-length-15
-    same-length-16
-    same-length-17
-    returns-3)
+    returns-2)

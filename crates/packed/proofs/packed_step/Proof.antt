@@ -22,9 +22,9 @@ use Rattle.grow.specs.Task.{Outputs, noOutputs, grown-with}
 use Rattle.moves.specs.Answered.{valid-with}
 use Rattle.perform.specs.Kept.{between}
 use Rattle.perform.specs.Verdicts.{verdict-broken, refused-by, ready-of, accepted-by}
-use Rattle.packing.specs.Bytes.{rowsOf, Narrow, ownGroup}
+use Rattle.packing.specs.Bytes.{rowsOf, Narrow, ownGroup, ownTask}
 use Rattle.packing.specs.Laws.{rows-long, spins-narrow, rows-columns, rows-written}
-use Rattle.packed.specs.Packed.{ownTask, lentOf}
+use Rattle.packed.specs.Packed.{lentOf}
 use Rattle.packed.specs.Tested.{bytes-long, spins-own}
 use Rattle.packed.specs.Stepped.{answered-bytes, through-copy, low-of}
 use Rattle.packed.proofs.packed_step.Statement.{statement}

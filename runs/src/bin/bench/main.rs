@@ -1,4 +1,4 @@
-//! bench [repetitions] [totals|numbers|pins|packed|teams|vendor]: the port against the published Rust, in one run, as the tables of docs/BENCHMARKS.md.
+//! bench [repetitions] [totals|numbers|pins|packed|teams|vendor|steps|threads]: the port against the published Rust, in one run, as the tables of docs/BENCHMARKS.md.
 //!
 //! Times are medians in microseconds. "Rust" is the published code with a generator, "lent" the same code with its
 //! draws read from the lent choices, "depth" the one-cluster form without outputs, a search from the seed; beside a
@@ -7,7 +7,8 @@
 //! was measured. Where the port is not linked the model stands in for it, so that the run itself can be tried. With the word
 //! `totals` behind the repetitions only the tables of totals are made, with `numbers` only those of permutations by number,
 //! with `pins` only those of panels with pinned sites, with `packed` only those of one byte for a site's group, with `teams` only
-//! those of panels that two teams share, and of moves in a panel of 64 systems, and with `vendor` only that of a vendor's moves.
+//! those of panels that two teams share, and of moves in a panel of 64 systems, with `vendor` only that of a vendor's moves, with `steps`
+//! only those of a task's three steps, and with `threads` only that of a sweep's tasks on two threads.
 mod clusters;
 mod coded;
 mod draws;
@@ -17,6 +18,7 @@ mod moves;
 mod packed;
 mod parts;
 mod pins;
+mod steps;
 mod tables;
 mod teams;
 mod totals;
@@ -168,6 +170,8 @@ fn main() {
             bench.teams();
         }
         Some("vendor") => bench.vendor(),
+        Some("steps") => bench.steps(),
+        Some("threads") => bench.threads(),
         _ => all(&mut bench),
     }
 }
@@ -210,4 +214,6 @@ fn all(bench: &mut Bench) {
     bench.packed();
     bench.teams();
     bench.vendor();
+    bench.steps();
+    bench.threads();
 }
