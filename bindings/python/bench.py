@@ -62,7 +62,8 @@ int main(int argc, char **argv) {
     for (int round = 0; round < 3 * rounds; round++) {
         int jorg = round % 3 > 0, cmr = round % 3 == 2;
         struct tsorvenk_step_args args = {
-            .mode = cmr ? TSORVENK_CMR : jorg ? TSORVENK_JORG : TSORVENK_PAIR, .keeps = cmr, .form = jorg ? TSORVENK_SW : TSORVENK_WOLFF, .n = N, .d = D, .s = 2,
+            .n = N, .d = D, .s = 2,
+            .mode = cmr ? TSORVENK_CMR : jorg ? TSORVENK_JORG : TSORVENK_PAIR, .keeps = cmr, .form = jorg ? TSORVENK_SW : TSORVENK_WOLFF,
             .spins = spins, .spins_len = 2 * N, .fwd = fwd, .fwd_len = N * D, .bwd = bwd, .bwd_len = N * D,
             .couplings = jorg ? couplings : 0, .couplings_len = N * D, .group = group, .group_len = 2, .temperature = 1,
             .cuts = jorg ? cuts : 0, .cuts_len = N * D, .flips = jorg ? flips : 0, .flips_len = N,

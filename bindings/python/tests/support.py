@@ -97,7 +97,7 @@ class Maker:
 
     def values(self, function, name, length, call):
         """What stands in a buffer that a call takes."""
-        rng, mode, form = self.rng, call.get("mode"), call.get("form")
+        rng, form = self.rng, call.get("form")
         one = form in (Form.Wolff, Form.Grow)
         members = call.get("members") or len(call["group"])
         if name in ("fwd", "bwd"):

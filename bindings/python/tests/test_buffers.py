@@ -143,6 +143,10 @@ class Unfit(Case):
                     if one.written:
                         none = memoryview(bytes(8)).cast(lent_letter(one))
                         self.unfit(TypeError, rf"^{one.name} is written", {**fitting, one.name: none}, function)
+                    # bytes have a way of their own
+                    if one.lent and (one.written or one.kind != "u8"):
+                        words = "is written" if one.kind == "u8" else "must be a buffer"
+                        self.unfit(TypeError, rf"^{one.name} {words}", {**fitting, one.name: bytes(8)}, function)
 
     def test_items_of_the_same_size_and_another_type(self):
         call = a_step(mode=Mode.Jorg)

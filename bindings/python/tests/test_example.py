@@ -22,6 +22,9 @@ def run(*words, **more):
 
 
 def ours():
+    """The environment in which another process finds the package that is being tried."""
+    if os.environ.get("TSORVENK_TEST_INSTALLED") == "1":
+        return dict(os.environ)
     return {**os.environ, "PYTHONPATH": os.pathsep.join([str(PACKAGE), os.environ.get("PYTHONPATH", "")])}
 
 
@@ -83,6 +86,13 @@ class Installed(Case):
     def test_an_editable_wheel_leads_here(self):
         with zipfile.ZipFile(self.build("build_editable")) as inside:
             self.assertEqual(inside.read("tsorvenk.pth").decode().strip(), str(PACKAGE))
+
+    def test_a_shared_object_in_the_folder_of_the_caller(self):
+        """A bare name is that of a file here, and not one of the system's libraries."""
+        with tempfile.TemporaryDirectory() as place:
+            pathlib.Path(place, "own.so").write_bytes(self.shared().read_bytes())
+            told = run("-c", "import tsorvenk; print(tsorvenk.row_of(number=0)[4])", cwd=place, env={**ours(), "TSORVENK_SO": "own.so"})
+        self.assertEqual(told, "4\n")
 
     def test_without_the_shared_object_calls_say_where_it_was_looked_for(self):
         env = {**ours(), "TSORVENK_SO": "/nowhere/libtsorvenk.so"}

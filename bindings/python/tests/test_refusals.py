@@ -1,7 +1,7 @@
 """Every refusal of every function: its number, the argument that it names, and that no buffer was written."""
 import unittest
 
-from support import ALL, D, N, Case, Coding, Form, Keeps, Maker, Mode, copied, exact, has_steps, kind_of, lent, resized, tsorvenk
+from support import ALL, N, Case, Coding, Form, Keeps, Maker, Mode, copied, exact, has_steps, kind_of, lent, resized, tsorvenk
 
 MOVES = ("step", "packed_step", "sweep") + (("test_sweep", "task_label") if has_steps() else ())
 

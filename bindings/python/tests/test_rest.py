@@ -1,5 +1,6 @@
 """The meter, the labelling, draws, edge lists, numbers for permutations and frames; panels; answers as values."""
 import copy
+import ctypes
 import itertools
 import pickle
 import unittest
@@ -206,7 +207,7 @@ class Panels(Case):
             self.assertEqual(panel.site(x, y), i)
 
     def test_every_shape_is_accepted(self):
-        for sides in ((1,), (2,), (5,), (1, 3), (2, 2), (64, 64), (3, 4, 5), (2, 3, 1, 4), (8, 8, 8, 8)):
+        for sides in ((1,), (2,), (5,), (1, 3), (3, 1), (2, 2), (64, 64), (3, 4, 5), (2, 3, 1, 4), (8, 8, 8, 8)):
             with self.subTest(sides):
                 panel = tsorvenk.torus(*sides)
                 text = tsorvenk.edges_text(
@@ -224,7 +225,10 @@ class Panels(Case):
         both.open_edges(own)
         self.assertEqual(self.items(own), [1, 2, 3, 4, 0, 6, 7, 0, 9, 0, 0, 0])
         self.assertEqual(tsorvenk.torus(3, 2).fwd, both.fwd)
-        for wrong in (array("i", [0] * 11), array("b", [0] * 12), bytes(48)):
+        once = (ctypes.c_int32 * 12)(*range(1, 13))
+        both.open_edges(once)
+        self.assertEqual(list(once), self.items(own))
+        for wrong in (array("i", [0] * 11), array("b", [0] * 12), bytes(48), array("f", [1.0] * 12), [0] * 12):
             with self.assertRaisesRegex(TypeError, "^couplings must be"):
                 both.open_edges(wrong)
 

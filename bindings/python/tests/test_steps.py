@@ -5,7 +5,7 @@ Left out only where the shared object does not have the four functions.
 import random
 import unittest
 
-from support import ALL, D, N, Case, Form, Keeps, Maker, Mode, content, copied, exact, has_steps, kind_of, lent, resized, tsorvenk
+from support import ALL, D, N, Case, Form, Keeps, Maker, Mode, content, copied, exact, has_steps, lent, resized, tsorvenk
 from tsorvenk import Stepped
 
 OUTPUTS = ("labels", "grey_labels", "counts", "sizes", "member_sites", "found", "grey_found")

@@ -10,7 +10,7 @@ from ._buffers import NOWHERE, ZEROS, ZEROS_LENGTH, Slot, lend
 from ._faults import at_fault
 from ._tables import FUNCTIONS, Parameter
 
-# what is left out is so many zeros as this number says: nothing is pinned, and one team has the whole panel
+# what is left out is so many zeros as this number, which stands before it, says: nothing is pinned, and one team has all
 _LEFT_OUT = {"pins": "n", "owners": "s"}
 
 _ANSWERS = frozenset({0, IDLE, HELD, NO})
@@ -50,7 +50,7 @@ class Call:
         self._left_out: List[Any] = []
         self._numbers: List[Tuple[int, str, int, Parameter]] = []
         self._slots: List[Slot] = []
-        self._zeros: List[Tuple[int, str, str]] = []
+        self._zeros: List[Tuple[int, str, int]] = []
         for parameter in FUNCTIONS[name].parameters:
             self._place(parameter, len(self._left_out))
 
@@ -60,7 +60,8 @@ class Call:
             self._left_out += [NOWHERE, 0]
             self._slots.append((place, name, parameter.formats, parameter.size, parameter.written, parameter))
             if name in _LEFT_OUT:
-                self._zeros.append((place, name, _LEFT_OUT[name]))
+                number = next(number for number, one, _, _ in self._numbers if one == _LEFT_OUT[name])
+                self._zeros.append((place, name, number))
         else:
             self._left_out.append(0)
             self._numbers.append((place, name, parameter.largest, parameter))
@@ -88,10 +89,10 @@ class Call:
             if type(value) is not int or not 0 <= value <= largest:
                 value = _real(parameter, value) if largest < 0 else _whole(parameter, value)
             arguments[place] = value
-        for place, name, length in self._zeros:
+        for place, name, number in self._zeros:
             if given[name] is None:
                 arguments[place] = ZEROS
-                arguments[place + 1] = min(int(given[length]), ZEROS_LENGTH)
+                arguments[place + 1] = min(arguments[number], ZEROS_LENGTH)
         kept: List[Any] = []
         try:
             lend(self._slots, given, arguments, kept)

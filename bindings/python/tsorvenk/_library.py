@@ -57,7 +57,8 @@ def _load() -> ctypes.CDLL:
     for path in looked:
         if path.is_file():
             try:
-                return ctypes.CDLL(str(path))
+                # a bare name would be looked for elsewhere
+                return ctypes.CDLL(str(path.resolve()))
             except OSError as why:
                 raise LibraryMissing(f"{path} cannot be loaded: {why}") from None
     raise LibraryMissing(

@@ -1,12 +1,14 @@
 """Panels: neighbour tables of tori, and what an open edge is on them."""
 from __future__ import annotations
 
+import ctypes
 import operator
 from array import array
 from dataclasses import dataclass
-from typing import Iterable, List, Tuple
+from typing import Iterable, List, Optional, Tuple
 
 from ._buffers import Buffer
+from ._tables import FUNCTIONS
 
 __all__ = ["Panel", "torus"]
 
@@ -59,13 +61,21 @@ class Panel:
         return found
 
     def open_edges(self, couplings: Buffer) -> None:
-        """Sets the couplings over open edges to 0, in a lent buffer of n * d items of 32 bits: such bonds join nothing."""
-        view = memoryview(couplings)
-        if view.itemsize != 4 or view.nbytes != 4 * self.n * self.d or not view.c_contiguous or view.readonly:
-            raise TypeError(f"couplings must be writable and contiguous, {self.n * self.d} items of 32 bits")
-        flat = view.cast("B")
+        """Sets the couplings over open edges to 0, in a lent buffer: int32, n * d, in hundredths of a millimetre."""
+        bonds = self.n * self.d
+        try:
+            view = memoryview(couplings)
+            fits = view.format in _COUPLINGS.formats and view.nbytes == 4 * bonds and view.c_contiguous and not view.readonly
+        except TypeError:
+            fits = False
+        if not fits:
+            raise TypeError(f"couplings must be writable and contiguous, {bonds} signed 32-bit items")
+        items = (ctypes.c_int32 * bonds).from_buffer(couplings)  # type: ignore[arg-type]
         for bond in self.open_bonds():
-            flat[4 * bond : 4 * bond + 4] = bytes(4)
+            items[bond] = 0
+
+
+_COUPLINGS = next(one for one in FUNCTIONS["read_edges"].parameters if one.name == "couplings")
 
 
 def _coordinate(site: int, direction: int, sides: Tuple[int, ...]) -> int:
@@ -74,7 +84,7 @@ def _coordinate(site: int, direction: int, sides: Tuple[int, ...]) -> int:
     return site % sides[direction]
 
 
-def torus(width: int, height: int = 1, *more: int, open: Iterable[int] = ()) -> Panel:
+def torus(width: int, height: Optional[int] = None, *more: int, open: Iterable[int] = ()) -> Panel:
     """A panel of width * height sites, or of more sides, up to four, whose tables wrap around.
 
     open names the directions whose edges are open, 0 for those between left and right, 1 for those between bottom and top.
@@ -85,9 +95,7 @@ def torus(width: int, height: int = 1, *more: int, open: Iterable[int] = ()) -> 
     A side of 1 makes a site its own neighbour, and one of 2 joins two sites twice. height left out makes a ring, with one
     direction. ValueError if there are more than four sides or 4096 sites.
     """
-    sides = tuple(map(operator.index, (width, height, *more)))
-    if not more and height == 1:
-        sides = sides[:1]
+    sides = tuple(map(operator.index, (width,) if height is None else (width, height, *more)))
     for name, side in zip(("width", "height", "more", "more", "more"), sides):
         if side < 1:
             raise ValueError(f"{name} must be at least 1, not {side}")
