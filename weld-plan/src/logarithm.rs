@@ -60,13 +60,13 @@ mod tests {
         assert_eq!(minus_log(u64::MAX).to_bits(), 0);
         let words = [0, 1 << 63, 0x0123_4567_89ab_cdef, 0xfedc_ba98_7654_3210, u64::MAX - (1 << 11)];
         let bits: Vec<u64> = words.iter().map(|&word| minus_log(word).to_bits()).collect();
-        println!("{bits:#x?}");
+        assert_eq!(bits, [0x40425e4f7b2737fa, 0x3fe62e42fefa39ed, 0x4015aa16394d4818, 0x3f723eb991354e4b, 0x3ca0000000000000]);
         let mut source = Source::new([1, 2, 3, 4]).unwrap();
         let mut all = Vec::new();
         for _ in 0..10_000 {
             all.extend_from_slice(&minus_log(source.word().unwrap()).to_bits().to_le_bytes());
         }
-        assert_eq!(crate::sha256::hex(&all), "TO BE STORED");
+        assert_eq!(crate::sha256::hex(&all), "d6f477f2e70a43e46f2aa9c9bc4d9d9d756909ab01bdedf51977d0193eb9aa6b");
     }
 
     #[test]

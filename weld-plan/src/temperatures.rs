@@ -5,9 +5,9 @@ use crate::fault::Fault;
 const RANGE: std::ops::RangeInclusive<f32> = 0.0009765625..=1048576.0;
 
 /// The coldest and hottest of the ladder that is made where none is given, in parts of the couplings' mean size. On panels of
-/// couplings of both signs the coldest is well below where single seams stop turning, and at the hottest everything turns.
-const COLDEST: f64 = 0.15;
-const HOTTEST: f64 = 1.6;
+/// couplings of both signs few single seams turn at the coldest, and at the hottest nearly all do.
+const COLDEST: f64 = 0.2;
+const HOTTEST: f64 = 1.25;
 
 /// x to a whole power, by multiplications in a fixed order.
 fn power(x: f64, times: usize) -> f64 {

@@ -41,7 +41,7 @@ fn ticks(low: i64, high: i64, about: i64) -> Vec<i64> {
 
 /// A number's place between two others, on a line from `start` of `length`.
 fn place(value: f64, low: f64, high: f64, start: f64, length: f64) -> f64 {
-    if high > low { start + (value - low) / (high - low) * length } else { start }
+    if high == low { start } else { start + (value - low) / (high - low) * length }
 }
 
 /// The course's scales: sweeps, and hundredths of a millimetre.
