@@ -69,7 +69,7 @@ impl Config {
         let replicas: usize = text.parse().ok().filter(|replicas| (1..=64).contains(replicas)).ok_or_else(|| {
             Fault::input(format!("--replicas {text}: this is no number from 1 to 64"))
         })?;
-        let modes = modes::parse(flags.modes.as_deref().unwrap_or("pair"), replicas)?;
+        let modes = modes::parse(flags.modes.as_deref().unwrap_or("pair,cmr"), replicas)?;
         let mut panel = Panel::read(list, grid)?;
         if let Some(path) = &flags.pins {
             pins::read(&mut panel, path)?;

@@ -18,7 +18,7 @@ What the plan depends on
   --replicas R         replicas at each temperature; temperatures times replicas is at most 64                                  [4]
   --modes M            the library's moves in every sweep, with commas between: houd, pair, perm, gperm, jorg, cmr, each as MODE or
                        MODE:FORM or MODE:FORM:MEMBERS with the forms sw (all clusters), wolff (one, labelled) and grow (one, grown)
-                       and 2 to 8 systems in a group; or none                     [pair]
+                       and 2 to 8 systems in a group; or none                     [pair,cmr]
 
 How long
   --sweeps N           ends after N sweeps                                        [2000, unless --minutes is given]

@@ -44,8 +44,8 @@ fn begin(panel: &Panel, config: &Config, term: &Term) -> Result<(State, Duration
     }
     if checkpoint::unfinished(&term.out) {
         let out = term.out.display();
-        let sentence = format!("{out} has the checkpoint of a day that was broken off: go on with --resume, or name another --out, or delete {out}/{}", checkpoint::NAME);
-        return Err(Fault::input(sentence));
+        let what = format!("{out} has the checkpoint of a day that was broken off");
+        return Err(Fault::input(format!("{what}: go on with --resume, or name another --out, or delete {out}/{}", checkpoint::NAME)));
     }
     Ok((State::new(panel, config)?, Duration::ZERO))
 }

@@ -30,7 +30,12 @@ pub fn listen() {
     let handler = note as extern "C" fn(i32) as usize;
     for number in [HANGUP, INTERRUPT, TERMINATE] {
         // SAFETY: the handler is a function of the type that C asks for, and lives as long as the program.
-        unsafe { signal(number, handler) };
+        let before = unsafe { signal(number, handler) };
+        // under nohup a terminal that is closed must not stop the day
+        if number == HANGUP && before == IGNORE {
+            // SAFETY: IGNORE is one of the two constants of `signal`.
+            unsafe { signal(number, IGNORE) };
+        }
     }
     if FILE_SIZE != 0 {
         // SAFETY: IGNORE is one of the two constants of `signal`.

@@ -137,7 +137,8 @@ fn help_is_no_refusal() {
         let output = common::run(&folder, words);
         assert!(output.status.success() && output.stderr.is_empty());
         let text = String::from_utf8(output.stdout).unwrap();
-        for flag in ["--grid", "--list", "--seed", "--out", "--sweeps", "--minutes", "--temperatures", "--replicas", "--modes", "--pins", "--resume", "--quiet"] {
+        let flags = "--grid --list --seed --out --sweeps --minutes --temperatures --replicas --modes --pins --resume --quiet --checkpoint";
+        for flag in flags.split(' ') {
             assert!(text.contains(flag), "{flag}");
         }
     }

@@ -119,6 +119,7 @@ pub fn draw(day: &Day, plan: &Plan) -> String {
         bar(&mut svg, "worst", [x, y, u, v], side, k + 1);
     }
     key(&mut svg, day, plan, key_left);
-    svg.text([LEFT, height - 14.0], "font-size=\"11\" fill=\"#666\"", "Seams are counted from 1, row by row from the top left; rows and columns are numbered at the edges.");
+    let counted = "Seams are counted from 1, row by row from the top left; rows and columns are numbered at the edges.";
+    svg.text([LEFT, height - 14.0], "font-size=\"11\" fill=\"#666\"", counted);
     svg.end()
 }
