@@ -156,7 +156,10 @@ fn whole(bytes: Vec<u8>) -> Option<String> {
 }
 
 fn damaged(path: &Path) -> Fault {
-    Fault::input(format!("{} is damaged or no checkpoint of this program; without --resume a new day is begun in an empty folder", path.display()))
+    Fault::input(format!(
+        "{} is damaged or no checkpoint of this program; without --resume a new day is begun in an empty folder",
+        path.display()
+    ))
 }
 
 /// The state in a folder's checkpoint, if it is of this very day.

@@ -66,9 +66,11 @@ impl Config {
         let list = flags.list.as_ref().ok_or_else(|| needed("--list"))?;
         let seed = seed(flags.seed.as_deref().unwrap_or("1,2,3,4"))?;
         let text = flags.replicas.as_deref().unwrap_or("4");
-        let replicas: usize = text.parse().ok().filter(|replicas| (1..=64).contains(replicas)).ok_or_else(|| {
-            Fault::input(format!("--replicas {text}: this is no number from 1 to 64"))
-        })?;
+        let replicas: usize = text
+            .parse()
+            .ok()
+            .filter(|replicas| (1..=64).contains(replicas))
+            .ok_or_else(|| Fault::input(format!("--replicas {text}: this is no number from 1 to 64")))?;
         let modes = modes::parse(flags.modes.as_deref().unwrap_or("pair,cmr"), replicas)?;
         let mut panel = Panel::read(list, grid)?;
         if let Some(path) = &flags.pins {

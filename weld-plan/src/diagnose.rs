@@ -22,7 +22,11 @@ const LARGEST: i64 = 1_000_000;
 /// A piece of text as it can be shown in a sentence.
 fn shown(bytes: &[u8]) -> String {
     let text: String = String::from_utf8_lossy(bytes).chars().take(24).flat_map(char::escape_debug).collect();
-    if bytes.len() > 24 { format!("\"{text}..\"") } else { format!("\"{text}\"") }
+    if bytes.len() > 24 {
+        format!("\"{text}..\"")
+    } else {
+        format!("\"{text}\"")
+    }
 }
 
 /// Why these bytes are no number as lists have them, or nothing.

@@ -57,9 +57,9 @@ fn write_one(path: &Path, bytes: &[u8]) -> Result<(), Error> {
 
 /// All of these files, or none of them: each is written beside its place, and they are moved only when all are on the disk.
 pub fn write_all(folder: &Path, files: &[(&str, &[u8])]) -> Result<(), Fault> {
-    let written = files.iter().try_for_each(|(name, bytes)| {
-        write_one(&beside(folder, name), bytes).map_err(|error| unwritable(&folder.join(name), &error))
-    });
+    let written = files
+        .iter()
+        .try_for_each(|(name, bytes)| write_one(&beside(folder, name), bytes).map_err(|error| unwritable(&folder.join(name), &error)));
     if let Err(fault) = written {
         for (name, _) in files {
             let _ = fs::remove_file(beside(folder, name));

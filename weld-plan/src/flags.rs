@@ -125,9 +125,8 @@ impl Flags {
     }
 }
 
-const VALUED: [&str; 11] = [
-    "--grid", "--list", "--pins", "--seed", "--temperatures", "--replicas", "--modes", "--sweeps", "--minutes", "--out", "--checkpoint",
-];
+const VALUED: [&str; 11] =
+    ["--grid", "--list", "--pins", "--seed", "--temperatures", "--replicas", "--modes", "--sweeps", "--minutes", "--out", "--checkpoint"];
 
 fn unknown(name: &str) -> Fault {
     Fault::input(format!("there is no flag {name}; --help has all of them"))

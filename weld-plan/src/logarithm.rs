@@ -5,16 +5,15 @@
 //! and does not fuse. What comes out is within a few units of the last place of the true value; that is more than a draw needs.
 
 /// The front bits of ln 2, few enough that a whole number up to 53 times it is exact, and the rest.
-const LN2_FRONT: f64 = 6.931_471_803_691_238_165e-1;
-const LN2_REST: f64 = 1.908_214_929_270_587_700e-10;
+const LN2_FRONT: f64 = f64::from_bits(0x3fe6_2e42_fee0_0000);
+const LN2_REST: f64 = f64::from_bits(0x3dea_39ef_3579_3c76);
 
 /// No draw is larger: 53 ln 2, rounded up.
 pub const LARGEST: f64 = 36.8;
 
 /// The terms 1/3, 1/5 .. 1/23 of the series of atanh: the next one is below 2^-59 of the sum where the fraction is at most 0.172.
-const TERMS: [f64; 11] = [
-    1.0 / 3.0, 1.0 / 5.0, 1.0 / 7.0, 1.0 / 9.0, 1.0 / 11.0, 1.0 / 13.0, 1.0 / 15.0, 1.0 / 17.0, 1.0 / 19.0, 1.0 / 21.0, 1.0 / 23.0,
-];
+const TERMS: [f64; 11] =
+    [1.0 / 3.0, 1.0 / 5.0, 1.0 / 7.0, 1.0 / 9.0, 1.0 / 11.0, 1.0 / 13.0, 1.0 / 15.0, 1.0 / 17.0, 1.0 / 19.0, 1.0 / 21.0, 1.0 / 23.0];
 
 /// Minus the natural logarithm of k / 2^53, where k is 1 more than the high 53 bits of the word: of a uniform number in (0, 1].
 pub fn minus_log(word: u64) -> f64 {

@@ -47,7 +47,9 @@ pub fn parse(text: &str, replicas: usize) -> Result<Vec<Use>, Fault> {
     }
     let uses: Vec<Use> = text.split(',').map(one).collect::<Result<_, _>>().map_err(fault)?;
     match uses.iter().find(|one| one.members > replicas) {
-        Some(one) => Err(fault(format!("groups of {} need as many replicas at a temperature, and --replicas says {replicas}", one.members))),
+        Some(one) => {
+            Err(fault(format!("groups of {} need as many replicas at a temperature, and --replicas says {replicas}", one.members)))
+        }
         None => Ok(uses),
     }
 }
@@ -55,5 +57,9 @@ pub fn parse(text: &str, replicas: usize) -> Result<Vec<Use>, Fault> {
 /// All moves in one word, as `parse` takes it.
 pub fn spell(uses: &[Use]) -> String {
     let words: Vec<String> = uses.iter().map(Use::to_string).collect();
-    if words.is_empty() { "none".into() } else { words.join(",") }
+    if words.is_empty() {
+        "none".into()
+    } else {
+        words.join(",")
+    }
 }

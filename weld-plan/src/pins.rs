@@ -9,7 +9,11 @@ const ROOM: usize = 1 << 20;
 
 /// The face's letter.
 pub fn letter(spin: i8) -> char {
-    if spin > 0 { 'A' } else { 'B' }
+    if spin > 0 {
+        'A'
+    } else {
+        'B'
+    }
 }
 
 /// One line, or nothing where there is no pin on it.

@@ -36,9 +36,11 @@ fn begin(panel: &Panel, config: &Config, term: &Term) -> Result<(State, Duration
     if term.resume {
         let (state, beside) = checkpoint::read(&term.out, panel, config)?;
         return match term.sweeps {
-            Some(sweeps) if sweeps < state.sweep => {
-                Err(Fault::input(format!("--sweeps {sweeps}: the checkpoint in {} is at sweep {} already", term.out.display(), state.sweep)))
-            }
+            Some(sweeps) if sweeps < state.sweep => Err(Fault::input(format!(
+                "--sweeps {sweeps}: the checkpoint in {} is at sweep {} already",
+                term.out.display(),
+                state.sweep
+            ))),
             _ => Ok((state, beside.took)),
         };
     }

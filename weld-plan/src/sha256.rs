@@ -1,7 +1,6 @@
 //! SHA-256 (FIPS 180-4), so that what a plan says of its list is what `sha256sum` says, and no crate is needed for it.
 
-const FIRST: [u32; 8] =
-    [0x6a09e667, 0xbb67ae85, 0x3c6ef372, 0xa54ff53a, 0x510e527f, 0x9b05688c, 0x1f83d9ab, 0x5be0cd19];
+const FIRST: [u32; 8] = [0x6a09e667, 0xbb67ae85, 0x3c6ef372, 0xa54ff53a, 0x510e527f, 0x9b05688c, 0x1f83d9ab, 0x5be0cd19];
 
 #[rustfmt::skip]
 const ROUNDS: [u32; 64] = [

@@ -15,7 +15,11 @@ pub struct Rate {
 impl Rate {
     /// The part that was done, from 0 to 1.
     pub fn part(self) -> f64 {
-        if self.tried == 0 { 0.0 } else { self.done as f64 / self.tried as f64 }
+        if self.tried == 0 {
+            0.0
+        } else {
+            self.done as f64 / self.tried as f64
+        }
     }
 }
 

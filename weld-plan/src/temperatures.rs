@@ -23,7 +23,11 @@ pub fn ladder(low: f64, high: f64, count: usize) -> Vec<f32> {
     let (mut least, mut most) = (1.0, high / low);
     for _ in 0..200 {
         let middle = least + (most - least) / 2.0;
-        if low * power(middle, count - 1) < high { least = middle } else { most = middle }
+        if low * power(middle, count - 1) < high {
+            least = middle
+        } else {
+            most = middle
+        }
     }
     let rung = |k: usize| if k + 1 == count { high as f32 } else { (low * power(least, k)) as f32 };
     (0..count).map(rung).collect()

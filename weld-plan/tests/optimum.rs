@@ -1,4 +1,4 @@
-//! On panels of 8 by 8 the plan is the best there is, worked out here by a transfer matrix from row to row.
+//! On panels of 8 by 8 the plan is the best there is, worked out here by a transfer matrix from row to row; on larger ones from seam to seam.
 mod common;
 use std::fs;
 
@@ -6,18 +6,18 @@ const SIDE: usize = 8;
 
 /// The couplings of a list, to the right and down, read here once more and without the library.
 struct Couplings {
-    right: [[i64; SIDE]; SIDE],
-    down: [[i64; SIDE]; SIDE],
+    right: Vec<Vec<i64>>,
+    down: Vec<Vec<i64>>,
 }
 
-fn couplings(list: &str) -> Couplings {
-    let mut c = Couplings { right: [[0; SIDE]; SIDE], down: [[0; SIDE]; SIDE] };
+fn couplings(list: &str, side: usize) -> Couplings {
+    let mut c = Couplings { right: vec![vec![0; side]; side], down: vec![vec![0; side]; side] };
     for line in list.lines().skip(1) {
         let numbers: Vec<i64> = line.split(' ').map(|word| word.parse().unwrap()).collect();
         let (i, j) = (numbers[0].min(numbers[1]) as usize - 1, numbers[0].max(numbers[1]) as usize - 1);
         match j - i {
-            1 => c.right[i / SIDE][i % SIDE] = numbers[2],
-            SIDE => c.down[i / SIDE][i % SIDE] = numbers[2],
+            1 => c.right[i / side][i % side] = numbers[2],
+            down if down == side => c.down[i / side][i % side] = numbers[2],
             _ => panic!("{line}"),
         }
     }
@@ -26,7 +26,11 @@ fn couplings(list: &str) -> Couplings {
 
 /// The spin of a column in a row's pattern.
 fn spin(pattern: usize, column: usize) -> i64 {
-    if pattern >> column & 1 == 1 { 1 } else { -1 }
+    if pattern >> column & 1 == 1 {
+        1
+    } else {
+        -1
+    }
 }
 
 /// The lowest total of all 2^64 plans that keep the pins (+1, -1, or 0 for none): row by row the lowest for each of its 256 patterns.
@@ -39,7 +43,8 @@ fn optimum(c: &Couplings, pins: &[i64]) -> i64 {
     let mut lowest: Vec<Option<i64>> = (0..256).map(|pattern| keeps(0, pattern).then(|| inside(0, pattern))).collect();
     for row in 1..SIDE {
         // the sum over columns depends on which of them agree alone
-        let between: Vec<i64> = (0..256).map(|agree| (0..SIDE).map(|column| -c.down[row - 1][column] * spin(agree, column)).sum()).collect();
+        let between: Vec<i64> =
+            (0..256).map(|agree| (0..SIDE).map(|column| -c.down[row - 1][column] * spin(agree, column)).sum()).collect();
         let from_above = |pattern: usize| {
             let sums = (0..256).filter_map(|above| lowest[above].map(|sum| sum + between[255 - (above ^ pattern)]));
             sums.min().map(|sum| sum + inside(row, pattern))
@@ -47,6 +52,27 @@ fn optimum(c: &Couplings, pins: &[i64]) -> i64 {
         lowest = (0..256).map(|pattern| if keeps(row, pattern) { from_above(pattern) } else { None }).collect();
     }
     lowest.into_iter().flatten().min().unwrap()
+}
+
+/// The lowest total of all plans without pins, seam by seam: for each pattern of the last row's worth of seams the lowest so far.
+fn by_seams(c: &Couplings) -> i64 {
+    let side = c.right.len();
+    let mut lowest = vec![0i32; 1 << side];
+    for row in 0..side {
+        for column in 0..side {
+            let above = if row == 0 { 0 } else { c.down[row - 1][column] as i32 };
+            let left = if column == 0 { 0 } else { c.right[row][column - 1] as i32 };
+            let bit = 1 << column;
+            for pattern in (0..1 << side).filter(|pattern| pattern & bit == 0) {
+                // the seam above was -1 or +1; its place in the pattern becomes the new seam's
+                let (minus, plus) = (lowest[pattern], lowest[pattern | bit]);
+                let left = if column > 0 && pattern >> (column - 1) & 1 == 1 { left } else { -left };
+                lowest[pattern] = (minus - above).min(plus + above) + left;
+                lowest[pattern | bit] = (minus + above).min(plus - above) - left;
+            }
+        }
+    }
+    lowest.into_iter().min().unwrap().into()
 }
 
 /// The total of the plan in a text, worked out from its faces, and the total that it says.
@@ -85,7 +111,7 @@ fn reaches(name: &str, largest: u32, seeds: std::ops::Range<u64>, flags: &str, p
         fs::write(folder.join("panel.txt"), &list).unwrap();
         common::good(&folder, &format!("--grid 8x8 --list panel.txt --pins pins.txt --quiet {flags} --out {seed}"));
         let plan = fs::read_to_string(folder.join(seed.to_string()).join("plan.txt")).unwrap();
-        let c = couplings(&list);
+        let c = couplings(&list, SIDE);
         let (total, said) = told(&plan, &c);
         assert_eq!((total, said), (optimum(&c, &pins), total), "{name} {seed}");
         for (seam, face) in pinned {
@@ -98,11 +124,47 @@ fn reaches(name: &str, largest: u32, seeds: std::ops::Range<u64>, flags: &str, p
 #[test]
 fn the_transfer_matrix_is_right_on_what_can_be_counted() {
     // all couplings 1: the best is all alike; with one pair of pins against each other a corner turns
-    let all = Couplings { right: [[1; SIDE]; SIDE], down: [[1; SIDE]; SIDE] };
-    assert_eq!(optimum(&all, &[0; 64]), -112);
+    let mut all = Couplings { right: vec![vec![1; SIDE]; SIDE], down: vec![vec![1; SIDE]; SIDE] };
+    all.right.iter_mut().for_each(|row| row[SIDE - 1] = 0);
+    all.down[SIDE - 1].fill(0);
+    assert_eq!((optimum(&all, &[0; 64]), by_seams(&all)), (-112, -112));
     let mut pins = [0; 64];
     (pins[0], pins[63]) = (1, -1);
     assert_eq!(optimum(&all, &pins), -112 + 4);
+    for seed in 1..9 {
+        let c = couplings(&common::list("8x8", [seed, 2, 3, 4], 40), SIDE);
+        assert_eq!(optimum(&c, &[0; 64]), by_seams(&c));
+    }
+}
+
+/// What a day of this many sweeps on a square panel says its total is, and the lowest there is.
+fn larger(side: usize, seed: u64, sweeps: u32) -> (i64, i64) {
+    let folder = common::folder(&format!("best-{side}-{seed}"));
+    let list = common::list(&format!("{side}x{side}"), [seed, 2, 3, 4], 40);
+    fs::write(folder.join("panel.txt"), &list).unwrap();
+    common::good(&folder, &format!("--grid {side}x{side} --list panel.txt --quiet --sweeps {sweeps}"));
+    let plan = fs::read_to_string(folder.join("plan/plan.txt")).unwrap();
+    let line = plan.lines().find(|line| line.starts_with("total distortion: ")).unwrap();
+    (line.split(' ').nth(2).unwrap().parse().unwrap(), by_seams(&couplings(&list, side)))
+}
+
+#[test]
+fn sixteen_by_sixteen() {
+    for seed in 1..4 {
+        let (total, lowest) = larger(16, seed, 400);
+        assert_eq!(total, lowest, "{seed}");
+    }
+}
+
+/// The panels of docs/DAY.md: half a minute and 64 MB for each.
+#[test]
+#[ignore]
+fn twenty_four_by_twenty_four() {
+    for seed in 1..6 {
+        let (total, lowest) = larger(24, seed, 2000);
+        println!("panel {seed}: {total}, the lowest is {lowest}");
+        assert_eq!(total, lowest, "{seed}");
+    }
 }
 
 #[test]
@@ -124,7 +186,9 @@ fn with_pins_too() {
 
 #[test]
 fn every_mode_and_form_reaches_it() {
-    for mode in ["none", "houd", "perm", "gperm", "jorg", "cmr", "pair:wolff", "pair:grow", "perm:grow:3", "gperm:grow", "jorg:grow", "cmr:grow"] {
+    for mode in
+        ["none", "houd", "perm", "gperm", "jorg", "cmr", "pair:wolff", "pair:grow", "perm:grow:3", "gperm:grow", "jorg:grow", "cmr:grow"]
+    {
         let flags = format!("--sweeps 300 --replicas 4 --temperatures 8 --modes {mode}");
         reaches(&format!("best-{}", mode.replace(':', "-")), 40, 1..2, &flags, &[]);
     }

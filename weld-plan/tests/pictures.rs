@@ -39,7 +39,9 @@ fn numbers(svg: &str, attribute: &str) -> Vec<f64> {
 /// Everything lies on the paper.
 fn inside(svg: &str) {
     let (width, height) = (numbers(svg, "width")[0], numbers(svg, "height")[0]);
-    for (attribute, most) in [("x", width), ("x1", width), ("x2", width), ("cx", width), ("y", height), ("y1", height), ("y2", height), ("cy", height)] {
+    for (attribute, most) in
+        [("x", width), ("x1", width), ("x2", width), ("cx", width), ("y", height), ("y1", height), ("y2", height), ("cy", height)]
+    {
         assert!(numbers(svg, attribute).iter().all(|&number| (0.0..=most).contains(&number)), "{attribute}");
     }
     for points in svg.split(" points=\"").skip(1) {

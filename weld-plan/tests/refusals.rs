@@ -101,8 +101,16 @@ fn flags() {
 #[test]
 fn folders_that_cannot_be_written() {
     let folder = set_up("bad-folders");
-    refused(&folder, "--grid 3x2 --list panel.txt --out panel.txt", "the folder panel.txt cannot be made: a file is in the way of a folder");
-    refused(&folder, "--grid 3x2 --list panel.txt --out panel.txt/x", "the folder panel.txt/x cannot be made: a file is in the way of a folder");
+    refused(
+        &folder,
+        "--grid 3x2 --list panel.txt --out panel.txt",
+        "the folder panel.txt cannot be made: a file is in the way of a folder",
+    );
+    refused(
+        &folder,
+        "--grid 3x2 --list panel.txt --out panel.txt/x",
+        "the folder panel.txt/x cannot be made: a file is in the way of a folder",
+    );
 }
 
 /// A limit on the size of files stands in for a full disk: the write fails in its middle.
@@ -118,7 +126,9 @@ fn a_full_disk_leaves_the_old_files() {
         std::process::Command::new("sh").args(["-c", &line]).current_dir(&folder).output().unwrap()
     };
     // room for the checkpoint and not for the pictures, and then for neither
-    for (blocks, flags, what) in [(16, "--sweeps 4 --out plan --resume", "plan/plan.svg"), (1, "--sweeps 4 --out plan --resume", "plan/checkpoint")] {
+    for (blocks, flags, what) in
+        [(16, "--sweeps 4 --out plan --resume", "plan/plan.svg"), (1, "--sweeps 4 --out plan --resume", "plan/checkpoint")]
+    {
         let output = limited(blocks, flags);
         let said = format!("weld-plan: {what} cannot be written: the file would be larger than this user may write\n");
         assert_eq!((output.status.code(), String::from_utf8(output.stderr).unwrap()), (Some(2), said));

@@ -98,7 +98,9 @@ fn another_day_is_refused() {
     refused(&format!("{DAY} --sweeps 5 --out nowhere --resume"), "nowhere/checkpoint cannot be read: it is not there");
     let text = fs::read_to_string(folder.join("whole/checkpoint")).unwrap();
     let damaged = "whole/checkpoint is damaged or no checkpoint of this program; without --resume a new day is begun in an empty folder";
-    for bad in [text.replacen("spins +", "spins -", 1), text.replacen("sweep 10", "sweep 11", 1), text[..text.len() - 2].into(), String::new()] {
+    for bad in
+        [text.replacen("spins +", "spins -", 1), text.replacen("sweep 10", "sweep 11", 1), text[..text.len() - 2].into(), String::new()]
+    {
         assert_ne!(bad, text);
         fs::write(folder.join("whole/checkpoint"), bad).unwrap();
         refused(&format!("{DAY} --sweeps 20 --out whole --resume"), damaged);

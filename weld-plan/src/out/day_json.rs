@@ -10,11 +10,7 @@ fn list<T: ToString>(numbers: impl IntoIterator<Item = T>) -> String {
 }
 
 fn rates(rates: &[Rate]) -> String {
-    format!(
-        "{{\"tried\": {}, \"accepted\": {}}}",
-        list(rates.iter().map(|rate| rate.tried)),
-        list(rates.iter().map(|rate| rate.done))
-    )
+    format!("{{\"tried\": {}, \"accepted\": {}}}", list(rates.iter().map(|rate| rate.tried)), list(rates.iter().map(|rate| rate.done)))
 }
 
 /// What each of the library's moves did.

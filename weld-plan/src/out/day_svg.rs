@@ -41,7 +41,11 @@ fn ticks(low: i64, high: i64, about: i64) -> Vec<i64> {
 
 /// A number's place between two others, on a line from `start` of `length`.
 fn place(value: f64, low: f64, high: f64, start: f64, length: f64) -> f64 {
-    if high == low { start } else { start + (value - low) / (high - low) * length }
+    if high == low {
+        start
+    } else {
+        start + (value - low) / (high - low) * length
+    }
 }
 
 /// The course's scales: sweeps, and hundredths of a millimetre.
@@ -54,24 +58,29 @@ struct Scale {
 impl Scale {
     fn of(points: &[Point], replicas: f64) -> Scale {
         let last = points.last().map_or(0, |point| point.sweep).max(1) as f64;
-        let means = points.iter().flat_map(|point| point.sums.iter().map(|&sum| sum as f64 / replicas));
+        // the morning's totals are drawn by coins, and far above all that follows: the scale is of what comes after the first twentieth
+        let later = points.iter().filter(|point| point.sweep as f64 * 20.0 >= last);
+        let means = later.flat_map(|point| point.sums.iter().map(|&sum| sum as f64 / replicas));
         let low = points.iter().map(|point| point.best).min().unwrap_or(0) as f64;
         let high = means.fold(low, f64::max).max(low + 1.0);
-        // a little room below the best and above the highest
+        // a little room below the best, and above the highest for words
         let room = (high - low) * 0.04;
-        Scale { last, low: low - room, high: high + room }
+        Scale { last, low: low - room, high: high + 2.0 * room }
     }
 
     fn x(&self, sweep: f64) -> f64 {
         place(sweep, 0.0, self.last, COURSE[0], COURSE[2])
     }
 
+    /// What is above the scale comes in from its upper edge.
     fn y(&self, total: f64) -> f64 {
-        place(total, self.high, self.low, COURSE[1], COURSE[3])
+        place(total.min(self.high), self.high, self.low, COURSE[1], COURSE[3])
     }
 }
 
 const GRID: &str = "stroke=\"#e3e3e3\" stroke-width=\"1\"";
+/// White around letters that lie on lines.
+const HALO: &str = "stroke=\"#fff\" stroke-width=\"4\" stroke-linejoin=\"round\" paint-order=\"stroke\"";
 const SMALL: &str = "font-size=\"11\" fill=\"#555\"";
 
 fn axes(svg: &mut Svg, scale: &Scale) {
@@ -86,7 +95,8 @@ fn axes(svg: &mut Svg, scale: &Scale) {
         svg.line("tick", [x, top, x, top + height], GRID);
         svg.text([x, top + height + 17.0], &format!("text-anchor=\"middle\" {SMALL}"), &tick.to_string());
     }
-    svg.text([left + width / 2.0, top + height + 36.0], &format!("text-anchor=\"middle\" {SMALL}"), "sweeps");
+    let words = "sweeps (the morning's totals, drawn by coins, lie above the picture)";
+    svg.text([left + width / 2.0, top + height + 36.0], &format!("text-anchor=\"middle\" {SMALL}"), words);
     let style = format!("transform=\"rotate(-90 22 {:.1})\" text-anchor=\"middle\" {SMALL}", top + height / 2.0);
     svg.text([22.0, top + height / 2.0], &style, "distortion in millimetres");
 }
@@ -97,7 +107,8 @@ fn course(svg: &mut Svg, day: &Day, points: &[Point]) {
     axes(svg, &scale);
     let t = day.config.temperatures.len();
     for j in (0..t).rev() {
-        let means: Vec<[f64; 2]> = points.iter().map(|point| [scale.x(point.sweep as f64), scale.y(point.sums[j] as f64 / replicas)]).collect();
+        let means: Vec<[f64; 2]> =
+            points.iter().map(|point| [scale.x(point.sweep as f64), scale.y(point.sums[j] as f64 / replicas)]).collect();
         svg.path("temperature", &means, &format!("stroke=\"{}\" stroke-width=\"1.2\" stroke-opacity=\"0.85\"", colour(j, t)));
     }
     // the best falls in steps: it stays what it was until the sweep at which it is better
@@ -116,7 +127,7 @@ fn course(svg: &mut Svg, day: &Day, points: &[Point]) {
     svg.circle("found", [x, y, 4.0], "fill=\"#111\"");
     let (anchor, aside) = if x > COURSE[0] + COURSE[2] * 0.6 { ("end", -8.0) } else { ("start", 8.0) };
     let words = format!("best {} mm at sweep {}", millimetres(best.total), best.sweep);
-    svg.text([x + aside, COURSE[1] + 16.0], &format!("text-anchor=\"{anchor}\" font-weight=\"bold\""), &words);
+    svg.text([x + aside, COURSE[1] + 16.0], &format!("text-anchor=\"{anchor}\" font-weight=\"bold\" {HALO}"), &words);
 }
 
 /// A temperature with one decimal, which is enough to tell them apart in a key.
@@ -159,9 +170,9 @@ fn rates(svg: &mut Svg, day: &Day) {
         let (x, tall) = (left + j as f64 * step, rate.part() * height);
         svg.rect("rate", [x + step * 0.15, top + height - tall, step * 0.7, tall], &format!("fill=\"{}\"", colour(j, temperatures.len())));
         if j % every == 0 {
-            let style = format!("text-anchor=\"middle\" font-size=\"10\" fill=\"#555\"");
-            svg.text([x + step / 2.0, top + height + 15.0], &style, &degree(temperatures[j]));
-            svg.text([x + step / 2.0, top + height + 27.0], &style, &degree(temperatures[j + 1]));
+            let style = "text-anchor=\"middle\" font-size=\"10\" fill=\"#555\"";
+            svg.text([x + step / 2.0, top + height + 15.0], style, &degree(temperatures[j]));
+            svg.text([x + step / 2.0, top + height + 27.0], style, &degree(temperatures[j + 1]));
         }
     }
     let words = "colder and hotter temperature, in hundredths of a millimetre";

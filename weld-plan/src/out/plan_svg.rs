@@ -12,7 +12,7 @@ const WORST: &str = "#b3123a";
 
 const LEFT: f64 = 48.0;
 const TOP: f64 = 84.0;
-const KEY_WIDTH: f64 = 290.0;
+const KEY_WIDTH: f64 = 310.0;
 
 /// How large a seam's square is.
 fn cell(grid: Grid) -> f64 {
@@ -37,8 +37,8 @@ fn seams(svg: &mut Svg, grid: Grid, plan: &Plan) {
 }
 
 fn ring(svg: &mut Svg, class: &str, [x, y]: [f64; 2], side: f64) {
-    let width = (side * 0.1).max(1.5);
-    svg.circle(class, [x, y, side * 0.24], &format!("fill=\"#fff\" stroke=\"#111\" stroke-width=\"{width:.1}\""));
+    let width = (side * 0.1).clamp(1.5, 3.0);
+    svg.circle(class, [x, y, (side * 0.24).min(8.0)], &format!("fill=\"#fff\" stroke=\"#111\" stroke-width=\"{width:.1}\""));
 }
 
 /// A bar from seam to seam, with its place among the worst.
@@ -47,7 +47,9 @@ fn bar(svg: &mut Svg, class: &str, [x, y, u, v]: [f64; 4], side: f64, place: usi
     let bar = [x, y, u, v];
     svg.line("halo", bar, &format!("stroke=\"#fff\" stroke-width=\"{:.1}\" stroke-linecap=\"round\"", width + 2.5));
     svg.line(class, bar, &format!("stroke=\"{WORST}\" stroke-width=\"{width:.1}\" stroke-linecap=\"round\""));
-    let middle = [(x + u) / 2.0, (y + v) / 2.0];
+    // on small squares the number would hide the bar, and stands aside
+    let aside = if side < 18.0 { 10.0 } else { 0.0 };
+    let middle = if y == v { [(x + u) / 2.0, y - aside] } else { [x + aside, (y + v) / 2.0] };
     svg.circle("number", [middle[0], middle[1], 7.5], &format!("fill=\"#fff\" stroke=\"{WORST}\" stroke-width=\"1.5\""));
     let style = "font-size=\"9.5\" font-weight=\"bold\" text-anchor=\"middle\"";
     svg.text([middle[0], middle[1] + 3.4], style, &place.to_string());
@@ -56,7 +58,13 @@ fn bar(svg: &mut Svg, class: &str, [x, y, u, v]: [f64; 4], side: f64, place: usi
 /// The numbers of rows and columns, as many as there is room for.
 fn numbers(svg: &mut Svg, grid: Grid) {
     let side = cell(grid);
-    let every = if side < 16.0 { 8 } else if side < 30.0 { 4 } else { 1 };
+    let every = if side < 16.0 {
+        8
+    } else if side < 30.0 {
+        4
+    } else {
+        1
+    };
     let told = |k: usize, last: usize| k == 0 || (k + 1) % every == 0 || (k + 1 == last && last < every);
     svg.open_group("numbers", "font-size=\"11\" fill=\"#666\"");
     for column in (0..grid.width).filter(|&column| told(column, grid.width)) {
@@ -93,7 +101,7 @@ fn key(svg: &mut Svg, day: &Day, plan: &Plan, x: f64) {
         svg.circle("key", [x + 9.0, y - 4.0, 8.5], &format!("fill=\"#fff\" stroke=\"{WORST}\" stroke-width=\"1.5\""));
         svg.text([x + 9.0, y], "font-size=\"10\" font-weight=\"bold\" text-anchor=\"middle\"", &(k + 1).to_string());
         svg.text([x + 28.0, y], "", &format!("seams {} and {}", a + 1, b + 1));
-        svg.text([x + 235.0, y], "text-anchor=\"end\"", &format!("{} mm", millimetres(adds.into())));
+        svg.text([x + 275.0, y], "text-anchor=\"end\"", &format!("{} mm", millimetres(adds.into())));
     }
 }
 
@@ -110,13 +118,13 @@ pub fn draw(day: &Day, plan: &Plan) -> String {
     svg.text([LEFT, 52.0], "font-size=\"11\" fill=\"#666\"", &format!("list: sha256 {}", day.panel.checksum));
     numbers(&mut svg, grid);
     seams(&mut svg, grid, plan);
-    for site in (0..day.panel.n).filter(|&site| day.panel.pins[site] == 1) {
-        ring(&mut svg, "pinned", middle(grid, site), side);
-    }
     // the worst last, so that nothing lies on it
     for (k, &(a, b, _)) in plan.worst.iter().enumerate().rev() {
         let ([x, y], [u, v]) = (middle(grid, a), middle(grid, b));
         bar(&mut svg, "worst", [x, y, u, v], side, k + 1);
+    }
+    for site in (0..day.panel.n).filter(|&site| day.panel.pins[site] == 1) {
+        ring(&mut svg, "pinned", middle(grid, site), side);
     }
     key(&mut svg, day, plan, key_left);
     let counted = "Seams are counted from 1, row by row from the top left; rows and columns are numbered at the edges.";
