@@ -11,6 +11,8 @@ pub struct Progress {
     quiet: bool,
     terminal: bool,
     last: Option<Instant>,
+    /// Whether the cursor stands behind a line that is shown in one place.
+    behind: bool,
     /// What was counted when the last line was shown: rates and sizes are those since then.
     exchanges: Rate,
     tallies: Vec<Tally>,
@@ -42,7 +44,15 @@ fn all(rates: &[Rate]) -> Rate {
 impl Progress {
     pub fn new(quiet: bool, day: &Day) -> Progress {
         let terminal = std::io::stderr().is_terminal();
-        Progress { quiet, terminal, last: None, exchanges: all(&day.state.exchanges), tallies: day.state.tallies.clone(), found: None }
+        Progress {
+            quiet,
+            terminal,
+            last: None,
+            behind: false,
+            exchanges: all(&day.state.exchanges),
+            tallies: day.state.tallies.clone(),
+            found: None,
+        }
     }
 
     /// A better plan was found.
@@ -92,15 +102,17 @@ impl Progress {
     pub fn show(&mut self, day: &Day, term: &Term, took: Duration) {
         let line = self.line(day, term, took);
         let mut stderr = std::io::stderr();
-        let _ = if self.terminal { write!(stderr, "\r\x1b[2K{line}") } else { writeln!(stderr, "{line}") };
+        // without wrapping, so that a narrow terminal shows the line's front and not a heap of them
+        let _ = if self.terminal { write!(stderr, "\r\x1b[2K\x1b[?7l{line}\x1b[?7h") } else { writeln!(stderr, "{line}") };
+        self.behind = self.terminal;
         let _ = stderr.flush();
         (self.last, self.exchanges, self.tallies) = (Some(Instant::now()), all(&day.state.exchanges), day.state.tallies.clone());
     }
 
     /// Says one thing on a line of its own.
-    pub fn say(&self, sentence: &str) {
+    pub fn say(&mut self, sentence: &str) {
         if !self.quiet {
-            let start = if self.terminal && self.last.is_some() { "\n" } else { "" };
+            let start = if std::mem::take(&mut self.behind) { "\n" } else { "" };
             let _ = writeln!(std::io::stderr(), "{start}{sentence}");
         }
     }

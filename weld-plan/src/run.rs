@@ -135,7 +135,8 @@ pub fn run(arguments: &[OsString]) -> Result<u8, Fault> {
     if matches!(end, End::Done) {
         save(&day, &term, took, true)?;
     }
-    progress.say(&said(&day, &term, &progress, took));
+    let reached = said(&day, &term, &progress, took);
+    progress.say(&reached);
     match end {
         End::Done => Ok(0),
         End::Stopped(number) => {
