@@ -57,6 +57,18 @@ fn save(day: &Day, term: &Term, took: Duration, ended: bool) -> Result<(), Fault
     checkpoint::write(&term.out, &day.panel, &day.config, &day.state, &Beside { took, ended })
 }
 
+/// The folder and a first checkpoint in it: a disk that cannot be written is told in the morning, and not at five.
+fn begin_on_disk(day: &Day, term: &Term, before: Duration) -> Result<(), Fault> {
+    let new = !term.out.exists();
+    files::make_folder(&term.out)?;
+    save(day, term, before, false).inspect_err(|_| {
+        // a folder with something in it is not removed
+        if new {
+            let _ = std::fs::remove_dir(&term.out);
+        }
+    })
+}
+
 /// Sweeps until the day's end or a signal, with a checkpoint and a line of progress now and then. Neither changes a sweep.
 fn sweeps(day: &mut Day, term: &Term, clock: &Clock, progress: &mut Progress) -> Result<End, Fault> {
     let mut saved = Instant::now();
@@ -118,9 +130,7 @@ pub fn run(arguments: &[OsString]) -> Result<u8, Fault> {
     let mut day = Day::new(panel, config, state);
     day.held_to_the_meter()?;
     signal::listen();
-    files::make_folder(&term.out)?;
-    // a disk that cannot be written is told in the morning, and not at five
-    save(&day, &term, before, false)?;
+    begin_on_disk(&day, &term, before)?;
     let clock = Clock { before, began: Instant::now() };
     let mut progress = Progress::new(term.quiet, &day);
     let end = sweeps(&mut day, &term, &clock, &mut progress)?;

@@ -135,6 +135,9 @@ fn a_full_disk_leaves_the_old_files() {
         assert_eq!(common::files(&folder.join("plan")), before);
         assert_eq!(common::names(&folder.join("plan")), ["checkpoint", "day.json", "day.svg", "plan.svg", "plan.txt"]);
     }
+    // nor is a folder left behind that has nothing in it
+    assert_eq!(limited(1, "--sweeps 4 --out other").status.code(), Some(2));
+    assert!(!folder.join("other").exists());
     // with room again the day goes on
     common::good(&folder, &format!("{day} --sweeps 4 --out plan --resume"));
     assert_ne!(common::files(&folder.join("plan")), before);
