@@ -5,33 +5,18 @@
 //! For each panel, of sizes 1 to 40 and coins for signs, a long day with pair and CMR sweeps says what is taken for the best. Then
 //! a day of each of the MODES, from another seed, runs until it has that, or MOST sweeps.
 use std::time::Instant;
-use tsorvenk::Source;
 use weld_plan::config::Config;
 use weld_plan::day::Day;
 use weld_plan::fault::Fault;
 use weld_plan::grid::Grid;
 use weld_plan::panel::Panel;
 use weld_plan::state::State;
-use weld_plan::{modes, temperatures};
+use weld_plan::{modes, sample, temperatures};
 
-/// The list of panel number k, as `make_list` makes it from the seed k, 2, 3, 4.
-fn list(grid: Grid, k: u64) -> String {
-    let mut source = Source::new([k, 2, 3, 4]).expect("not all 0");
-    (0..64).for_each(|_| _ = source.word());
-    let (fwd, _) = grid.tables();
-    let mut lines = Vec::new();
-    for (bond, &to) in fwd.iter().enumerate() {
-        let (size, sign) = (source.below(40).expect("1 to 4096") as i32 + 1, source.coin().expect("a coin") as i32 * 2 - 1);
-        let (from, to) = (bond / 2, to as usize);
-        if from < to && grid.neighbours(from, to) {
-            lines.push(format!("{} {} {}\n", from + 1, to + 1, size * sign));
-        }
-    }
-    format!("{} {}\n{}", grid.seams(), lines.len(), lines.concat())
-}
-
+/// A day on panel number k, which `make_list` makes from the seed k, 2, 3, 4.
 fn day(grid: Grid, k: u64, moves: &str, seed: [u64; 4]) -> Result<Day, Fault> {
-    let panel = Panel::from_list(list(grid, k).as_bytes(), grid).map_err(Fault::input)?;
+    let list = sample::list(grid, [k, 2, 3, 4], 40)?;
+    let panel = Panel::from_list(list.as_bytes(), grid).map_err(Fault::input)?;
     let temperatures = temperatures::parse("16", &panel.couplings)?;
     let config = Config { seed, temperatures, replicas: 4, modes: modes::parse(moves, 4)? };
     let state = State::new(&panel, &config)?;

@@ -20,6 +20,7 @@ pub mod panel;
 pub mod pins;
 pub mod progress;
 pub mod run;
+pub mod sample;
 pub mod series;
 pub mod sha256;
 pub mod signal;

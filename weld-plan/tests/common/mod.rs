@@ -3,25 +3,12 @@
 use std::fs;
 use std::path::{Path, PathBuf};
 use std::process::{Command, Output};
-use tsorvenk::{Source, WriteEdges, EDGES_ROOM};
-use weld_plan::grid::{Grid, D};
+use weld_plan::grid::Grid;
+use weld_plan::sample;
 
 /// The list of a panel whose couplings have sizes from 1 to `largest` and signs by coins.
 pub fn list(grid: &str, seed: [u64; 4], largest: u32) -> String {
-    let grid = Grid::parse(grid).unwrap();
-    let mut source = Source::new(seed).unwrap();
-    (0..64).for_each(|_| _ = source.word());
-    let (fwd, bwd) = grid.tables();
-    let mut couplings = vec![0; grid.seams() * D];
-    for bond in 0..couplings.len() {
-        let (size, sign) = (source.below(largest).unwrap() as i32 + 1, source.coin().unwrap() as i32 * 2 - 1);
-        if bond / D < fwd[bond] as usize && grid.neighbours(bond / D, fwd[bond] as usize) {
-            couplings[bond] = size * sign;
-        }
-    }
-    let mut room = vec![0; EDGES_ROOM];
-    let call = WriteEdges { n: grid.seams(), d: D, fwd: &fwd, bwd: &bwd, couplings: &couplings, text: &mut room };
-    String::from_utf8(tsorvenk::write_edges(call).unwrap().to_vec()).unwrap()
+    sample::list(Grid::parse(grid).unwrap(), seed, largest).unwrap()
 }
 
 /// An empty folder of this name.
