@@ -10,6 +10,9 @@ use weld_plan::{modes, pins};
 
 const TEMPERATURES: [f32; 4] = [6.0, 12.0, 20.0, 40.0];
 const SWEEPS: usize = 20_000;
+/// How far a mean may be off at each temperature: five times the root mean square of what the 32 days below were off by when this was
+/// written, 0.025, 0.094, 0.105 and 0.123.
+const ROOM: [f64; 4] = [0.13, 0.47, 0.53, 0.62];
 
 /// The mean total of all plans that keep the pins.
 fn mean_of_all(panel: &Panel, temperature: f64) -> f64 {
@@ -42,8 +45,7 @@ fn means_hold(moves: &str, pinned: &str) {
     }
     for (j, expected) in expected.into_iter().enumerate() {
         let mean = sums[j] as f64 / (4 * SWEEPS) as f64;
-        // totals spread over some tens: this is several times what 80,000 of them leave to chance
-        assert!((mean - expected).abs() < 0.7, "{moves} {pinned:?} at {}: {mean} in place of {expected}", TEMPERATURES[j]);
+        assert!((mean - expected).abs() < ROOM[j], "{moves} {pinned:?} at {}: {mean} in place of {expected}", TEMPERATURES[j]);
     }
 }
 
