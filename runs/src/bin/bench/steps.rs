@@ -315,6 +315,32 @@ mod threads {
         [steps, whole]
     }
 
+    /// The steps of as many sweeps' tasks as there are buffers: a thread that was just started shares its starter's core for a while, which one sweep is too
+    /// short to outlast.
+    fn together(case: &Swept, mode: tsorvenk::Mode, threads: usize, lents: &mut [Lent]) -> f64 {
+        let mut tasks = Vec::new();
+        for lent in lents.iter_mut() {
+            let call = sweep(case, mode, form_of(case.panel.form), lent);
+            tasks.extend(call.test(&case.lent.spins, &[]).unwrap().split().0);
+        }
+        microseconds(|| {
+            black_box(on_threads(tasks, threads));
+        })
+    }
+
+    /// Two threads over one, medians, for the tasks of 16 sweeps.
+    fn of_sixteen(bench: &Bench, case: &Swept, mode: tsorvenk::Mode) -> String {
+        let mut lents = vec![case.lent.clone(); 16];
+        let mut times = [Vec::new(), Vec::new()];
+        for _ in 0..bench.repetitions.div_ceil(4) {
+            for threads in [1, 2] {
+                times[threads - 1].push(together(case, mode, threads, &mut lents));
+            }
+        }
+        let [one, two] = times.each_mut().map(|times| median_and_least(times)[0]);
+        format!("{two:.0} / {one:.0} = {:.2}", two / one)
+    }
+
     fn run(bench: &mut Bench, case: &Swept, mode: tsorvenk::Mode) -> Runs {
         let expected = case.run(&mut Model).1;
         let (mut runs, mut lent) = (Runs::default(), case.lent.clone());
@@ -344,9 +370,9 @@ mod threads {
     pub fn tables(bench: &mut Bench) {
         let title = format!(
             "32 tasks of {N} sites, N = 2, D = {D}, by the crate's Sweep: their steps on two threads / on one, medians, and the least of each; \
-            the sweep as one call, and test, split, steps and merge on one thread and on two, medians"
+            the steps of 16 such sweeps' tasks, medians; the sweep as one call, and test, split, steps and merge on one thread and on two, medians"
         );
-        let columns = ["two / one", "the least", "one call", "on one", "on two"];
+        let columns = ["two / one", "the least", "of 16 sweeps", "one call", "on one", "on two"];
         head(&title, "Mode and form", &columns);
         for (mode, named) in Mode::ALL.into_iter().zip(tsorvenk::Mode::ALL) {
             for form in Form::ALL {
@@ -360,11 +386,12 @@ mod threads {
                 let cells = vec![
                     bench.cell(two[0], Some(one[0]), |_| String::new()),
                     format!("{:.0} / {:.0} = {:.2}", two[1], one[1], two[1] / one[1]),
+                    of_sixteen(bench, &case, named),
                     format!("{:.0}", median_and_least(&mut runs.call)[0]),
                     format!("{on_one:.0}"),
                     format!("{on_two:.0}"),
                 ];
-                row(&format!("{} {}", mode.name(), form.name()), cells, 5);
+                row(&format!("{} {}", mode.name(), form.name()), cells, 6);
             }
         }
         bench.ratios.print();
