@@ -15,7 +15,7 @@ import re
 import sys
 
 ROOT = os.path.join(os.path.dirname(os.path.dirname(os.path.realpath(__file__))), "crates")
-DECLARED = re.compile(r"^\s*(?:(?:abbrev|unfoldable|pub|opaque|instance|private)\s+)*([^\s(){}:;,=|]+(?: [^\s(){}:;,=|]+)*) : ")
+DECLARED = re.compile(r"^\s*(?:(?:abbrev|unfoldable|pub|opaque|instance|private)\s+)*([^\s(){}:;,=|]+(?: [^\s(){}:;,=|]+)*) :(?: |$)")
 WORD = re.compile(r"[^\s(){}\[\];,.:`\"⌜⌝⟦⟧|]+")
 # fields of several records, which no scope has beside one another
 FIELDS = {"grey-found", "grey-labels", "greyFound", "greyLabels"}

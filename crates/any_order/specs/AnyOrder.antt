@@ -8,12 +8,12 @@ use Rattle.paper.specs.Refusal.Rule.{Kept, broken_not_kept}
 use Rattle.paper.specs.Refusal.Verdict.{Verdict}
 use Rattle.paper.specs.Answer.Totals.{swept_rules, SweepKeepAnswers}
 use Rattle.paper.specs.Answer.Task.{Sweep, tasks, masked}
-use Rattle.laws.specs.KeepDetermined.{SameSweepKept, sweep-keep-determined}
+use Rattle.laws.specs.KeepDetermined.{SameSweepKept, sweep_keep_determined}
 use Rattle.any_order.specs.Schedule.{Key, Turn, Steps, Run, Alone, Ordered}
 use Rattle.any_order.specs.Commute.{each_alone, others_untouched}
 use Rattle.any_order.specs.EachTurn.{Claim, EachTurn, each_turn}
 use Rattle.any_order.specs.Tasks.{Holding, DoesFor, Holds, Merged, swept_by}
-use Rattle.any_order.specs.NoRefusal.{Unrefused, first_unrefused, second-unrefused, third-unrefused}
+use Rattle.any_order.specs.NoRefusal.{Unrefused, first_unrefused, second_unrefused, third_unrefused}
 use Rattle.any_order.specs.Sweeping.{tasks_sweep}
 use Rattle.any_order.specs.HandedBack.{sweep_merged}
 use Rattle.any_order.specs.Unmasked.{key, unmasked_tasks, stepping, Unmasked, listed_is, tasks_listed, tasks_once}
@@ -43,8 +43,8 @@ module _
         each_turn Good (NotRefused keeping w)
         (record {
           first = λ q h₀ h₁ g. first_unrefused keeping w b ts accepted q.task g.0.below g.0.unmasked h₀ g.1 h₁;
-          second = λ q h₀ h₁ h₂ g. second-unrefused keeping w b ts accepted q.task g.0.below g.0.unmasked h₀ g.1 h₁ h₂;
-          third = λ q h₀ h₁ h₂ h₃ g. third-unrefused keeping w b ts accepted q.task g.0.below g.0.unmasked h₀ g.1 h₁ h₂ h₃;
+          second = λ q h₀ h₁ h₂ g. second_unrefused keeping w b ts accepted q.task g.0.below g.0.unmasked h₀ g.1 h₁ h₂;
+          third = λ q h₀ h₁ h₂ h₃ g. third_unrefused keeping w b ts accepted q.task g.0.below g.0.unmasked h₀ g.1 h₁ h₂ h₃;
         })
         (unmasked_tasks team w) xs ordered (λ q l. good q (listed_is team w q l)) run
       where
@@ -65,13 +65,13 @@ module _
     any_order b' us m = tasks_sweep keeping w b ts accepted (λ k. st (key team k)) (λ k. st' (key team k)) b' us m starts steps
 
     -- so it is whatever the sweep answers and leaves by ascending tasks
-    pub same-as-ascending :
+    pub same_as_ascending :
         (b' : Buffers) (us : List ℤ) (a : SweepAnswer) (d : Buffers) (vs : List ℤ)
         → Merged w b ts (λ k. st' (key team k)) b' us
         → SweepKeepAnswers keeping w b ts a d vs
         → SameSweepKept (swept_by w (λ k. st' (key team k))) b' us a d vs
-    same-as-ascending b' us a d vs m f =
-        sweep-keep-determined keeping w b ts b' d us vs (swept_by w (λ k. st' (key team k))) a (any_order b' us m) f
+    same_as_ascending b' us a d vs m f =
+        sweep_keep_determined keeping w b ts b' d us vs (swept_by w (λ k. st' (key team k))) a (any_order b' us m) f
 
     -- and that can be put together so
     pub ascending_merges : (a : SweepAnswer) (d : Buffers) (vs : List ℤ) → SweepKeepAnswers keeping w b ts a d vs → Merged w b ts (λ k. st' (key team k)) d vs
@@ -95,7 +95,7 @@ abbrev pub answer_of : ℕ → Sweep → (ℕ → Holding) → SweepAnswer
 answer_of zero w held = swept_by w held
 answer_of (suc r) w held = Fault (suc r)
 
-pub run-answers :
+pub run_answers :
     (keeping : Bool) (w : Sweep) (b : Buffers) (ts : List ℤ) (team : ℕ) (xs : List Turn) (st st' : Key → Holding) (r : ℕ) (b' : Buffers) (us : List ℤ)
     → Verdict (swept_rules keeping w b ts) r
     → Begins r w b ts (λ k. st (key team k))
@@ -103,14 +103,14 @@ pub run-answers :
     → Run (SweepSteps keeping w) xs st st'
     → Ends r w b ts (λ k. st' (key team k)) b' us
     → SweepKeepAnswers keeping w b ts (answer_of r w (λ k. st' (key team k))) b' us
-run-answers keeping w b ts team xs st st' zero b' us v starts o run m = any_order keeping w b ts team xs st st' v starts o run b' us m
-run-answers keeping w b ts team xs st st' (suc r) b' us v starts o run m = record { why = v; kept = m.0; totals_kept = m.1 }
+run_answers keeping w b ts team xs st st' zero b' us v starts o run m = any_order keeping w b ts team xs st st' v starts o run b' us m
+run_answers keeping w b ts team xs st st' (suc r) b' us v starts o run m = record { why = v; kept = m.0; totals_kept = m.1 }
 
 -- no task of a refused sweep holds anything else than it did
-pub refused-untouched :
+pub refused_untouched :
     (keeping : Bool) (w : Sweep) (team : ℕ) (xs : List Turn) (st st' : Key → Holding) (r : ℕ)
     → Ordered (stepping (suc r) team w) xs
     → Run (SweepSteps keeping w) xs st st'
     → (q : Key)
     → st' q ≡ st q
-refused-untouched keeping w team xs st st' r o run q = others_untouched (stepping (suc r) team w) xs tt o run q (λ h. h)
+refused_untouched keeping w team xs st st' r o run q = others_untouched (stepping (suc r) team w) xs tt o run q (λ h. h)

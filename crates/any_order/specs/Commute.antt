@@ -54,12 +54,12 @@ behind : {ys zs : List Turn} (xs : List Turn) → Exchanged ys zs → Exchanged 
 behind [] e = e
 behind (x ∷ xs) e = Exchanged.later (behind xs e)
 
-pub neighbours-commute :
+pub neighbours_commute :
     {Holding : Type 0} {Does : Steps Holding} {st st' : Key → Holding} (a b : Turn) (xs ys : List Turn)
     → a.key ≢ b.key
     → Run Does (xs ++ (a ∷ b ∷ ys)) st st'
     → Run Does (xs ++ (b ∷ a ∷ ys)) st st'
-neighbours-commute a b xs ys ne = exchanged_run (behind xs (Exchanged.swap ne))
+neighbours_commute a b xs ys ne = exchanged_run (behind xs (Exchanged.swap ne))
 
 -- ---- every order can be exchanged into one task after another
 abbrev turns_of : Key → List Step → List Turn

@@ -50,10 +50,10 @@ module _ {Holding : Type 0} {Does : Steps Holding} (Good : Key → Holding → T
   taken {q} {h = h} {h' = h'} (Stage.labelled {h₀ = h₀} g a) d = (f.second q h₀ h h' g a d, Stage.chosen g a d)
   taken {q} {h = h} {h' = h'} (Stage.chosen {h₀ = h₀} {h₁ = h₁} g a b) d = (f.third q h₀ h₁ h h' g a b d, Stage.done)
 
-  from-stages :
+  from_stages :
       (xs : List Turn) {st st' : Key → Holding} → ((q : Key) → Stage Does Good q (steps_of q xs) (st q)) → (r : Run Does xs st st') → EachTurn Fine r
-  from-stages [] at Run.over = tt
-  from-stages (x ∷ xs) {st} at (Run.first {st₁ = st₁} t r) = (now.0, from-stages xs (λ q. next q (same_key q x.key)) r)
+  from_stages [] at Run.over = tt
+  from_stages (x ∷ xs) {st} at (Run.first {st₁ = st₁} t r) = (now.0, from_stages xs (λ q. next q (same_key q x.key)) r)
     where
       now : Fine x.key x.step (st x.key) (st₁ x.key) t.own × Stage Does Good x.key (steps_of x.key xs) (st₁ x.key)
       now =
@@ -73,7 +73,7 @@ module _ {Holding : Type 0} {Does : Steps Holding} (Good : Key → Holding → T
       → ((q : Key) → In q ks → Good q (st q))
       → (r : Run Does xs st st')
       → EachTurn Fine r
-  each_turn ks xs {st} o good = from-stages xs (λ q. at q (in_list q ks))
+  each_turn ks xs {st} o good = from_stages xs (λ q. at q (in_list q ks))
     where
       at : (q : Key) → In q ks ⊎ (In q ks → ⊥) → Stage Does Good q (steps_of q xs) (st q)
       at q (inl h) = subst (λ (ss : List Step). Stage Does Good q ss (st q)) (sym (o.each q h)) (Stage.fresh (good q h))

@@ -14,12 +14,12 @@ use Rattle.paper.specs.Answer.Task.{Sweep, tasks, masked, task_call, task_choice
 use Rattle.paper.specs.Answer.Sweep.{Done}
 use Rattle.laws.specs.AnswersLocal.{with_spins}
 use Rattle.laws.specs.Determined.{determined}
-use Rattle.laws.specs.SameView.{totals-alike, totals-stay, totals_length}
+use Rattle.laws.specs.SameView.{totals_alike, totals_stay, totals_length}
 use Rattle.own_rows.specs.PutBack.{group_totals, total_at, PutBack, PutTotals}
 use Rattle.any_order.specs.Schedule.{Alone}
 use Rattle.any_order.specs.Tasks.{Holding, DoesFor, Holds, Handed, Merged}
 use Rattle.any_order.specs.Sound.{valid, asked, leads, within, distinct}
-use Rattle.any_order.specs.InPanel.{own_totals, in-panel}
+use Rattle.any_order.specs.InPanel.{own_totals, in_panel}
 use Rattle.any_order.specs.Sweeping.{as_row}
 
 -- ---- rows put back at their places, n columns each: the row k of `own` at g k
@@ -35,24 +35,24 @@ module _ (m : ℕ) (g : ℕ → ℕ) (n : ℕ) (xs own : List ℤ) where
   unfolding put_rows
   put_length = length_tabulate (length xs) _
 
-  put-cell :
+  put_cell :
       (t i : ℕ)
       → i < n
       → t * n + i < length xs
       → spin n (put_rows m g n xs own) t i ≡ placed (λ k. spin n own k i) (spin n xs t i) (place m g t)
   unfolding put_rows
-  put-cell t i hi l =
+  put_cell t i hi l =
       tabulate_at (length xs) (λ a. placed (λ k. spin n own k (a % n)) (get_or xs a (pos 0)) (place m g (a / n))) (t * n + i) l
       ∙ rw (row_of n t i hi, column_of_lem n t i hi) refl
 
-  put-group :
+  put_group :
       ((j k : ℕ) → j < m → k < m → g j ≡ g k → j ≡ k)
       → (k i : ℕ)
       → k < m
       → i < n
       → g k * n + i < length xs
       → spin n (put_rows m g n xs own) (g k) i ≡ spin n own k i
-  put-group distinct k i hk hi l = put-cell (g k) i hi l ∙ go (place m g (g k))
+  put_group distinct k i hk hi l = put_cell (g k) i hi l ∙ go (place m g (g k))
     where
       go : (q : Placed m g (g k) ⊎ Unplaced m g (g k)) → placed (λ j. spin n own j i) (spin n xs (g k) i) q ≡ spin n own k i
       go (inl q) = ap (λ (j : ℕ). spin n own j i) (distinct q.0 k q.1 hk (sym q.2))
@@ -66,7 +66,7 @@ module _ (m : ℕ) (g : ℕ → ℕ) (n : ℕ) (xs own : List ℤ) where
       at (inr q) = refl
 
       go : Dec (t * n + i < length xs) → spin n (put_rows m g n xs own) t i ≡ spin n xs t i
-      go (yes l) = put-cell t i hi l ∙ at (place m g t)
+      go (yes l) = put_cell t i hi l ∙ at (place m g t)
       go (no l) =
           get_or-eq_default (put_rows m g n xs own) (pos 0) (omega (arith, put_length)) ∙ sym (get_or-eq_default xs (pos 0) (omega arith))
 
@@ -81,7 +81,7 @@ module _
       record {
         long = put_length (size c) (system c) c.lattice.n xs own;
         group = λ i k hi hk.
-            put-group (size c) (system c) c.lattice.n xs own distinct k i hk hi
+            put_group (size c) (system c) c.lattice.n xs own distinct k i hk hi
             (rw long (cell_lt s c.lattice.n (system c k) i (below k hk) hi));
         others = λ i t hi out. put_others (size c) (system c) c.lattice.n xs own t i hi out;
       },
@@ -99,7 +99,7 @@ module _
         long = put_length (size c) (system c) 1 ts own;
         group = λ k hk.
             sym (as_row (put_rows (size c) (system c) 1 ts own) (system c k))
-            ∙ (put-group (size c) (system c) 1 ts own distinct k 0 hk (omega arith) (omega (arith, below k hk, long refl)) ∙ as_row own k);
+            ∙ (put_group (size c) (system c) 1 ts own distinct k 0 hk (omega arith) (omega (arith, below k hk, long refl)) ∙ as_row own k);
         others = λ t out.
             sym (as_row (put_rows (size c) (system c) 1 ts own) t)
             ∙ (put_others (size c) (system c) 1 ts own t 0 (omega arith) out ∙ as_row ts t);
@@ -140,7 +140,7 @@ module _
           KeepAccepts keeping (task_call w k) (task_choices w k) (areas w b b.spins k) ts (after k).answered
           (with_spins (after k).buffers rows.0) totals.0
       move =
-          in-panel keeping w b ts v k h e (before k) (after k) (starts k h e) (steps k h e) rows.0 totals.0 rows.1
+          in_panel keeping w b ts v k h e (before k) (after k) (starts k h e) (steps k h e) rows.0 totals.0 rows.1
           totals.1
 
       task : Done w b d k (f.answers.answered k)
@@ -159,7 +159,7 @@ module _
         outputs = ap (λ (z : Buffers). with_spins z (after k).buffers.spins) same;
         rows = λ i x hi hx. row i x hi hx ∙ rows.1.group i x hi hx;
         totals = λ x hx.
-            totals-alike keeping w.lattice b.spins ts rows.0 totals.0 b.spins ts d.spins vs (system (task_call w k) x)
+            totals_alike keeping w.lattice b.spins ts rows.0 totals.0 b.spins ts d.spins vs (system (task_call w k) x)
             (leads keeping w b ts v) (within keeping w b ts v k h e x hx) (λ i hi. refl) (λ i hi. row i x hi hx) refl move.totals f.totals
             ∙ totals.1.group x hx;
       }
@@ -170,6 +170,6 @@ module _
       totals_long = totals_length keeping w.lattice b.spins ts d.spins vs f.totals;
       other_rows = f.answers.others;
       other_totals = λ t out.
-          totals-stay keeping w.lattice b.spins ts d.spins vs t (leads keeping w b ts v) (λ q. ((asked keeping w b ts v).lengths q).totals)
+          totals_stay keeping w.lattice b.spins ts d.spins vs t (leads keeping w b ts v) (λ q. ((asked keeping w b ts v).lengths q).totals)
           (λ i hi. f.answers.others i t hi out) f.totals;
     }

@@ -10,11 +10,11 @@ use Rattle.paper.specs.Answer.Task.{Sweep, tasks, masked, task_call, task_choice
 use Rattle.laws.specs.AnswersLocal.{with_spins}
 use Rattle.packing.specs.Gathered.{group_rows, own_of}
 use Rattle.own_rows.specs.PutBack.{group_totals, PutBack, PutTotals}
-use Rattle.own_rows.specs.Totals.{own-keep-answers}
+use Rattle.own_rows.specs.Totals.{own_keep_answers}
 use Rattle.any_order.specs.Schedule.{Alone}
 use Rattle.any_order.specs.Tasks.{Holding, DoesFor, Holds}
 use Rattle.any_order.specs.Sound.{task_kept}
-use Rattle.any_order.specs.NoRefusal.{none_refused, three-are-move}
+use Rattle.any_order.specs.NoRefusal.{none_refused, three_are_move}
 
 accepts :
     (keeping : Bool) (c : Call) (p : Choices) (b : Buffers) (ts : List ℤ) (a : Answer) (b' : Buffers) (us : List ℤ)
@@ -35,13 +35,13 @@ module _
     accepted : Accepted h₃.answered
     accepted = subst Accepted (sym same_answer) (none_refused keeping w b ts v k h e h₀ s₀ h₃ s).labels
 
-    on-own :
+    on_own :
         KeepAnswers keeping (own_of (task_call w k)) (task_choices w k) (areas w b (group_rows (task_call w k) b.spins) k) (group_totals (task_call w k) ts)
         h₃.answered h₃.buffers h₃.totals
-    on-own =
+    on_own =
         subst (λ (z : Buffers). Leaves z (group_totals (task_call w k) ts) h₃.answered) s₀.buffers
         (subst (λ (z : List ℤ). Leaves h₀.buffers z h₃.answered) s₀.totals
-        (subst (λ (z : Answer). Leaves h₀.buffers h₀.totals z) (sym same_answer) (three-are-move keeping w b ts v k h e h₀ s₀ h₃ s)))
+        (subst (λ (z : Answer). Leaves h₀.buffers h₀.totals z) (sym same_answer) (three_are_move keeping w b ts v k h e h₀ s₀ h₃ s)))
       where
         Leaves : Buffers → List ℤ → Answer → Type 0
         Leaves z us a = KeepAnswers keeping (own_of (task_call w k)) (task_choices w k) z us a h₃.buffers h₃.totals
@@ -49,14 +49,14 @@ module _
     pub own_totals : keeping ≡ false → h₃.totals ≡ group_totals (task_call w k) ts
     own_totals q =
         (accepts keeping (own_of (task_call w k)) (task_choices w k) (areas w b (group_rows (task_call w k) b.spins) k) (group_totals (task_call w k) ts)
-        h₃.answered h₃.buffers h₃.totals accepted on-own).totals.left q
+        h₃.answered h₃.buffers h₃.totals accepted on_own).totals.left q
 
-    pub in-panel :
+    pub in_panel :
         (ys us : List ℤ)
         → PutBack (task_call w k) b.spins h₃.buffers.spins ys
         → PutTotals (task_call w k) ts h₃.totals us
         → KeepAccepts keeping (task_call w k) (task_choices w k) (areas w b b.spins k) ts h₃.answered (with_spins h₃.buffers ys) us
-    in-panel ys us p q =
+    in_panel ys us p q =
         accepts keeping (task_call w k) (task_choices w k) (areas w b b.spins k) ts h₃.answered (with_spins h₃.buffers ys) us accepted
-        (own-keep-answers keeping (task_call w k) (task_choices w k) (areas w b b.spins k) ts (task_kept keeping w b ts v k h e) h₃.buffers h₃.totals
-        ys us p q h₃.answered accepted on-own)
+        (own_keep_answers keeping (task_call w k) (task_choices w k) (areas w b b.spins k) ts (task_kept keeping w b ts v k h e) h₃.buffers h₃.totals
+        ys us p q h₃.answered accepted on_own)

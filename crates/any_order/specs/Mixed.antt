@@ -13,9 +13,9 @@ use Rattle.paper.specs.Answer.Sweep.{sweep_rules, Unmoved}
 use Rattle.laws.specs.AnswersLocal.{with_spins}
 use Rattle.laws.specs.SweepTasks.{task_valid, named_in}
 use Rattle.laws.specs.SameView.{SameOutputs, with_outputs, join_rows, join_length, join_mine, join_other}
-use Rattle.laws.specs.KeepDetermined.{SameSweepKept, sweep-keep-determined}
-use Rattle.laws.specs.SweepNamedOnly.{ListsOnly, sweep-rules-isolated}
-use Rattle.own_rows.specs.PutBack.{own-rows-kept, own-totals-kept}
+use Rattle.laws.specs.KeepDetermined.{SameSweepKept, sweep_keep_determined}
+use Rattle.laws.specs.SweepNamedOnly.{ListsOnly, sweep_rules_isolated}
+use Rattle.own_rows.specs.PutBack.{own_rows_kept, own_totals_kept}
 use Rattle.sweep_tasks.specs.Updating.{swept_kept}
 use Rattle.any_order.specs.Schedule.{Alone}
 use Rattle.any_order.specs.Tasks.{Holding, DoesFor, Holds, Collected, Merged, swept_by}
@@ -166,7 +166,7 @@ module _
 
     second_kept : Kept (swept_rules keeping' x (with_spins d rows_mid) totals_mid)
     second_kept =
-        (sweep-rules-isolated theirs x only' d rows_mid (long ∙ sym (ap length one_panel)) (λ t i q hi. row_other' t i (apart t q) hi) keeping' ts totals_mid
+        (sweep_rules_isolated theirs x only' d rows_mid (long ∙ sym (ap length one_panel)) (λ t i q hi. row_other' t i (apart t q) hi) keeping' ts totals_mid
         totals_long (λ t q. total_other t (apart t q))).kept.0 v'
 
     second_holds : (k : ℕ) → k < tasks x → masked x k ≡ false → (h : Holding) → Holds x d ts k h → Holds x (with_spins d rows_mid) totals_mid k h
@@ -174,8 +174,8 @@ module _
       buffers =
           s.buffers
           ∙ ap (λ (zs : List ℤ). areas x d zs k)
-          (own-rows-kept (task_call x k) d.spins rows_mid (λ i hi y hy. sym (row_other' (system (task_call x k) y) i (other y hy) hi)));
-      totals = s.totals ∙ own-totals-kept (task_call x k) ts totals_mid (λ y hy. sym (total_other (system (task_call x k) y) (other y hy)));
+          (own_rows_kept (task_call x k) d.spins rows_mid (λ i hi y hy. sym (row_other' (system (task_call x k) y) i (other y hy) hi)));
+      totals = s.totals ∙ own_totals_kept (task_call x k) ts totals_mid (λ y hy. sym (total_other (system (task_call x k) y) (other y hy)));
       blue = s.blue;
       area = s.area;
     }
@@ -259,14 +259,14 @@ pub record SameInTurn
     pub buffers : d' ≡ z
     pub totals : us ≡ vs
 
-pub in-turn-determined :
+pub in_turn_determined :
     (keeping : Bool) (w : Sweep) (b : Buffers) (ts : List ℤ) (a : SweepAnswer) (b' : Buffers) (keeping' : Bool) (x : Sweep) (d : Buffers)
     (a' : SweepAnswer) (d' : Buffers) (us : List ℤ) (f : SweepAnswer) (y : Buffers) (ts₁ : List ℤ) (g : SweepAnswer) (z : Buffers) (vs : List ℤ)
     → InTurn keeping w b ts a b' keeping' x d a' d' us
     → SweepKeepAnswers keeping w b ts f y ts₁
     → SweepKeepAnswers keeping' x (with_spins d y.spins) ts₁ g z vs
     → SameInTurn a b' a' d' us f y g z vs
-in-turn-determined keeping w b ts a b' keeping' x d a' d' us f y ts₁ g z vs t p q = record {
+in_turn_determined keeping w b ts a b' keeping' x d a' d' us f y ts₁ g z vs t p q = record {
   answer = s.answer;
   answer' = r.answer;
   outputs = with_outputs (sym s.buffers);
@@ -275,7 +275,7 @@ in-turn-determined keeping w b ts a b' keeping' x d a' d' us f y ts₁ g z vs t 
 }
   where
     s : SameSweepKept a (with_spins b' t.rows) t.totals f y ts₁
-    s = sweep-keep-determined keeping w b ts (with_spins b' t.rows) y t.totals ts₁ a f t.first p
+    s = sweep_keep_determined keeping w b ts (with_spins b' t.rows) y t.totals ts₁ a f t.first p
 
     second : SweepKeepAnswers keeping' x (with_spins d y.spins) ts₁ a' d' us
     second =
@@ -283,4 +283,4 @@ in-turn-determined keeping w b ts a b' keeping' x d a' d' us f y ts₁ g z vs t 
         (subst (λ (u : Buffers). SweepKeepAnswers keeping' x (with_spins d u.spins) t.totals a' d' us) s.buffers t.second)
 
     r : SameSweepKept a' d' us g z vs
-    r = sweep-keep-determined keeping' x (with_spins d y.spins) ts₁ d' z us vs a' g second q
+    r = sweep_keep_determined keeping' x (with_spins d y.spins) ts₁ d' z us vs a' g second q

@@ -17,10 +17,10 @@ use Rattle.task_steps.specs.Choose.{Found, bare_call, choose_rules, ChooseAnswer
 use Rattle.task_steps.specs.Write.{Shape, shape_of, Writing, writing_of, write_rules, WriteAnswers}
 use Rattle.task_steps.specs.Found.{accepts}
 use Rattle.task_steps.specs.Follow.{label_accepted, choose_accepted, write_accepted}
-use Rattle.task_steps.specs.Three.{three-steps}
+use Rattle.task_steps.specs.Three.{three_steps}
 use Rattle.any_order.specs.Schedule.{Step, Step.label, Step.choose, Step.write, Alone}
 use Rattle.any_order.specs.Tasks.{Holding, found_in, writing_in, DoesLabel, DoesChoose, DoesWrite, DoesFor, Holds}
-use Rattle.any_order.specs.Sound.{own-task-kept}
+use Rattle.any_order.specs.Sound.{own_task_kept}
 
 -- the step is answered, and not with a refusal
 abbrev pub Unrefused : (keeping : Bool) (w : Sweep) (k : ℕ) (s : Step) (h h' : Holding) → DoesFor keeping w k s h h' → Type 0
@@ -35,28 +35,28 @@ pub record NoneRefused (keeping : Bool) (w : Sweep) (k : ℕ) (h₀ h₃ : Holdi
   pub writes : Unrefused keeping w k write s.h₂ h₃ s.writes
 
 -- ---- an answer where the rules are kept is no refusal
-label-answer :
+label_answer :
     (c : Call) (p : Choices) (b : Buffers) (blue : List ℕ) (a : Answer) (b₁ : Buffers) (blue₁ : List ℕ)
     → Kept (label_rules c p b blue)
     → LabelAnswers c p b blue a b₁ blue₁
     → Accepted a
-label-answer c p b blue (Refused r) b₁ blue₁ k f = absurd (broken_not_kept (label_rules c p b blue) _ f.why k)
-label-answer c p b blue Idle b₁ blue₁ k f = idle
-label-answer c p b blue Held b₁ blue₁ k f = held
-label-answer c p b blue Moved b₁ blue₁ k f = moved
+label_answer c p b blue (Refused r) b₁ blue₁ k f = absurd (broken_not_kept (label_rules c p b blue) _ f.why k)
+label_answer c p b blue Idle b₁ blue₁ k f = idle
+label_answer c p b blue Held b₁ blue₁ k f = held
+label_answer c p b blue Moved b₁ blue₁ k f = moved
 
-choose-answer :
+choose_answer :
     (c : Call) (p : Choices) (xs : List ℤ) (f : Found) (area area₁ : List ℕ) (r : ℕ)
     → Kept (choose_rules c p xs f area)
     → ChooseAnswers c p xs f area r area₁
     → r ≡ 0
-choose-answer c p xs f area area₁ zero k a = refl
-choose-answer c p xs f area area₁ (suc r) k a = absurd (broken_not_kept (choose_rules c p xs f area) (suc r) a.why k)
+choose_answer c p xs f area area₁ zero k a = refl
+choose_answer c p xs f area area₁ (suc r) k a = absurd (broken_not_kept (choose_rules c p xs f area) (suc r) a.why k)
 
-write-answer :
+write_answer :
     (keeping : Bool) (h : Shape) (l : Writing) (r : ℕ) (ys us : List ℤ) → Kept (write_rules keeping h l) → WriteAnswers keeping h l r ys us → r ≡ 0
-write-answer keeping h l zero ys us k a = refl
-write-answer keeping h l (suc r) ys us k a = absurd (broken_not_kept (write_rules keeping h l) (suc r) a.why k)
+write_answer keeping h l zero ys us k a = refl
+write_answer keeping h l (suc r) ys us k a = absurd (broken_not_kept (write_rules keeping h l) (suc r) a.why k)
 
 -- ---- the steps of a call on own rows whose rules are kept
 module _
@@ -64,7 +64,7 @@ module _
     (labelled : Kept (label_rules c p h₀.buffers h₀.blue)) (long : length h₀.area ≡ c.lattice.n) (d₁ : DoesLabel c p h₀ h₁)
   where
     label_unrefused : Accepted h₁.answered
-    label_unrefused = label-answer c p h₀.buffers h₀.blue h₁.answered h₁.buffers h₁.blue labelled d₁.answers
+    label_unrefused = label_answer c p h₀.buffers h₀.blue h₁.answered h₁.buffers h₁.blue labelled d₁.answers
 
     found : LabelAccepts c p h₀.buffers h₀.blue h₁.answered h₁.buffers h₁.blue
     found = accepts c p h₀.buffers h₁.buffers h₀.blue h₁.blue h₁.answered label_unrefused d₁.answers
@@ -76,7 +76,7 @@ module _
 
       choose_unrefused : d₂.r ≡ 0
       choose_unrefused =
-          choose-answer (bare_call c) p h₀.buffers.spins (found_in h₁) h₁.area h₂.area d₂.r
+          choose_answer (bare_call c) p h₀.buffers.spins (found_in h₁) h₁.area h₂.area d₂.r
           (choose_accepted found h₁.area (ap length d₁.area ∙ long)) chooses
 
       chosen : ChooseAnswers (bare_call c) p h₀.buffers.spins (found_in h₁) h₁.area 0 h₂.area
@@ -96,7 +96,7 @@ module _
 
         write_unrefused : d₃.r ≡ 0
         write_unrefused =
-            write-answer keeping (shape_of c) l d₃.r h₃.buffers.spins h₃.totals
+            write_answer keeping (shape_of c) l d₃.r h₃.buffers.spins h₃.totals
             (write_accepted found keeping h₀.totals kept h₁.area h₂.area chosen) writes
 
         written : WriteAnswers keeping (shape_of c) l 0 h₃.buffers.spins h₃.totals
@@ -109,7 +109,7 @@ module _
             → KeepAnswers keeping c p h₀.buffers h₀.totals h₁.answered h₃.buffers h₃.totals
         moves own group =
             subst (λ (z : Buffers). KeepAnswers keeping c p h₀.buffers h₀.totals h₁.answered z h₃.totals) left
-            (three-steps keeping c p h₀.buffers h₁.buffers h₀.blue h₁.blue h₁.area h₂.area h₀.totals h₃.totals
+            (three_steps keeping c p h₀.buffers h₁.buffers h₀.blue h₁.blue h₁.area h₂.area h₀.totals h₃.totals
             h₃.buffers.spins h₁.answered own group label_unrefused d₁.answers chosen written)
 
 -- ---- those of an unmasked task of an accepted sweep
@@ -127,7 +127,7 @@ module _
     starts_kept =
         subst (λ (z : Buffers). Kept (kept_rules keeping c p z h₀.totals)) (sym s₀.buffers)
         (subst (λ (us : List ℤ). Kept (kept_rules keeping c p (areas w b (group_rows (task_call w k) b.spins) k) us)) (sym s₀.totals)
-        (own-task-kept keeping w b ts v k h e))
+        (own_task_kept keeping w b ts v k h e))
 
     label_kept : Kept (label_rules c p h₀.buffers h₀.blue)
     label_kept =
@@ -137,24 +137,24 @@ module _
     pub first_unrefused : (h₁ : Holding) (d₁ : DoesFor keeping w k label h₀ h₁) → Unrefused keeping w k label h₀ h₁ d₁
     first_unrefused h₁ d₁ = label_unrefused keeping c p h₀ h₁ h₁ h₁ starts_kept label_kept s₀.area d₁
 
-    pub second-unrefused :
+    pub second_unrefused :
         (h₁ h₂ : Holding) → DoesFor keeping w k label h₀ h₁ → (d₂ : DoesFor keeping w k choose h₁ h₂) → Unrefused keeping w k choose h₁ h₂ d₂
-    second-unrefused h₁ h₂ d₁ d₂ = choose_unrefused keeping c p h₀ h₁ h₂ h₂ starts_kept label_kept s₀.area d₁ d₂
+    second_unrefused h₁ h₂ d₁ d₂ = choose_unrefused keeping c p h₀ h₁ h₂ h₂ starts_kept label_kept s₀.area d₁ d₂
 
-    pub third-unrefused :
+    pub third_unrefused :
         (h₁ h₂ h₃ : Holding) → DoesFor keeping w k label h₀ h₁ → DoesFor keeping w k choose h₁ h₂ → (d₃ : DoesFor keeping w k write h₂ h₃)
         → Unrefused keeping w k write h₂ h₃ d₃
-    third-unrefused h₁ h₂ h₃ d₁ d₂ d₃ = write_unrefused keeping c p h₀ h₁ h₂ h₃ starts_kept label_kept s₀.area d₁ d₂ d₃
+    third_unrefused h₁ h₂ h₃ d₁ d₂ d₃ = write_unrefused keeping c p h₀ h₁ h₂ h₃ starts_kept label_kept s₀.area d₁ d₂ d₃
 
     pub none_refused : (h₃ : Holding) (s : Alone (DoesFor keeping w k) h₀ h₃) → NoneRefused keeping w k h₀ h₃ s
     none_refused h₃ s = record {
       labels = first_unrefused s.h₁ s.labels;
-      chooses = second-unrefused s.h₁ s.h₂ s.labels s.chooses;
-      writes = third-unrefused s.h₁ s.h₂ h₃ s.labels s.chooses s.writes;
+      chooses = second_unrefused s.h₁ s.h₂ s.labels s.chooses;
+      writes = third_unrefused s.h₁ s.h₂ h₃ s.labels s.chooses s.writes;
     }
 
-    pub three-are-move :
+    pub three_are_move :
         (h₃ : Holding) (s : Alone (DoesFor keeping w k) h₀ h₃)
         → KeepAnswers keeping (own_of (task_call w k)) (task_choices w k) h₀.buffers h₀.totals s.h₁.answered h₃.buffers h₃.totals
-    three-are-move h₃ s =
+    three_are_move h₃ s =
         moves keeping c p h₀ s.h₁ s.h₂ h₃ starts_kept label_kept s₀.area s.labels s.chooses s.writes refl refl

@@ -12,7 +12,7 @@ use Rattle.laws.specs.SweepTasks.{task_valid, named_in}
 use Rattle.laws.specs.SameView.{LeadsInside}
 use Rattle.packing.specs.Gathered.{group_rows, own_of}
 use Rattle.own_rows.specs.PutBack.{group_totals}
-use Rattle.own_rows.specs.Answers.{own-kept-totals}
+use Rattle.own_rows.specs.Answers.{own_kept_totals}
 use Rattle.sweep_tasks.specs.Updating.{swept_kept, swept_asked}
 
 module _ (keeping : Bool) (w : Sweep) (b : Buffers) (ts : List ℤ) (v : Kept (swept_rules keeping w b ts)) where
@@ -44,6 +44,6 @@ module _ (keeping : Bool) (w : Sweep) (b : Buffers) (ts : List ℤ) (v : Kept (s
         asked_kept keeping (task_call w k) (task_choices w k) (areas w b b.spins k) ts task_sound
         (record { lengths = asked.lengths; couplings = asked.couplings; small = λ q t n. asked.small q t (named_in w b sound k h t n) })
 
-    pub own-task-kept :
+    pub own_task_kept :
         Kept (kept_rules keeping (own_of (task_call w k)) (task_choices w k) (areas w b (group_rows (task_call w k) b.spins) k) (group_totals (task_call w k) ts))
-    own-task-kept = own-kept-totals keeping (task_call w k) (task_choices w k) (areas w b b.spins k) ts task_kept
+    own_task_kept = own_kept_totals keeping (task_call w k) (task_choices w k) (areas w b b.spins k) ts task_kept

@@ -11,13 +11,13 @@ use Rattle.paper.specs.Answer.Totals.{total, swept_rules, TotalsAfter, KeepAccep
 use Rattle.paper.specs.Answer.Task.{Sweep, tasks, masked, task_call, task_choices, areas}
 use Rattle.paper.specs.Answer.Sweep.{Done, Unmoved}
 use Rattle.laws.specs.AnswersLocal.{with_spins}
-use Rattle.laws.specs.SameView.{join_rows, join_length, join_mine, join_other, energy-local}
+use Rattle.laws.specs.SameView.{join_rows, join_length, join_mine, join_other, energy_local}
 use Rattle.own_rows.specs.PutBack.{PutBack, PutTotals}
 use Rattle.any_order.specs.Schedule.{Alone}
 use Rattle.any_order.specs.Tasks.{Holding, DoesFor, Holds, Handed, Merged, swept_by}
 use Rattle.any_order.specs.Whose.{in_group_lem, in_group, off_group, Owned, whose}
 use Rattle.any_order.specs.Sound.{sound, valid, leads, within}
-use Rattle.any_order.specs.InPanel.{in-panel}
+use Rattle.any_order.specs.InPanel.{in_panel}
 
 -- a total is a row of one column
 pub as_row : (ts : List ℤ) (t : ℕ) → spin 1 ts t 0 ≡ total ts t
@@ -75,7 +75,7 @@ module _ (keeping : Bool) (w : Sweep) (b : Buffers) (ts : List ℤ) (v : Kept (s
       moved :
           KeepAccepts keeping (task_call w k) (task_choices w k) (areas w b b.spins k) ts (after k).answered
           (with_spins (after k).buffers (rows_with k)) (totals_with k)
-      moved = in-panel keeping w b ts v k h e (before k) (after k) s₀ s (rows_with k) (totals_with k) put_back put_totals
+      moved = in_panel keeping w b ts v k h e (before k) (after k) s₀ s (rows_with k) (totals_with k) put_back put_totals
 
       task_done : Done w b b' k (after k).answered
       task_done = record {
@@ -90,7 +90,7 @@ module _ (keeping : Bool) (w : Sweep) (b : Buffers) (ts : List ℤ) (v : Kept (s
       -- of the group's place x
       energy_in : (x : ℕ) → x < w.members
           → energy w.lattice (rows_with k) (system (task_call w k) x) ≡ energy w.lattice b'.spins (system (task_call w k) x)
-      energy_in x hx = energy-local w.lattice b'.spins (rows_with k) (system (task_call w k) x) (leads keeping w b ts v) (λ i hi. row_in k i x hi hx)
+      energy_in x hx = energy_local w.lattice b'.spins (rows_with k) (system (task_call w k) x) (leads keeping w b ts v) (λ i hi. row_in k i x hi hx)
 
       total_brought : keeping ≡ true → (x : ℕ) → x < w.members → Follows (system (task_call w k) x)
       total_brought q x hx =
@@ -117,7 +117,7 @@ module _ (keeping : Bool) (w : Sweep) (b : Buffers) (ts : List ℤ) (v : Kept (s
         follows q t (inr r) =
             m.other_totals t r
             ∙ sym (ap (λ (z : ℤ). total ts t +ℤ (z +ℤ neg_ℤ (energy w.lattice b.spins t)))
-            (energy-local w.lattice b.spins b'.spins t (leads keeping w b ts v) (λ i hi. m.other_rows i t hi r))
+            (energy_local w.lattice b.spins b'.spins t (leads keeping w b ts v) (λ i hi. m.other_rows i t hi r))
             ∙ (ap (λ (z : ℤ). total ts t +ℤ z) (+ℤ_invr (energy w.lattice b.spins t)) ∙ +ℤ_idr (total ts t)))
 
         same : keeping ≡ false → (t : ℕ) → Owned w t ⊎ Unmoved w t → total us t ≡ total ts t

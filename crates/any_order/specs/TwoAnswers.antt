@@ -14,12 +14,12 @@ use Rattle.any_order.specs.Schedule.{Step, Step.label, Step.choose, Step.write, 
 use Rattle.any_order.specs.EachTurn.{Claim, EachTurn, each_turn}
 use Rattle.any_order.specs.Tasks.{Holding, DoesFor, Holds, Merged}
 use Rattle.any_order.specs.Unmasked.{key, stepping, Unmasked, stepping_is}
-use Rattle.any_order.specs.NoRefusal.{Unrefused, first_unrefused, second-unrefused, third-unrefused}
+use Rattle.any_order.specs.NoRefusal.{Unrefused, first_unrefused, second_unrefused, third_unrefused}
 use Rattle.any_order.specs.Sweeping.{tasks_sweep}
 use Rattle.any_order.specs.AnyOrder.{Begins, answer_of}
 use Rattle.any_order.specs.Mixed.{MergedTwo, InTurn}
-use Rattle.any_order.specs.Acceptance.{other_way, acceptance-between}
-use Rattle.any_order.specs.TwoTeams.{TwoSteps, both_stepping, in_either, ours, theirs, any-order-of-two}
+use Rattle.any_order.specs.Acceptance.{other_way, acceptance_between}
+use Rattle.any_order.specs.TwoTeams.{TwoSteps, both_stepping, in_either, ours, theirs, any_order_of_two}
 
 -- the panel is put together from what the tasks of accepted sweeps hold; a refused sweep's areas are what they were, with the rows of the panel
 abbrev pub EndsTwo : ℕ → ℕ → Sweep → Sweep → Buffers → Buffers → List ℤ → (ℕ → Holding) → (ℕ → Holding) → Buffers → Buffers → List ℤ → Type 0
@@ -74,16 +74,16 @@ module _ (keeping : Bool) (w : Sweep) (b : Buffers) (keeping' : Bool) (x : Sweep
       (t : Bool) (k : ℕ) (h₀ h₁ h₂ : Holding) → Either t k h₀ → cond t (DoesFor keeping w k) (DoesFor keeping' x k) label h₀ h₁
       → (d₂ : cond t (DoesFor keeping w k) (DoesFor keeping' x k) choose h₁ h₂)
       → EitherUnrefused t keeping w keeping' x k choose h₁ h₂ d₂
-  either_second true k h₀ h₁ h₂ g = second-unrefused keeping w b ts g.accepted k g.below g.unmasked h₀ g.holds h₁ h₂
-  either_second false k h₀ h₁ h₂ g = second-unrefused keeping' x d ts g.accepted k g.below g.unmasked h₀ g.holds h₁ h₂
+  either_second true k h₀ h₁ h₂ g = second_unrefused keeping w b ts g.accepted k g.below g.unmasked h₀ g.holds h₁ h₂
+  either_second false k h₀ h₁ h₂ g = second_unrefused keeping' x d ts g.accepted k g.below g.unmasked h₀ g.holds h₁ h₂
 
-  either-third :
+  either_third :
       (t : Bool) (k : ℕ) (h₀ h₁ h₂ h₃ : Holding) → Either t k h₀ → cond t (DoesFor keeping w k) (DoesFor keeping' x k) label h₀ h₁
       → cond t (DoesFor keeping w k) (DoesFor keeping' x k) choose h₁ h₂
       → (d₃ : cond t (DoesFor keeping w k) (DoesFor keeping' x k) write h₂ h₃)
       → EitherUnrefused t keeping w keeping' x k write h₂ h₃ d₃
-  either-third true k h₀ h₁ h₂ h₃ g = third-unrefused keeping w b ts g.accepted k g.below g.unmasked h₀ g.holds h₁ h₂ h₃
-  either-third false k h₀ h₁ h₂ h₃ g = third-unrefused keeping' x d ts g.accepted k g.below g.unmasked h₀ g.holds h₁ h₂ h₃
+  either_third true k h₀ h₁ h₂ h₃ g = third_unrefused keeping w b ts g.accepted k g.below g.unmasked h₀ g.holds h₁ h₂ h₃
+  either_third false k h₀ h₁ h₂ h₃ g = third_unrefused keeping' x d ts g.accepted k g.below g.unmasked h₀ g.holds h₁ h₂ h₃
 
 -- the tests of the sweep w of o and of the sweep x of e, on the state at the start, answer r and r'
 module _
@@ -103,7 +103,7 @@ module _
         (record {
           first = λ q. either_first keeping (read_sweep o w) b keeping' (read_sweep e x) d ts (eqb q.team o.team) q.task;
           second = λ q. either_second keeping (read_sweep o w) b keeping' (read_sweep e x) d ts (eqb q.team o.team) q.task;
-          third = λ q. either-third keeping (read_sweep o w) b keeping' (read_sweep e x) d ts (eqb q.team o.team) q.task;
+          third = λ q. either_third keeping (read_sweep o w) b keeping' (read_sweep e x) d ts (eqb q.team o.team) q.task;
         })
         (both_stepping r o w r' e x) xs ordered
         (λ q l. side q (in_either q (stepping r o.team (read_sweep o w)) (stepping r' e.team (read_sweep e x)) l)) run
@@ -124,7 +124,7 @@ module _
             (sym (ne_eqb q.team o.team (λ f. other.other (sym (team_of (stepping_is e.team (read_sweep e x) r' q l)) ∙ f))))
             (good_of keeping' (read_sweep e x) d ts e.team r' st verdict' begins' q l)
 
-pub answers-of-two :
+pub answers_of_two :
     (o e : Team) (other : OtherTeam o e) (w x : Sweep) (one_size : x.lattice.n ≡ w.lattice.n) (keeping keeping' : Bool) (b d : Buffers) (ts : List ℤ)
     (xs : List Turn) (st st' : Key → Holding) (r r' : ℕ) (b' d' : Buffers) (us : List ℤ)
     → d.spins ≡ b.spins
@@ -137,9 +137,9 @@ pub answers-of-two :
     → EndsTwo r r' (read_sweep o w) (read_sweep e x) b d ts (λ k. st' (key o.team k)) (λ k. st' (key e.team k)) b' d' us
     → InTurn keeping (read_sweep o w) b ts (answer_of r (read_sweep o w) (λ k. st' (key o.team k))) b' keeping' (read_sweep e x) d
     (answer_of r' (read_sweep e x) (λ k. st' (key e.team k))) d' us
-answers-of-two o e other w x one_size keeping keeping' b d ts xs st st' zero zero b' d' us one_panel v v' s s' ordered run m =
-    any-order-of-two o e other w x one_size keeping keeping' b d ts xs st st' b' d' us one_panel v v' s s' ordered run m
-answers-of-two o e other w x one_size keeping keeping' b d ts xs st st' zero (suc r') b' d' us one_panel v v' s s' ordered run m = record {
+answers_of_two o e other w x one_size keeping keeping' b d ts xs st st' zero zero b' d' us one_panel v v' s s' ordered run m =
+    any_order_of_two o e other w x one_size keeping keeping' b d ts xs st st' b' d' us one_panel v v' s s' ordered run m
+answers_of_two o e other w x one_size keeping keeping' b d ts xs st st' zero (suc r') b' d' us one_panel v v' s s' ordered run m = record {
   rows = b'.spins;
   totals = us;
   first =
@@ -147,13 +147,13 @@ answers-of-two o e other w x one_size keeping keeping' b d ts xs st st' zero (su
       (ours o e other w x 0 (suc r') keeping keeping' xs st st' ordered run refl);
   second = record {
     why =
-        ((acceptance-between e o (other_way other) keeping' x d ts keeping w b (sym one_size) (sym one_panel) v (λ k. st' (key o.team k)) b' us m.0
+        ((acceptance_between e o (other_way other) keeping' x d ts keeping w b (sym one_size) (sym one_panel) v (λ k. st' (key o.team k)) b' us m.0
         ).broken (suc r')).0 v';
     kept = m.1;
     totals_kept = refl;
   };
 }
-answers-of-two o e other w x one_size keeping keeping' b d ts xs st st' (suc r) zero b' d' us one_panel v v' s s' ordered run m = record {
+answers_of_two o e other w x one_size keeping keeping' b d ts xs st st' (suc r) zero b' d' us one_panel v v' s s' ordered run m = record {
   rows = b.spins;
   totals = ts;
   first = record { why = v; kept = ap (λ (z : Buffers). with_spins z b.spins) m.1; totals_kept = refl };
@@ -163,7 +163,7 @@ answers-of-two o e other w x one_size keeping keeping' b d ts xs st st' (suc r) 
       (tasks_sweep keeping' (read_sweep e x) d ts v' (λ k. st (key e.team k)) (λ k. st' (key e.team k)) d' us m.0 s'
       (theirs o e other w x (suc r) 0 keeping keeping' xs st st' ordered run refl));
 }
-answers-of-two o e other w x one_size keeping keeping' b d ts xs st st' (suc r) (suc r') b' d' us one_panel v v' s s' ordered run m = record {
+answers_of_two o e other w x one_size keeping keeping' b d ts xs st st' (suc r) (suc r') b' d' us one_panel v v' s s' ordered run m = record {
   rows = b.spins;
   totals = ts;
   first = record { why = v; kept = ap (λ (z : Buffers). with_spins z b.spins) m.0; totals_kept = refl };

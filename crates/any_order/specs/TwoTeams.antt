@@ -14,7 +14,7 @@ use Rattle.any_order.specs.Commute.{each_alone, others_untouched}
 use Rattle.any_order.specs.Tasks.{Holding, DoesFor, swept_by}
 use Rattle.any_order.specs.Unmasked.{key, stepping, tasks_listed, stepping_once, stepping_is, stepping_none}
 use Rattle.any_order.specs.AnyOrder.{Starts}
-use Rattle.any_order.specs.Mixed.{MergedTwo, InTurn, both_in_turn, SameInTurn, in-turn-determined}
+use Rattle.any_order.specs.Mixed.{MergedTwo, InTurn, both_in_turn, SameInTurn, in_turn_determined}
 
 -- a team's steps are those of its own sweep
 abbrev pub TwoSteps : ℕ → Bool → Sweep → Bool → Sweep → Steps Holding
@@ -108,21 +108,21 @@ module _
     (run : Run (TwoSteps o.team keeping (read_sweep o w) keeping' (read_sweep e x)) xs st st')
     (merged : MergedTwo (read_sweep o w) (read_sweep e x) b d ts (λ k. st' (key o.team k)) (λ k. st' (key e.team k)) b' d' us)
   where
-    pub any-order-of-two :
+    pub any_order_of_two :
         InTurn keeping (read_sweep o w) b ts (swept_by (read_sweep o w) (λ k. st' (key o.team k))) b' keeping' (read_sweep e x) d
         (swept_by (read_sweep e x) (λ k. st' (key e.team k))) d' us
-    any-order-of-two =
+    any_order_of_two =
         both_in_turn (own o) (own e) (other_not_own other) (read_sweep o w) (read_sweep e x) (lists_own o w) (lists_own e x) one_size
         keeping keeping' b d ts one_panel accepted accepted' (λ k. st (key o.team k)) (λ k. st' (key o.team k)) (λ k. st (key e.team k))
         (λ k. st' (key e.team k)) b' d' us merged starts (ours o e other w x 0 0 keeping keeping' xs st st' ordered run refl) starts'
         (theirs o e other w x 0 0 keeping keeping' xs st st' ordered run refl)
 
     -- so whatever the sweep of o and then that of e answer and leave, each by ascending tasks, is this
-    pub same-as-in-turn :
+    pub same_as_in_turn :
         (f : SweepAnswer) (y : Buffers) (ts₁ : List ℤ) (g : SweepAnswer) (z : Buffers) (vs : List ℤ)
         → SweepKeepAnswers keeping (read_sweep o w) b ts f y ts₁
         → SweepKeepAnswers keeping' (read_sweep e x) (with_spins d y.spins) ts₁ g z vs
         → SameInTurn (swept_by (read_sweep o w) (λ k. st' (key o.team k))) b' (swept_by (read_sweep e x) (λ k. st' (key e.team k))) d' us f y g z vs
-    same-as-in-turn f y ts₁ g z vs =
-        in-turn-determined keeping (read_sweep o w) b ts (swept_by (read_sweep o w) (λ k. st' (key o.team k))) b' keeping' (read_sweep e x) d
-        (swept_by (read_sweep e x) (λ k. st' (key e.team k))) d' us f y ts₁ g z vs any-order-of-two
+    same_as_in_turn f y ts₁ g z vs =
+        in_turn_determined keeping (read_sweep o w) b ts (swept_by (read_sweep o w) (λ k. st' (key o.team k))) b' keeping' (read_sweep e x) d
+        (swept_by (read_sweep e x) (λ k. st' (key e.team k))) d' us f y ts₁ g z vs any_order_of_two

@@ -12,7 +12,7 @@ use Rattle.paper.specs.declared.SweepAnswer.{SweepAnswer}
 use Rattle.paper.specs.Panel.Input.{Call, Choices, Buffers, size}
 use Rattle.paper.specs.Answer.Task.{Sweep}
 use Rattle.laws.specs.AnswersLocal.{with_spins}
-use Rattle.laws.specs.KeepDetermined.{SameKept, keep_determined, SameSweepKept, sweep-keep-determined}
+use Rattle.laws.specs.KeepDetermined.{SameKept, keep_determined, SameSweepKept, sweep_keep_determined}
 use Rattle.packed.specs.Packed.{lent_of, Bytes}
 use Rattle.packed.specs.Determined.{SamePacked, packed_step_determined}
 use Rattle.coded.specs.declared.Coding.{Coding}
@@ -32,12 +32,12 @@ five true m = go (ℕ_discrete m 5)
 pub numbers_determined : (k : Coding) (m : Mode) (f : Form) (a b : Bool) → a ≡ numbers_by k m f → b ≡ numbers_by k m f → a ≡ b
 numbers_determined k m f a b = one_value
 
-pub overlap-step-by-determined :
+pub overlap_step_by_determined :
     (coded keeping : Bool) (c : Call) (p : Choices) (b : Buffers) (ts : List ℤ) (y z : Buffers) (us vs : List ℤ) (a a' : Answer)
     → CodedAnswers coded keeping c p b ts a y us
     → CodedAnswers coded keeping c p b ts a' z vs
     → SameKept a y us a' z vs
-overlap-step-by-determined coded keeping c p b ts y z us vs a a' f g = go (five coded (size c))
+overlap_step_by_determined coded keeping c p b ts y z us vs a a' f g = go (five coded (size c))
   where
     go : Dec (Five coded (size c)) → SameKept a y us a' z vs
     go (yes h) = keep_determined keeping c (spelled_choices coded p) b ts y z us vs a a' (f.five h) (g.five h)
@@ -47,15 +47,15 @@ overlap-step-by-determined coded keeping c p b ts y z us vs a a' f g = go (five 
       totals = u.totals_kept ∙ sym v.totals_kept;
     }
 
-pub overlap-update-by-determined :
+pub overlap_update_by_determined :
     (coded keeping : Bool) (w : Sweep) (b : Buffers) (ts : List ℤ) (y z : Buffers) (us vs : List ℤ) (a a' : SweepAnswer)
     → SweepCodedAnswers coded keeping w b ts a y us
     → SweepCodedAnswers coded keeping w b ts a' z vs
     → SameSweepKept a y us a' z vs
-overlap-update-by-determined coded keeping w b ts y z us vs a a' f g = go (five coded w.members)
+overlap_update_by_determined coded keeping w b ts y z us vs a a' f g = go (five coded w.members)
   where
     go : Dec (Five coded w.members) → SameSweepKept a y us a' z vs
-    go (yes h) = sweep-keep-determined keeping (spelled_sweep coded w) b ts y z us vs a a' (f.five h) (g.five h)
+    go (yes h) = sweep_keep_determined keeping (spelled_sweep coded w) b ts y z us vs a a' (f.five h) (g.five h)
     go (no h) = let u = f.other h in let v = g.other h in record {
       answer = u.number ∙ sym v.number;
       buffers = u.kept ∙ sym v.kept;
@@ -64,19 +64,19 @@ overlap-update-by-determined coded keeping w b ts y z us vs a a' f g = go (five 
 
 -- ---- the functions inside
 
-pub step-by-numbers-determined :
+pub step_by_numbers_determined :
     (keeping : Bool) (c : Call) (p : Choices) (b : Buffers) (ts : List ℤ) (y z : Buffers) (us vs : List ℤ) (a a' : Answer)
     → CodedAnswers true keeping c p b ts a y us
     → CodedAnswers true keeping c p b ts a' z vs
     → SameKept a y us a' z vs
-step-by-numbers-determined = overlap-step-by-determined true
+step_by_numbers_determined = overlap_step_by_determined true
 
-pub update-by-numbers-determined :
+pub update_by_numbers_determined :
     (keeping : Bool) (w : Sweep) (b : Buffers) (ts : List ℤ) (y z : Buffers) (us vs : List ℤ) (a a' : SweepAnswer)
     → SweepCodedAnswers true keeping w b ts a y us
     → SweepCodedAnswers true keeping w b ts a' z vs
     → SameSweepKept a y us a' z vs
-update-by-numbers-determined = overlap-update-by-determined true
+update_by_numbers_determined = overlap_update_by_determined true
 
 -- on bytes
 module _
@@ -102,10 +102,10 @@ module _
           totals = u.totals_kept ∙ sym o.totals_kept;
         }
 
-pub packed-by-numbers-determined :
+pub packed_by_numbers_determined :
     (keeping : Bool) (c : Call) (p : Choices) (xs ys zs l g q s e f h l₁ g₁ q₁ s₁ e₁ f₁ h₁ l₂ g₂ q₂ s₂ e₂ f₂ h₂ : List ℕ) (ts us vs : List ℤ) (a a' : Answer)
     → PackedCoded true keeping c p xs (lent_of l g q s e f h) ts a ys (lent_of l₁ g₁ q₁ s₁ e₁ f₁ h₁) us
     → PackedCoded true keeping c p xs (lent_of l g q s e f h) ts a' zs (lent_of l₂ g₂ q₂ s₂ e₂ f₂ h₂) vs
     → (xs' : List ℤ)
     → SamePacked a ys (lent_of l₁ g₁ q₁ s₁ e₁ f₁ h₁ xs') us a' zs (lent_of l₂ g₂ q₂ s₂ e₂ f₂ h₂ xs') vs
-packed-by-numbers-determined = packed_step_by_determined true
+packed_by_numbers_determined = packed_step_by_determined true

@@ -12,7 +12,7 @@ use Rattle.laws.specs.KeepDetermined.{SameKept, SameSweepKept}
 use Rattle.spelling.specs.Laws.{Rows, rows_are}
 use Rattle.coded.specs.Answer.{CodedAnswers}
 use Rattle.coded.specs.Sweep.{with_choices, SweepCodedAnswers}
-use Rattle.coded.specs.Determined.{overlap-step-by-determined, overlap-update-by-determined}
+use Rattle.coded.specs.Determined.{overlap_step_by_determined, overlap_update_by_determined}
 
 -- ---- a move
 
@@ -42,7 +42,7 @@ module _ (keeping : Bool) (c : Call) (vs xs greys : List ℕ) (b : Buffers) (ts 
       → CodedAnswers false keeping c (choices_of xs greys) b ts a' z us'
       → SameKept a y us a' z us'
   by_rows_same a a' y z us us' f g =
-      overlap-step-by-determined false keeping c (choices_of xs greys) b ts y z us us' a a' ((by_rows a y us).0 f) g
+      overlap_step_by_determined false keeping c (choices_of xs greys) b ts y z us us' a a' ((by_rows a y us).0 f) g
 
 -- ---- a sweep
 
@@ -69,4 +69,4 @@ module _ (keeping : Bool) (s : Sweep) (vs xs : List ℕ) (b : Buffers) (ts : Lis
       → SweepCodedAnswers false keeping (with_choices xs s) b ts a' z us'
       → SameSweepKept a y us a' z us'
   sweep_by_rows_same a a' y z us us' f g =
-      overlap-update-by-determined false keeping (with_choices xs s) b ts y z us us' a a' ((sweep_by_rows a y us).0 f) g
+      overlap_update_by_determined false keeping (with_choices xs s) b ts y z us us' a a' ((sweep_by_rows a y us).0 f) g

@@ -14,7 +14,7 @@ use Rattle.paper.specs.Refusal.Rules.{Spin, Permutes}
 use Rattle.laws.specs.Patterns.{flip_spin, times_spin}
 use Rattle.laws.specs.Partners.{partner_lt}
 use Rattle.columns.specs.Column.{shown, column_of, shown_column, column_lt, column_ext, flipped}
-use Rattle.columns.specs.Gauge.{gauge_of, permuted_by, gauge-column}
+use Rattle.columns.specs.Gauge.{gauge_of, permuted_by, gauge_column}
 use Rattle.column_rules.specs.Laws.{gauge_spin}
 
 -- what the choice of the component with the label r makes of a column of m members; g is the gauge
@@ -36,30 +36,30 @@ module _ (m : ℕ) (f : Pattern) (spin-f : (k : ℕ) → k < m → Spin (f k)) w
   swapped : (k : ℕ) → k < m → shown (column_of m f) (partner m k) ≡ f (partner m k)
   swapped k h = shows (partner m k) (partner_lt m k h)
 
-  houd-column :
+  houd_column :
       (t : Bool)
       → cond t (column_of m (flipped Houd m (shown (column_of m f)))) (column_of m f) ≡ column_of m (flip_some (λ k. t && ltb k (2 * (m / 2))) f)
-  houd-column true = column_ext m _ _ (λ k h. negated (ltb k (2 * (m / 2))) k h)
-  houd-column false = refl
+  houd_column true = column_ext m _ _ (λ k h. negated (ltb k (2 * (m / 2))) k h)
+  houd_column false = refl
 
-  pair-column :
+  pair_column :
       (t : Bool)
       → cond t (column_of m (λ k. shown (column_of m f) (partner m k))) (column_of m f) ≡ column_of m (λ k. f (cond t (partner m k) k))
-  pair-column true = column_ext m _ _ swapped
-  pair-column false = refl
+  pair_column true = column_ext m _ _ swapped
+  pair_column false = refl
 
   blue_column : (t : Bool) → cond t (column_of m (λ k. neg_ℤ (shown (column_of m f) k))) (column_of m f) ≡ column_of m (flip_some (λ k. t) f)
   blue_column true = column_ext m _ _ (λ k h. negated true k h)
   blue_column false = refl
 
   -- a permutation that is seen and written through the gauge
-  perm-column :
+  perm_column :
       (mode : Mode) (P : Pattern) (p : ℕ → ℕ) → (is_gperm mode ≡ true → (k : ℕ) → k < m → Spin (P k)) → Permutes m p
       → permuted_by m (gauge_of mode m (column_of m P)) p (column_of m f) ≡ column_of m (gauge mode P (λ k. gauge mode P f (p k)))
-  perm-column mode P p sp q =
-      ap (λ (x : ℕ). bit_xor (column_of m (λ k. shown x (p k))) (gauge_of mode m (column_of m P))) (gauge-column mode m P f sp spin-f)
+  perm_column mode P p sp q =
+      ap (λ (x : ℕ). bit_xor (column_of m (λ k. shown x (p k))) (gauge_of mode m (column_of m P))) (gauge_column mode m P f sp spin-f)
       ∙ (ap (λ (x : ℕ). bit_xor x (gauge_of mode m (column_of m P))) inner
-      ∙ gauge-column mode m P (λ k. gauge mode P f (p k)) sp (λ k h. seen_spin (p k) (q.within k h)))
+      ∙ gauge_column mode m P (λ k. gauge mode P f (p k)) sp (λ k h. seen_spin (p k) (q.within k h)))
     where
       seen_spin : (k : ℕ) → k < m → Spin (gauge mode P f k)
       seen_spin k h = gauge_spin mode P f k (λ e. sp e k h) (spin-f k h)
@@ -86,13 +86,13 @@ pub acted :
     → (is_perm m ≡ true → Permutes (size c) (perm_at c.form (size c) p.choices r))
     → choice_column m c.form (size c) (gauge_of m (size c) (column_of (size c) P)) p.choices r (column_of (size c) f)
     ≡ column_of (size c) (act_by m c p P r f)
-acted Houd c p r P f sp sf q = houd-column (size c) f sf (flip_by c.form p.choices r)
-acted Pair c p r P f sp sf q = pair-column (size c) f sf (flip_by c.form p.choices r)
-acted Jorg c p r P f sp sf q = pair-column (size c) f sf (flip_by c.form p.choices r)
+acted Houd c p r P f sp sf q = houd_column (size c) f sf (flip_by c.form p.choices r)
+acted Pair c p r P f sp sf q = pair_column (size c) f sf (flip_by c.form p.choices r)
+acted Jorg c p r P f sp sf q = pair_column (size c) f sf (flip_by c.form p.choices r)
 acted Cmr c p r P f sp sf q = blue_column (size c) f sf (flip_by c.form p.choices r)
-acted Perm c p r P f sp sf q = perm-column (size c) f sf Perm P (perm_at c.form (size c) p.choices r) sp (q refl)
+acted Perm c p r P f sp sf q = perm_column (size c) f sf Perm P (perm_at c.form (size c) p.choices r) sp (q refl)
 acted Gperm c p r P f sp sf q =
-    perm-column (size c) f sf Gperm P (perm_at c.form (size c) p.choices r) sp (q refl)
+    perm_column (size c) f sf Gperm P (perm_at c.form (size c) p.choices r) sp (q refl)
     ∙ column_ext (size c) _ _ (λ k h. let z = (q refl).within k h in regroup (P k) _ _ (sp refl k h) (sp refl _ z) (sf _ z))
 
 swapped_spin : (m : ℕ) (t : Bool) (f : Pattern) → ((k : ℕ) → k < m → Spin (f k)) → (k : ℕ) → k < m → Spin (f (cond t (partner m k) k))
@@ -100,50 +100,50 @@ swapped_spin m true f sf k h = sf (partner m k) (partner_lt m k h)
 swapped_spin m false f sf k h = sf k h
 
 -- a moved pattern of spins is one of spins, in every mode
-pub acted-spin :
+pub acted_spin :
     (m : Mode) (c : Call) (p : Choices) (r : ℕ) (P f : Pattern)
     → (is_gperm m ≡ true → (k : ℕ) → k < size c → Spin (P k))
     → ((k : ℕ) → k < size c → Spin (f k))
     → (is_perm m ≡ true → Permutes (size c) (perm_at c.form (size c) p.choices r))
     → (k : ℕ) → k < size c → Spin (act_by m c p P r f k)
-acted-spin Houd c p r P f sp sf q k h = flip_spin (flip_by c.form p.choices r && ltb k (2 * (size c / 2))) (f k) (sf k h)
-acted-spin Pair c p r P f sp sf q k h = swapped_spin (size c) (flip_by c.form p.choices r) f sf k h
-acted-spin Jorg c p r P f sp sf q k h = swapped_spin (size c) (flip_by c.form p.choices r) f sf k h
-acted-spin Perm c p r P f sp sf q k h = sf _ ((q refl).within k h)
-acted-spin Gperm c p r P f sp sf q k h = times_spin _ _ (times_spin _ _ (sp refl k h) (sp refl _ ((q refl).within k h))) (sf _ ((q refl).within k h))
-acted-spin Cmr c p r P f sp sf q k h = flip_spin (flip_by c.form p.choices r) (f k) (sf k h)
+acted_spin Houd c p r P f sp sf q k h = flip_spin (flip_by c.form p.choices r && ltb k (2 * (size c / 2))) (f k) (sf k h)
+acted_spin Pair c p r P f sp sf q k h = swapped_spin (size c) (flip_by c.form p.choices r) f sf k h
+acted_spin Jorg c p r P f sp sf q k h = swapped_spin (size c) (flip_by c.form p.choices r) f sf k h
+acted_spin Perm c p r P f sp sf q k h = sf _ ((q refl).within k h)
+acted_spin Gperm c p r P f sp sf q k h = times_spin _ _ (times_spin _ _ (sp refl k h) (sp refl _ ((q refl).within k h))) (sf _ ((q refl).within k h))
+acted_spin Cmr c p r P f sp sf q k h = flip_spin (flip_by c.form p.choices r) (f k) (sf k h)
 
 -- ---- a flip, or a permutation, is the choice of the modes that take it
-pub flip-choice :
+pub flip_choice :
     (mode : Mode) (form : Form) (m g : ℕ) (choices : List ℕ) (r x : ℕ) → is_perm mode ≡ false
     → cond (flip_by form choices r) (column_of m (flipped mode m (shown x))) x ≡ choice_column mode form m g choices r x
-flip-choice Houd form m g choices r x e = refl
-flip-choice Pair form m g choices r x e = refl
-flip-choice Perm form m g choices r x e = never (sym e)
-flip-choice Gperm form m g choices r x e = never (sym e)
-flip-choice Jorg form m g choices r x e = refl
-flip-choice Cmr form m g choices r x e = refl
+flip_choice Houd form m g choices r x e = refl
+flip_choice Pair form m g choices r x e = refl
+flip_choice Perm form m g choices r x e = never (sym e)
+flip_choice Gperm form m g choices r x e = never (sym e)
+flip_choice Jorg form m g choices r x e = refl
+flip_choice Cmr form m g choices r x e = refl
 
-pub perm-choice :
+pub perm_choice :
     (mode : Mode) (form : Form) (m g : ℕ) (choices : List ℕ) (r x : ℕ) → is_perm mode ≡ true
     → permuted_by m g (perm_at form m choices r) x ≡ choice_column mode form m g choices r x
-perm-choice Houd form m g choices r x e = never e
-perm-choice Pair form m g choices r x e = never e
-perm-choice Perm form m g choices r x e = refl
-perm-choice Gperm form m g choices r x e = refl
-perm-choice Jorg form m g choices r x e = never e
-perm-choice Cmr form m g choices r x e = never e
+perm_choice Houd form m g choices r x e = never e
+perm_choice Pair form m g choices r x e = never e
+perm_choice Perm form m g choices r x e = refl
+perm_choice Gperm form m g choices r x e = refl
+perm_choice Jorg form m g choices r x e = never e
+perm_choice Cmr form m g choices r x e = never e
 
 -- in CMR the first choice is a flip
-pub cmr-narrow :
+pub cmr_narrow :
     (mode : Mode) (form : Form) (m g : ℕ) (choices : List ℕ) (r x : ℕ) → is_cmr mode ≡ true → x < 2 ^ m
     → choice_column mode form m g choices r x < 2 ^ m
-cmr-narrow Houd form m g choices r x e h = never e
-cmr-narrow Pair form m g choices r x e h = never e
-cmr-narrow Perm form m g choices r x e h = never e
-cmr-narrow Gperm form m g choices r x e h = never e
-cmr-narrow Jorg form m g choices r x e h = never e
-cmr-narrow Cmr form m g choices r x e h = go (flip_by form choices r)
+cmr_narrow Houd form m g choices r x e h = never e
+cmr_narrow Pair form m g choices r x e h = never e
+cmr_narrow Perm form m g choices r x e h = never e
+cmr_narrow Gperm form m g choices r x e h = never e
+cmr_narrow Jorg form m g choices r x e h = never e
+cmr_narrow Cmr form m g choices r x e h = go (flip_by form choices r)
   where
     go : (f : Bool) → cond f (column_of m (flipped Cmr m (shown x))) x < 2 ^ m
     go true = column_lt m (flipped Cmr m (shown x))

@@ -70,10 +70,10 @@ own_shows m cols narrow = record {
   spins = λ i k h l. shown_spin (get_or cols i 0) k;
 }
 
-pub look-columns-determined :
+pub look_columns_determined :
     (mode : Mode) (g : Group) (q : ℕ) (cols lent flags flags' : List ℕ) (r r' : Bool) → Lookable mode g q cols lent
     → Looks mode g.len q cols flags r → Looks mode g.len q cols flags' r' → SameLooked flags r flags' r'
-look-columns-determined mode g q cols lent flags flags' r r' p a b =
+look_columns_determined mode g q cols lent flags flags' r r' p a b =
     let w = own_shows g.len cols p.narrow in
     record {
       bytes = flags_unique (length cols) _ flags flags' (a.flagged _ w) (b.flagged _ w);
@@ -81,10 +81,10 @@ look-columns-determined mode g q cols lent flags flags' r r' p a b =
     }
 
 module _ (mode : Mode) (n : ℕ) (g : Group) (q : ℕ) (xs : List ℤ) where
-  pub look-determined :
+  pub look_determined :
       (cols flags : List ℕ) (r : Bool) (cols' flags' : List ℕ) (r' : Bool)
       → Sights mode n g q xs cols flags r → Sights mode n g q xs cols' flags' r' → SameSights cols flags r cols' flags' r'
-  look-determined cols flags r cols' flags' r' a b = record {
+  look_determined cols flags r cols' flags' r' a b = record {
     columns = columns_unique _ _ _ cols cols' a.columns b.columns;
     flagged = flags_unique n _ flags flags' a.flagged b.flagged;
     result = tells_determined _ r r' a.some b.some;

@@ -16,7 +16,7 @@ use Rattle.laws.specs.Patterns.{times_spin, Spinning}
 use Rattle.laws.specs.Partners.{partner_lt}
 use Rattle.laws.specs.Acting.{test_ext}
 use Rattle.columns.specs.Column.{shown, column_of, flipped, Columns, shown_column, column_ext, column_lt}
-use Rattle.columns.specs.Gauge.{gauge_of, gauge-column}
+use Rattle.columns.specs.Gauge.{gauge_of, gauge_column}
 use Rattle.column_rules.specs.Tables.{Table, acts_entry, SomeMarked, Looked}
 
 -- a flip reads the first m places alone
@@ -92,7 +92,7 @@ module _
         (gauged : g ≡ gauge_of mode m (column_of m P)) (looked : Looked t g cols acts r)
       where
         seen : (i : ℕ) → i < n → bit_xor (get_or cols i 0) g ≡ column_of m (gauge mode P (f i))
-        seen i h = rw (panel.at i h, gauged) (gauge-column mode m P (f i) reference (spins i h))
+        seen i h = rw (panel.at i h, gauged) (gauge_column mode m P (f i) reference (spins i h))
 
         entry : (i : ℕ) → i < n → get_or t (column_of m (gauge mode P (f i))) 0 ≡ bit (site_acts i)
         entry i h =

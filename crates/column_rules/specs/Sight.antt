@@ -12,7 +12,7 @@ use Rattle.paper.specs.Site.Acting.{gauge, test_by, acts, SomeActs, NoneActs}
 use Rattle.paper.specs.Component.Marks.{Flags}
 use Rattle.paper.specs.Refusal.Rules.{Spin}
 use Rattle.columns.specs.Column.{shown, column_of, column_lt, Inside, Spinning, Columns}
-use Rattle.columns.specs.Gauge.{gauge_of, gauge-column}
+use Rattle.columns.specs.Gauge.{gauge_of, gauge_column}
 use Rattle.column_rules.specs.Laws.{SomeSite, none_passes, gauge_spin, test_column}
 
 -- the group's pattern at the site i as the mode sees it, with the reference site q
@@ -111,12 +111,12 @@ module _ (mode : Mode) (n : ℕ) (g : Group) (q : ℕ) (xs : List ℤ) (spins : 
 
 -- a site's column, seen through the gauge of the reference site, acts just if the site does
 module _ {mode : Mode} {n : ℕ} {g : Group} {q : ℕ} {xs : List ℤ} (p : Sighted mode n g q xs) {i column gauge : ℕ} (below : i < n) where
-  pub column-acts :
+  pub column_acts_lem :
       column ≡ column_of g.len (pattern_of n g xs i) → gauge ≡ gauge_of mode g.len (column_of g.len (pattern_of n g xs q))
       → test_by mode g.len (shown (bit_xor column gauge)) ≡ acts_at mode n g q xs i
-  column-acts ec eg =
+  column_acts_lem ec eg =
       (λ j. test_by mode g.len (shown (bit_xor (ec j) (eg j))))
-      ∙ (ap (λ (x : ℕ). test_by mode g.len (shown x)) (gauge-column mode g.len (pattern_of n g xs q) (pattern_of n g xs i) at_reference here)
+      ∙ (ap (λ (x : ℕ). test_by mode g.len (shown x)) (gauge_column mode g.len (pattern_of n g xs q) (pattern_of n g xs i) at_reference here)
       ∙ test_column mode g.len (seen_by mode n g q xs i) (λ k h. seen_spin mode n g q xs p.spins p.reference i k below h) p.size_low)
     where
       at_reference : is_gperm mode ≡ true → (k : ℕ) → k < g.len → Spin (pattern_of n g xs q k)

@@ -32,10 +32,10 @@ none_packed {n} {f} long cleared = record {
   at = λ i h. cleared.zeros i (omega arith) ∙ sym (code_none (λ k. is_up (f i k)));
 }
 
-pub row-packed :
+pub row_packed :
     {n k w : ℕ} {f : ℕ → Pattern} {t : ℕ → Bool} {xs ys : List ℕ} → Columns n k f xs → w ≡ 2 ^ k
     → Filled 0 (λ i. get_or xs i 0 + bit (t i) * w) (length xs) xs ys → ((i : ℕ) → i < n → t i ≡ is_up (f i k)) → Columns n (k + 1) f ys
-row-packed {n} {k} {w} {f} {t} {xs} {ys} was e added same = record { long = added.long ∙ was.long; at = at }
+row_packed {n} {k} {w} {f} {t} {xs} {ys} was e added same = record { long = added.long ∙ was.long; at = at }
   where
     at : (i : ℕ) → i < n → get_or ys i 0 ≡ column_of (k + 1) (f i)
     at i h = added.done i (omega (arith, was.long)) ∙ rw (was.at i h, same i h, e, code_more)

@@ -10,12 +10,12 @@ use Rattle.columns.specs.Column.{shown, column_of, Columns}
 use Rattle.columns.specs.Gauge.{gauge_of}
 use Rattle.columns.specs.Rows.{Written, SiteWritten}
 
-pub permute-group-site-determined :
+pub permute_group_site_determined :
     (column : ℕ) (g : Group) (perm : List ℕ) (r r' : ℕ)
     → r ≡ column_of g.len (λ k. shown column (get_or perm k 0))
     → r' ≡ column_of g.len (λ k. shown column (get_or perm k 0))
     → r ≡ r'
-permute-group-site-determined column g perm r r' e e' = e ∙ sym e'
+permute_group_site_determined column g perm r r' e e' = e ∙ sym e'
 
 pub copy_determined : (cols to to' : List ℕ) → to ≡ cols → to' ≡ cols → to ≡ to'
 copy_determined cols to to' e e' = e ∙ sym e'
@@ -26,26 +26,26 @@ columns_unique n m f cols cols' c c' = ext_get_or 0 cols cols' (c.long ∙ sym c
     at : (i : ℕ) → i < length cols → get_or cols i 0 ≡ get_or cols' i 0
     at i h = let l : i < n = omega (arith, c.long) in c.at i l ∙ sym (c'.at i l)
 
-pub pack-determined :
+pub pack_determined :
     (n : ℕ) (g : Group) (xs : List ℤ) (cols cols' : List ℕ)
     → Columns n g.len (pattern_of n g xs) cols
     → Columns n g.len (pattern_of n g xs) cols'
     → cols ≡ cols'
-pack-determined n g xs = columns_unique n g.len (pattern_of n g xs)
+pack_determined n g xs = columns_unique n g.len (pattern_of n g xs)
 
-pub gauge-determined :
+pub gauge_determined :
     (mode : Mode) (g : Group) (reference : ℕ) (cols : List ℕ) (r r' : ℕ)
     → r ≡ gauge_of mode g.len (get_or cols reference 0)
     → r' ≡ gauge_of mode g.len (get_or cols reference 0)
     → r ≡ r'
-gauge-determined mode g reference cols r r' e e' = e ∙ sym e'
+gauge_determined mode g reference cols r r' e e' = e ∙ sym e'
 
-pub write-rows-determined :
+pub write_rows_determined :
     (n : ℕ) (g : Group) (cols : List ℕ) (xs ys zs : List ℤ)
     → Written n g.len g cols xs ys
     → Written n g.len g cols xs zs
     → ys ≡ zs
-write-rows-determined n g cols xs ys zs w v = go (ℕ_discrete n 0)
+write_rows_determined n g cols xs ys zs w v = go (ℕ_discrete n 0)
   where
     at : (t i : ℕ) → i < n → Placed g.len (member g) t ⊎ ((k : ℕ) → k < g.len → t ≢ member g k) → spin n ys t i ≡ spin n zs t i
     at t i h (inl r) = rw r.2 (w.group i r.0 h r.1 ∙ sym (v.group i r.0 h r.1))
@@ -66,16 +66,16 @@ module _ (n : ℕ) (g : Group) (xs : List ℤ) (i : ℕ) where
   pub quick_column_at_determined : (r r' : ℕ) → r ≡ column_of g.len (pattern_of n g xs i) → r' ≡ column_of g.len (pattern_of n g xs i) → r ≡ r'
   quick_column_at_determined r r' e e' = e ∙ sym e'
 
-  pub gauge-at-determined :
+  pub gauge_at_determined :
       (mode : Mode) (r r' : ℕ)
       → r ≡ gauge_of mode g.len (column_of g.len (pattern_of n g xs i))
       → r' ≡ gauge_of mode g.len (column_of g.len (pattern_of n g xs i))
       → r ≡ r'
-  gauge-at-determined mode r r' e e' = e ∙ sym e'
+  gauge_at_determined mode r r' e e' = e ∙ sym e'
 
-  pub write-site-determined :
+  pub write_site_determined :
       (column : ℕ) (ys zs : List ℤ) → SiteWritten n g.len g i column xs ys → SiteWritten n g.len g i column xs zs → ys ≡ zs
-  write-site-determined column ys zs w v =
+  write_site_determined column ys zs w v =
       ext_get_or (pos 0) ys zs (w.long ∙ sym v.long) (λ x h. at x (place g.len (λ k. member g k * n + i) x))
     where
       at : (x : ℕ) → Placed g.len (λ k. member g k * n + i) x ⊎ Unplaced g.len (λ k. member g k * n + i) x → get_or ys x (pos 0) ≡ get_or zs x (pos 0)

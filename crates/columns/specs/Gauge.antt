@@ -52,25 +52,25 @@ product z x (inr p) (inl q) = rw (p, q)
 product z x (inr p) (inr q) = rw (p, q)
 
 -- with the pattern P at the reference site
-pub gauge-column :
+pub gauge_column :
     (mode : Mode) (m : ℕ) (P f : Pattern)
     → (is_gperm mode ≡ true → (k : ℕ) → k < m → Spin (P k)) → ((k : ℕ) → k < m → Spin (f k))
     → bit_xor (column_of m f) (gauge_of mode m (column_of m P)) ≡ column_of m (gauge mode P f)
-gauge-column Houd m P f sp sf = xor_zero_r (column_of m f)
-gauge-column Pair m P f sp sf = xor_zero_r (column_of m f)
-gauge-column Perm m P f sp sf = xor_zero_r (column_of m f)
-gauge-column Gperm m P f sp sf =
+gauge_column Houd m P f sp sf = xor_zero_r (column_of m f)
+gauge_column Pair m P f sp sf = xor_zero_r (column_of m f)
+gauge_column Perm m P f sp sf = xor_zero_r (column_of m f)
+gauge_column Gperm m P f sp sf =
     xor_code m (λ k. is_up (f k)) (λ k. is_up (neg_ℤ (shown (column_of m P) k)))
     ∙ code_ext m _ _
     (λ k h. ap (λ (z : ℤ). flip (is_up (neg_ℤ z)) (is_up (f k))) (shown_column m P k h (sp refl k h)) ∙ product (P k) (f k) (sp refl k h) (sf k h))
-gauge-column Jorg m P f sp sf = xor_zero_r (column_of m f)
-gauge-column Cmr m P f sp sf = xor_zero_r (column_of m f)
+gauge_column Jorg m P f sp sf = xor_zero_r (column_of m f)
+gauge_column Cmr m P f sp sf = xor_zero_r (column_of m f)
 
 -- the byte made of the columns of a panel is that of the reference site's pattern
-pub gauge-is :
+pub gauge_is :
     (mode : Mode) (m n q : ℕ) (f : ℕ → Pattern) {cols : List ℕ} → Columns n m f cols → (is_gperm mode ≡ true → q < n)
     → gauge_of mode m (get_or cols q 0) ≡ gauge_of mode m (column_of m (f q))
-gauge-is mode m n q f {cols} c below = go (is_gperm mode) below
+gauge_is mode m n q f {cols} c below = go (is_gperm mode) below
   where
     go :
         (b : Bool) → (b ≡ true → q < n)

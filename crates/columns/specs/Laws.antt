@@ -11,10 +11,10 @@ use Rattle.columns.specs.Rows.{Written, SiteWritten}
 -- ---- columns
 
 -- the columns of spins show them
-pub columns-shown :
+pub columns_shown :
     {n m : ℕ} {f : ℕ → Pattern} {cols : List ℕ} → Columns n m f cols
     → (i k : ℕ) → i < n → k < m → Spin (f i k) → shown (get_or cols i 0) k ≡ f i k
-columns-shown {n} {m} {f} c i k h l s = rw (c.at i h) (shown_column m (f i) k l s)
+columns_shown {n} {m} {f} c i k h l s = rw (c.at i h) (shown_column m (f i) k l s)
 
 -- a permuted column shows at the place k what it showed at the place p k
 pub permuted_shown : (m column : ℕ) (p : ℕ → ℕ) (k : ℕ) → k < m → shown (column_of m (λ j. shown column (p j))) k ≡ shown column (p k)
@@ -23,12 +23,12 @@ permuted_shown m column p k h = shown_column m (λ j. shown column (p j)) k h (s
 -- ---- rows
 
 -- rows written from the columns of spins are those spins
-pub written-columns :
+pub written_columns :
     {n : ℕ} {g : Group} {xs ys : List ℤ} {cols : List ℕ} {f : ℕ → Pattern}
     → Written n g.len g cols xs ys
     → Columns n g.len f cols
     → (i k : ℕ) → i < n → k < g.len → Spin (f i k) → pattern_of n g ys i k ≡ f i k
-written-columns w c i k h l s = w.group i k h l ∙ columns-shown c i k h l s
+written_columns w c i k h l s = w.group i k h l ∙ columns_shown c i k h l s
 
 -- one site written: what was at another site, and what another system had, is there still
 module _ {n : ℕ} {g : Group} {i column : ℕ} {xs ys : List ℤ} (w : SiteWritten n g.len g i column xs ys) (site : i < n) where

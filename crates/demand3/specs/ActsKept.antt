@@ -32,28 +32,28 @@ flip_permuted : (m : ℕ) (t : Bool) (u : Pattern) → pair_differs (m / 2) (λ 
 flip_permuted m true u = pair_partner m u
 flip_permuted m false u = refl
 
-test-permuted :
+test_permuted :
     (m : Mode) (c : Call) (p : Choices) (r : ℕ) (u : Pattern)
     → 0 < size c
     → Reversible m (size c)
     → Permutes (size c) (chosen_by m c p r)
     → test_by m (size c) (λ k. u (chosen_by m c p r k)) ≡ test_by m (size c) u
-test-permuted Houd c p r u z v h = ap (λ (x : ℤ). eq_z x (pos 0)) (sum_permuted (size c) (chosen_by Houd c p r) u h)
-test-permuted Pair c p r u z v h = flip_permuted (size c) (flip_of c p r) u
-test-permuted Perm c p r u z v h = differs_permuted (size c) (perm_of c p r) u z h
-test-permuted Gperm c p r u z v h = differs_permuted (size c) (perm_of c p r) u z h
-test-permuted Jorg c p r u z v h = absurd v
-test-permuted Cmr c p r u z v h = absurd v
+test_permuted Houd c p r u z v h = ap (λ (x : ℤ). eq_z x (pos 0)) (sum_permuted (size c) (chosen_by Houd c p r) u h)
+test_permuted Pair c p r u z v h = flip_permuted (size c) (flip_of c p r) u
+test_permuted Perm c p r u z v h = differs_permuted (size c) (perm_of c p r) u z h
+test_permuted Gperm c p r u z v h = differs_permuted (size c) (perm_of c p r) u z h
+test_permuted Jorg c p r u z v h = absurd v
+test_permuted Cmr c p r u z v h = absurd v
 
-pub acts-chosen :
+pub acts_chosen :
     (m : Mode) (c : Call) (p : Choices) (r : ℕ) (P Q f g : Pattern)
     → 0 < size c
     → Reversible m (size c)
     → Permutes (size c) (chosen_by m c p r)
     → ((k : ℕ) → k < size c → gauge m P f k ≡ gauge m Q g (chosen_by m c p r k))
     → acts_by m (size c) P f ≡ acts_by m (size c) Q g
-acts-chosen m c p r P Q f g z v h e =
-    test_ext m (size c) (gauge m P f) (λ k. gauge m Q g (chosen_by m c p r k)) z e ∙ test-permuted m c p r (gauge m Q g) z v h
+acts_chosen m c p r P Q f g z v h e =
+    test_ext m (size c) (gauge m P f) (λ k. gauge m Q g (chosen_by m c p r k)) z e ∙ test_permuted m c p r (gauge m Q g) z v h
 
 -- the reference site never acts
 pub reference_rests : (s : ℕ) (P : Pattern) → 0 < s → Spinning s P → acts_by Gperm s P P ≡ false

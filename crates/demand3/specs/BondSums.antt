@@ -15,18 +15,18 @@ use Rattle.paper.specs.Refusal.Rules.{Permutes}
 use Rattle.paper.specs.Site.Energy.{bond_sum}
 use Rattle.laws.specs.Permuted.{sum_permuted}
 use Rattle.laws.specs.Patterns.{Spinning}
-use Rattle.demand3.specs.Reversible.{holds_both, gauge-product, still}
+use Rattle.demand3.specs.Reversible.{holds_both, gauge_product, still}
 use Rattle.demand3.specs.Step.{Step, reached_no}
 use Rattle.demand3.specs.Turns.{seen_at, permutes_at, turned, spins_kept}
 
-same-reached :
+same_reached :
     (f : Form) (c : Call) (l : List ℕ) (i j : ℕ)
     → label_of l i ≡ label_of l j
     → reached_by f c.mode c.seed l i ≡ reached_by f c.mode c.seed l j
-same-reached Sw c l i j e = rw e refl
-same-reached Wolff c l i j e = rw e refl
-same-reached Observe c l i j e = refl
-same-reached Grow c l i j e = rw e refl
+same_reached Sw c l i j e = rw e refl
+same_reached Wolff c l i j e = rw e refl
+same_reached Observe c l i j e = refl
+same_reached Grow c l i j e = rw e refl
 
 module _ {c : Call} {p : Choices} {xs : List ℤ} {l : List ℕ} {ys : List ℤ} (s : Step c p xs l ys) where
   -- one permutation of the places turns both sites
@@ -40,7 +40,7 @@ module _ {c : Call} {p : Choices} {xs : List ℤ} {l : List ℕ} {ys : List ℤ}
   swap t = record { way = t.way; permutes = t.permutes; left = t.right; right = t.left }
 
   -- a site that is reached turns by its choice, and one that is not stays
-  by-choice :
+  by_choice :
       (i : ℕ)
       → i < c.lattice.n
       → (t : Bool)
@@ -48,14 +48,14 @@ module _ {c : Call} {p : Choices} {xs : List ℤ} {l : List ℕ} {ys : List ℤ}
       → (k : ℕ)
       → k < size c
       → seen_at c ys i k ≡ seen_at c xs i (cond t (chosen c p (label_of l i) k) k)
-  by-choice i hi t e k hk = turned s i k hi hk ∙ ap (λ (t : Bool). seen_at c xs i (cond t (chosen c p (label_of l i) k) k)) e
+  by_choice i hi t e k hk = turned s i k hi hk ∙ ap (λ (t : Bool). seen_at c xs i (cond t (chosen c p (label_of l i) k) k)) e
 
   neither : (i j : ℕ) → i < c.lattice.n → j < c.lattice.n → reached c xs l i ≡ false → reached c xs l j ≡ false → Together i j
   neither i j hi hj ei ej = record {
     way = λ k. k;
     permutes = record { within = λ k h. h; distinct = λ a b _ _ e. e };
-    left = by-choice i hi false ei;
-    right = by-choice j hj false ej;
+    left = by_choice i hi false ei;
+    right = by_choice j hj false ej;
   }
 
   -- a site that does not act looks the same turned by any choice
@@ -75,8 +75,8 @@ module _ {c : Call} {p : Choices} {xs : List ℤ} {l : List ℕ} {ys : List ℤ}
       go true e = record {
         way = chosen c p (label_of l i);
         permutes = permutes_at s i hi e;
-        left = by-choice i hi true e;
-        right = λ k hk. by-choice j hj false off k hk ∙ sym (alike e k hk);
+        left = by_choice i hi true e;
+        right = λ k hk. by_choice j hj false off k hk ∙ sym (alike e k hk);
       }
 
   -- both ends act: the bond holds, so they have one label
@@ -94,16 +94,16 @@ module _ {c : Call} {p : Choices} {xs : List ℤ} {l : List ℕ} {ys : List ℤ}
       label = s.told.joint i e hi he on
 
       alike : reached c xs l i ≡ reached c xs l (ahead c i e)
-      alike = rw (ai, aj, same-reached c.form c l i (ahead c i e) label, label) refl
+      alike = rw (ai, aj, same_reached c.form c l i (ahead c i e) label, label) refl
 
       go : (t : Bool) → reached c xs l i ≡ t → Together i (ahead c i e)
       go false q = neither i (ahead c i e) hi hj q (sym alike ∙ q)
       go true q = record {
         way = chosen c p (label_of l i);
         permutes = permutes_at s i hi q;
-        left = by-choice i hi true q;
+        left = by_choice i hi true q;
         right = λ k hk.
-            by-choice (ahead c i e) hj true (sym alike ∙ q) k hk
+            by_choice (ahead c i e) hj true (sym alike ∙ q) k hk
             ∙ ap (λ (r : ℕ). seen_at c xs (ahead c i e) (chosen c p r k)) (sym label);
       }
 
@@ -116,25 +116,25 @@ module _ {c : Call} {p : Choices} {xs : List ℤ} {l : List ℕ} {ys : List ℤ}
       go true true p q = joint i e hi he p q
 
   -- the sum of the products of end spins is that of the gauged patterns
-  gauged-sum :
+  gauged_sum :
       (zs : List ℤ)
       → ((i : ℕ) → i < c.lattice.n → Spinning (size c) (pattern c zs i))
       → (i e : ℕ)
       → i < c.lattice.n
       → e < c.lattice.d
       → sum (size c) (λ k. seen_at c zs i k *ℤ seen_at c zs (ahead c i e) k) ≡ bond_sum c zs i e
-  gauged-sum zs h i e hi he =
+  gauged_sum zs h i e hi he =
       sum_ext (size c) _ _
       (λ k hk.
-      gauge-product c.mode (pattern c zs c.reference) (pattern c zs i) (pattern c zs (ahead c i e)) k
+      gauge_product c.mode (pattern c zs c.reference) (pattern c zs i) (pattern c zs (ahead c i e)) k
       (λ q. h c.reference (s.reference q) k hk) (h i hi k hk) (h (ahead c i e) (s.inside i e hi he) k hk))
 
   pub sum_kept : (i e : ℕ) → i < c.lattice.n → e < c.lattice.d → bond_sum c ys i e ≡ bond_sum c xs i e
   sum_kept i e hi he =
-      sym (gauged-sum ys (spins_kept s) i e hi he)
+      sym (gauged_sum ys (spins_kept s) i e hi he)
       ∙ (sum_ext (size c) _ (λ k. seen_at c xs i (t.way k) *ℤ seen_at c xs (ahead c i e) (t.way k)) (λ k hk. cc (t.left k hk, t.right k hk))
       ∙ (sum_permuted (size c) t.way (λ k. seen_at c xs i k *ℤ seen_at c xs (ahead c i e) k) t.permutes
-      ∙ gauged-sum xs s.spins i e hi he))
+      ∙ gauged_sum xs s.spins i e hi he))
     where
       t : Together i (ahead c i e)
       t = together i e hi he

@@ -19,7 +19,7 @@ use Rattle.laws.specs.Forms.{forms_apart}
 use Rattle.laws.specs.Local.{Alike, acts_local, holds_local}
 use Rattle.laws.specs.Unique.{numbered_ext, counts_ext, sizes_ext}
 use Rattle.laws.specs.Holding.{held_labels}
-use Rattle.laws.specs.MovesExist.{write, moves-exist}
+use Rattle.laws.specs.MovesExist.{write, moves_exist}
 use Rattle.demand3.specs.Statement.{Reversible, Move, SameRows, Outcome}
 use Rattle.demand3.specs.Reversible.{not_cmr}
 use Rattle.demand3.specs.Step.{Step, step, seen_of, valid_move}
@@ -142,7 +142,7 @@ module _
       valid = valid_kept c r d k;
       some = some;
       free = λ one h. never (sym e ∙ rw (one, (held_so one).1 h) refl);
-      moved = λ _. moves-exist c r d.spins l d.grey_labels k.sound.grouped k.sound.exact.spins;
+      moved = λ _. moves_exist c r d.spins l d.grey_labels k.sound.grouped k.sound.exact.spins;
       turned = forms_apart c.form f;
       seen = seen _;
     }))

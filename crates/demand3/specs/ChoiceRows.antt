@@ -112,12 +112,12 @@ module _ (c : Call) (e : is_perm c.mode ≡ true) (f : moves c.form ≡ true) wh
 
 -- the rows as tests see them
 module _ (c : Call) (e : is_perm c.mode ≡ true) (r : ℕ) (hr : r < entries c.form c.lattice.n) where
-  pub composite-row :
+  pub composite_row :
       (p q : Choices)
       → Permutes (size c) (perm_row c p r)
       → Permutes (size c) (perm_row c q r)
       → Permutes (size c) (perm_row c (composite c p q) r)
-  composite-row p q hp hq =
+  composite_row p q hp hq =
       permutes_ext (size c) (λ k. perm_row c p r (perm_row c q r k)) (perm_row c (composite c p q) r)
       (λ k hk. rw e (rows_at c (λ r k. perm_row c p r (perm_row c q r k)) r k hr hk))
       (twice (size c) (perm_row c p r) (perm_row c q r) hp hq)
@@ -133,12 +133,12 @@ module _ (c : Call) (e : is_perm c.mode ≡ true) (r : ℕ) (hr : r < entries c.
       (λ k hk. rw e (rows_at c (λ r. place_of (size c) (perm_row c p r)) r k hr hk))
       (back_permutes (size c) (perm_row c p r) hp)
 
-  pub inverse-moves :
+  pub inverse_moves :
       (p : Choices)
       → Permutes (size c) (perm_row c p r)
       → NotIdentity (size c) (perm_row c p r)
       → NotIdentity (size c) (perm_row c (inverse c p) r)
-  inverse-moves p hp w =
+  inverse_moves p hp w =
       moves_ext (size c) (place_of (size c) (perm_row c p r)) (perm_row c (inverse c p) r)
       (λ k hk. rw e (rows_at c (λ r. place_of (size c) (perm_row c p r)) r k hr hk))
       (back_moves (size c) (perm_row c p r) hp w)

@@ -32,19 +32,19 @@ flip_in Gperm s v e c p l k = never (sym e)
 flip_in Jorg s v e c p l k = absurd v
 flip_in Cmr s v e c p l k = absurd v
 
-flips-add :
+flips_add :
     (s x y z k : ℕ)
     → x ≤ 1
     → y ≤ 1
     → z ≡ (x + y) % 2
     → cond (eqb z 1) (partner s k) k ≡ cond (eqb x 1) (partner s (cond (eqb y 1) (partner s k) k)) (cond (eqb y 1) (partner s k) k)
-flips-add s zero zero z k hx hy e = rw e refl
-flips-add s zero (suc zero) z k hx hy e = rw e refl
-flips-add s (suc zero) zero z k hx hy e = rw e refl
-flips-add s (suc zero) (suc zero) z k hx hy e = rw e (sym (partner_twice s k))
-flips-add s (suc (suc x)) y z k hx hy e = absurd (omega arith)
-flips-add s zero (suc (suc y)) z k hx hy e = absurd (omega arith)
-flips-add s (suc zero) (suc (suc y)) z k hx hy e = absurd (omega arith)
+flips_add s zero zero z k hx hy e = rw e refl
+flips_add s zero (suc zero) z k hx hy e = rw e refl
+flips_add s (suc zero) zero z k hx hy e = rw e refl
+flips_add s (suc zero) (suc zero) z k hx hy e = rw e (sym (partner_twice s k))
+flips_add s (suc (suc x)) y z k hx hy e = absurd (omega arith)
+flips_add s zero (suc (suc y)) z k hx hy e = absurd (omega arith)
+flips_add s (suc zero) (suc (suc y)) z k hx hy e = absurd (omega arith)
 
 flip_twice : (s : ℕ) (t : Bool) (k : ℕ) → cond t (partner s (cond t (partner s k) k)) (cond t (partner s k) k) ≡ k
 flip_twice s true k = partner_twice s k
@@ -58,16 +58,16 @@ module _ (c : Call) (v : Reversible c.mode (size c)) (e : is_perm c.mode ≡ fal
   flip_both p q l k = flip_is p l (chosen c q l k)
 
   -- SW: the flips of the one move are the sums modulo 2 of the two moves' flips
-  pub add-composes :
+  pub add_composes :
       (p q r : Choices)
       → c.form ≡ Sw
       → ((l : ℕ) → l < c.lattice.n → get_or p.choices l 0 ≤ 1)
       → ((l : ℕ) → l < c.lattice.n → get_or q.choices l 0 ≤ 1)
       → ((l : ℕ) → l < c.lattice.n → get_or r.choices l 0 ≡ (get_or p.choices l 0 + get_or q.choices l 0) % 2)
       → ComposedAll c p q r
-  add-composes p q r sw hp hq hr l hl k hk =
+  add_composes p q r sw hp hq hr l hl k hk =
       rw (flip_is r l k, flip_both p q l k, flip_is q l k, sw)
-      (flips-add (size c) (get_or p.choices l 0) (get_or q.choices l 0) (get_or r.choices l 0) k (hp l hl) (hq l hl) (hr l hl))
+      (flips_add (size c) (get_or p.choices l 0) (get_or q.choices l 0) (get_or r.choices l 0) k (hp l hl) (hq l hl) (hr l hl))
 
   -- the same flips cancel
   pub same_cancels : (p q : Choices) → ((l : ℕ) → flip_of c q l ≡ flip_of c p l) → CancelsAll c p q

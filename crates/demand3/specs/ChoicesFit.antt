@@ -12,8 +12,8 @@ use Rattle.paper.specs.Refusal.Rules.{When, NotIdentity, perm_row, Chosen}
 use Rattle.laws.specs.Choices.{flips_taken, flips_bytes}
 use Rattle.demand3.specs.Statement.{Reversible, composite, inverse, identity, place_of}
 use Rattle.demand3.specs.Reversible.{not_cmr}
-use Rattle.demand3.specs.ChoicesAdd.{ComposedAll, CancelsAll, flip_is, add-composes, same_cancels}
-use Rattle.demand3.specs.ChoiceRows.{rows_long, perm_composes, perm_cancels, perm_stays, composite-row, composite_moves, inverse_row, inverse-moves}
+use Rattle.demand3.specs.ChoicesAdd.{ComposedAll, CancelsAll, flip_is, add_composes, same_cancels}
+use Rattle.demand3.specs.ChoiceRows.{rows_long, perm_composes, perm_cancels, perm_stays, composite_row, composite_moves, inverse_row, inverse_moves}
 use Rattle.demand3.specs.ChoiceRows.{identity_row}
 
 small : (x : ℕ) → x % 2 ≤ 1
@@ -48,11 +48,11 @@ module _ (c : Call) (v : Reversible c.mode (size c)) where
   no_greys_wolff t = and_left (takes_greys c) _ t
 
   module _ {p q : Choices} (hp : Chosen c p) (hq : Chosen c q) where
-    pub composite-chosen :
+    pub composite_chosen :
         When (takes_perms c && one_cluster c.form) (NotIdentity (size c) (λ k. perm_row c p 0 (perm_row c q 0 k)))
         → Chosen c (composite c p q)
-    composite-chosen w = record {
-      perms = λ t r hr. composite-row c (permuting c t) r hr p q (hp.perms t r hr) (hq.perms t r hr);
+    composite_chosen w = record {
+      perms = λ t r hr. composite_row c (permuting c t) r hr p q (hp.perms t r hr) (hq.perms t r hr);
       not_identity_lem = λ t.
           composite_moves c (permuting c (and_left (takes_perms c) _ t)) 0 (one_entry c.form c.lattice.n (and_right (takes_perms c) _ t)) p q (w t);
       flips = λ t r l. rw (flipping c t, table_at c.lattice.n (λ l. (get_or p.choices l 0 + get_or q.choices l 0) % 2) r l) (small _);
@@ -69,7 +69,7 @@ module _ (c : Call) (v : Reversible c.mode (size c)) where
 
         go : (t : Bool) → is_perm c.mode ≡ t → ComposedAll c p q (composite c p q)
         go true e = perm_composes c e f p q
-        go false e = add-composes c v e p q (composite c p q) (sw e) (hp.flips (taken e)) (hq.flips (taken e))
+        go false e = add_composes c v e p q (composite c p q) (sw e) (hp.flips (taken e)) (hq.flips (taken e))
             (λ l hl. rw e (table_at c.lattice.n (λ l. (get_or p.choices l 0 + get_or q.choices l 0) % 2) l hl))
 
   module _ {p : Choices} (hp : Chosen c p) where
@@ -79,7 +79,7 @@ module _ (c : Call) (v : Reversible c.mode (size c)) where
       not_identity_lem = λ t.
           let hr = one_entry c.form c.lattice.n (and_right (takes_perms c) _ t) in
           let taken = and_left (takes_perms c) _ t in
-          inverse-moves c (permuting c taken) 0 hr p (hp.perms taken 0 hr) (hp.not_identity_lem t);
+          inverse_moves c (permuting c taken) 0 hr p (hp.perms taken 0 hr) (hp.not_identity_lem t);
       flips = λ t. rw (flipping c t) (hp.flips t);
       greys = λ t. never (sym no_greys ∙ t);
       grey_some = λ t. never (sym no_greys ∙ no_greys_wolff t);

@@ -16,16 +16,16 @@ use Rattle.paper.specs.Move.Moving.{reached_by, has_one, held, reached}
 use Rattle.paper.specs.Answer.Move.{SeedHeld}
 use Rattle.laws.specs.Holding.{held_labels}
 
-seed-only :
+seed_only :
     (f : Form) (c : Call) (l : List ℕ) (i : ℕ)
     → labels_by f ≡ true
     → one_cluster f ≡ true
     → reached_by f c.mode c.seed l i ≡ true
     → label_of l i ≡ label_of l c.seed
-seed-only Sw c l i f one e = never one
-seed-only Wolff c l i f one e = eqb-true _ _ e
-seed-only Observe c l i f one e = never one
-seed-only Grow c l i f one e = never f
+seed_only Sw c l i f one e = never one
+seed_only Wolff c l i f one e = eqb-true _ _ e
+seed_only Observe c l i f one e = never one
+seed_only Grow c l i f one e = never f
 
 module _
     (c : Call) (xs : List ℤ) (f : labels_by c.form ≡ true) (one : one_cluster c.form ≡ true) (inside : c.seed < c.lattice.n)
@@ -42,5 +42,5 @@ module _
         go false e = e
         go true e =
             let both = and_right (acts c xs i) _ e in
-            let on = pinned_there (seed-only c.form c l i f one (and_left (reached_by c.form c.mode c.seed l i) _ both)) in
+            let on = pinned_there (seed_only c.form c l i f one (and_left (reached_by c.form c.mode c.seed l i) _ both)) in
             never (rw on at (and_right (reached_by c.form c.mode c.seed l i) (not (held c l i)) both))

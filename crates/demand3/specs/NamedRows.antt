@@ -11,7 +11,7 @@ use Rattle.paper.specs.Component.Sizes.{label_of}
 use Rattle.paper.specs.Move.Moving.{reached, after}
 use Rattle.paper.specs.Refusal.Rules.{Permutes}
 use Rattle.laws.specs.Entries.{perm_of, reached_moves}
-use Rattle.laws.specs.Local.{Alike, acts_local, final-local}
+use Rattle.laws.specs.Local.{Alike, acts_local, final_local}
 use Rattle.laws.specs.Unique.{numbered_unique, counts_unique, sizes_unique, counts_ext, sizes_ext}
 use Rattle.demand3.specs.Statement.{Reversible, Move, Such, SameRows, ComposedAt, Composed, CancelsAt, Cancels, Two, SameOutputs, inverse, Outcome}
 use Rattle.demand3.specs.Reversible.{not_cmr}
@@ -32,7 +32,7 @@ pub record NamedRows (c : Call) : Type 0 where
   pub same : {p : Choices} {b b' d d' : Buffers} → Such c p b b' → Such c p d d' → SameRows c d.spins b.spins → SameOutputs b' d'
   pub outputs : {p q : Choices} {b b' d d' : Buffers} → TwoNamed c p q b b' d d' → SameOutputs b' d'
   -- on one component; on all
-  pub composes-at :
+  pub composes_at :
       {p q r : Choices} {b b' d d' e e' : Buffers}
       → TwoNamed c p q b b' d d'
       → Such c r e e'
@@ -49,7 +49,7 @@ pub record NamedRows (c : Call) : Type 0 where
       → SameRows c e.spins b.spins
       → Composed c b.spins b'.labels p q r
       → SameRows c d'.spins e'.spins
-  pub restores-at :
+  pub restores_at :
       {p q : Choices} {b b' d d' : Buffers}
       → TwoNamed c p q b b' d d'
       → (i k : ℕ)
@@ -59,7 +59,7 @@ pub record NamedRows (c : Call) : Type 0 where
       → pattern c d'.spins i k ≡ pattern c b.spins i k
   pub restores :
       {p q : Choices} {b b' d d' : Buffers} → TwoNamed c p q b b' d d' → Cancels c b.spins b'.labels p q → SameRows c d'.spins b.spins
-  pub restores-wolff :
+  pub restores_wolff :
       {p q : Choices} {b b' d d' : Buffers}
       → c.form ≡ Wolff
       → is_perm c.mode ≡ false
@@ -102,7 +102,7 @@ module _ (c : Call) (v : Reversible c.mode (size c)) (f : labels_by c.form ≡ t
     after_same i k hi hk =
         let plain = not_cmr c.mode (size c) v in
         sym (final_after c p d.spins b'.labels b'.grey_labels i k plain)
-        ∙ (final-local c d.spins b.spins one p b'.labels b'.grey_labels i k hi hk perms
+        ∙ (final_local c d.spins b.spins one p b'.labels b'.grey_labels i k hi hk perms
         ∙ final_after c p b.spins b'.labels b'.grey_labels i k plain)
       where
         perms : reached c d.spins b'.labels i ≡ true → is_perm c.mode ≡ true → Permutes (size c) (perm_of c p (label_of b'.labels i))
@@ -164,12 +164,12 @@ module _ (c : Call) (v : Reversible c.mode (size c)) (f : labels_by c.form ≡ t
     rows = λ a d. same_rows (move_of a) (move_of d);
     same = λ a d. same_outputs (move_of a) (move_of d);
     outputs = both_outputs;
-    composes-at = λ w u rows i k hi hk h.
-        then w i hi k hk ∙ ((demand3 c v f).composes-at (two w) (single w u rows) refl i k hi hk h ∙ sym (beside w u rows i hi k hk));
+    composes_at = λ w u rows i k hi hk h.
+        then w i hi k hk ∙ ((demand3 c v f).composes_at (two w) (single w u rows) refl i k hi hk h ∙ sym (beside w u rows i hi k hk));
     composes = λ w u rows h i hi k hk.
         then w i hi k hk ∙ (ap (rows_of i k) ((demand3 c v f).composes (two w) (single w u rows) refl h) ∙ sym (beside w u rows i hi k hk));
-    restores-at = λ w i k hi hk h. then w i hi k hk ∙ (demand3 c v f).restores-at (two w) i k hi hk h;
+    restores_at = λ w i k hi hk h. then w i hi k hk ∙ (demand3 c v f).restores_at (two w) i k hi hk h;
     restores = λ w h i hi k hk. then w i hi k hk ∙ ap (rows_of i k) ((demand3 c v f).restores (two w) h);
-    restores-wolff = λ wolff flips w i hi k hk. then w i hi k hk ∙ ap (rows_of i k) ((demand3 c v f).restores-wolff wolff flips (two w));
+    restores_wolff = λ wolff flips w i hi k hk. then w i hi k hk ∙ ap (rows_of i k) ((demand3 c v f).restores_wolff wolff flips (two w));
     inverse_restores = λ g w i hi k hk. then w i hi k hk ∙ ap (rows_of i k) ((demand3 c v f).inverse_restores g (two w));
   }

@@ -33,49 +33,49 @@ holds_both Jorg s v c xs i e = absurd v
 holds_both Cmr s v c xs i e = absurd v
 
 -- ---- the gauge is undone, and changes no product of end spins
-pub gauge-back :
+pub gauge_back :
     (m : Mode) (P f g : Pattern) (k : ℕ)
     → (is_gperm m ≡ true → Spin (P k))
     → Spin (f k)
     → Spin (g k)
     → gauge m P f k ≡ gauge m P g k
     → f k ≡ g k
-gauge-back Houd P f g k sp sf sg e = e
-gauge-back Pair P f g k sp sf sg e = e
-gauge-back Perm P f g k sp sf sg e = e
-gauge-back Gperm P f g k sp sf sg e = sym (ungauge (P k) (f k) (sp refl) sf) ∙ (ap (λ (x : ℤ). P k *ℤ x) e ∙ ungauge (P k) (g k) (sp refl) sg)
-gauge-back Jorg P f g k sp sf sg e = e
-gauge-back Cmr P f g k sp sf sg e = e
+gauge_back Houd P f g k sp sf sg e = e
+gauge_back Pair P f g k sp sf sg e = e
+gauge_back Perm P f g k sp sf sg e = e
+gauge_back Gperm P f g k sp sf sg e = sym (ungauge (P k) (f k) (sp refl) sf) ∙ (ap (λ (x : ℤ). P k *ℤ x) e ∙ ungauge (P k) (g k) (sp refl) sg)
+gauge_back Jorg P f g k sp sf sg e = e
+gauge_back Cmr P f g k sp sf sg e = e
 
-pub gauge-product :
+pub gauge_product :
     (m : Mode) (P f g : Pattern) (k : ℕ)
     → (is_gperm m ≡ true → Spin (P k))
     → Spin (f k)
     → Spin (g k)
     → gauge m P f k *ℤ gauge m P g k ≡ f k *ℤ g k
-gauge-product Houd P f g k sp sf sg = refl
-gauge-product Pair P f g k sp sf sg = refl
-gauge-product Perm P f g k sp sf sg = refl
-gauge-product Gperm P f g k sp sf sg = square (P k) (f k) (g k) (sp refl) sf sg
-gauge-product Jorg P f g k sp sf sg = refl
-gauge-product Cmr P f g k sp sf sg = refl
+gauge_product Houd P f g k sp sf sg = refl
+gauge_product Pair P f g k sp sf sg = refl
+gauge_product Perm P f g k sp sf sg = refl
+gauge_product Gperm P f g k sp sf sg = square (P k) (f k) (g k) (sp refl) sf sg
+gauge_product Jorg P f g k sp sf sg = refl
+gauge_product Cmr P f g k sp sf sg = refl
 
 -- a choice is a permutation of the places
 flip_permutes : (s : ℕ) (t : Bool) → Permutes s (λ k. cond t (partner s k) k)
 flip_permutes s true = partner_permutes s
 flip_permutes s false = record { within = λ k l. l; distinct = λ a b _ _ e. e }
 
-pub chosen-permutes :
+pub chosen_permutes :
     (m : Mode) (c : Call) (p : Choices) (r : ℕ)
     → Reversible m (size c)
     → (is_perm m ≡ true → Permutes (size c) (perm_of c p r))
     → Permutes (size c) (chosen_by m c p r)
-chosen-permutes Houd c p r v h = flip_permutes (size c) (flip_of c p r)
-chosen-permutes Pair c p r v h = flip_permutes (size c) (flip_of c p r)
-chosen-permutes Perm c p r v h = h refl
-chosen-permutes Gperm c p r v h = h refl
-chosen-permutes Jorg c p r v h = absurd v
-chosen-permutes Cmr c p r v h = absurd v
+chosen_permutes Houd c p r v h = flip_permutes (size c) (flip_of c p r)
+chosen_permutes Pair c p r v h = flip_permutes (size c) (flip_of c p r)
+chosen_permutes Perm c p r v h = h refl
+chosen_permutes Gperm c p r v h = h refl
+chosen_permutes Jorg c p r v h = absurd v
+chosen_permutes Cmr c p r v h = absurd v
 
 -- ---- what a choice makes of the gauged pattern: place k gets what place `chosen k` had
 abbrev negated : ℕ → Bool → Pattern → Pattern
@@ -91,7 +91,7 @@ houd_two true f s e zero h = (opposite (f 0) (f 1) (s 0 (omega arith)) (s 1 (ome
 houd_two true f s e (suc zero) h = (opposite (f 0) (f 1) (s 0 (omega arith)) (s 1 (omega arith)) e).1
 houd_two true f s e (suc (suc k)) h = absurd (omega arith)
 
-houd-act :
+houd_act :
     (m : ℕ)
     → m ≡ 2
     → (t : Bool) (f : Pattern)
@@ -100,9 +100,9 @@ houd-act :
     → (k : ℕ)
     → k < m
     → negated m t f k ≡ exchanged m t f k
-houd-act m q t f = rw q (houd_two t f)
+houd_act m q t f = rw q (houd_two t f)
 
-pub act-gauged :
+pub act_gauged :
     (m : Mode) (c : Call) (p : Choices) (r : ℕ) (P f : Pattern)
     → Reversible m (size c)
     → Permutes (size c) (chosen_by m c p r)
@@ -112,28 +112,28 @@ pub act-gauged :
     → (k : ℕ)
     → k < size c
     → gauge m P (act_by m c p P r f) k ≡ gauge m P f (chosen_by m c p r k)
-act-gauged Houd c p r P f v h sp sf a k l = houd-act (size c) v (flip_of c p r) f sf a k l
-act-gauged Pair c p r P f v h sp sf a k l = refl
-act-gauged Perm c p r P f v h sp sf a k l = refl
-act-gauged Gperm c p r P f v h sp sf a k l =
+act_gauged Houd c p r P f v h sp sf a k l = houd_act (size c) v (flip_of c p r) f sf a k l
+act_gauged Pair c p r P f v h sp sf a k l = refl
+act_gauged Perm c p r P f v h sp sf a k l = refl
+act_gauged Gperm c p r P f v h sp sf a k l =
     gauge_cancel (P k) (P (perm_of c p r k)) (f (perm_of c p r k)) (sp refl k l) (sp refl _ (h.within k l)) (sf _ (h.within k l))
-act-gauged Jorg c p r P f v h sp sf a k l = absurd v
-act-gauged Cmr c p r P f v h sp sf a k l = absurd v
+act_gauged Jorg c p r P f v h sp sf a k l = absurd v
+act_gauged Cmr c p r P f v h sp sf a k l = absurd v
 
 -- a moved pattern of spins is one of spins
-pub act-spin :
+pub act_spin :
     (m : Mode) (c : Call) (p : Choices) (r : ℕ) (P f : Pattern)
     → Reversible m (size c)
     → Permutes (size c) (chosen_by m c p r)
     → (is_gperm m ≡ true → Spinning (size c) P)
     → Spinning (size c) f
     → Spinning (size c) (act_by m c p P r f)
-act-spin Houd c p r P f v h sp sf k l = flip_spin (flip_of c p r && ltb k (2 * (size c / 2))) (f k) (sf k l)
-act-spin Pair c p r P f v h sp sf k l = sf _ (h.within k l)
-act-spin Perm c p r P f v h sp sf k l = sf _ (h.within k l)
-act-spin Gperm c p r P f v h sp sf k l = times_spin _ _ (times_spin _ _ (sp refl k l) (sp refl _ (h.within k l))) (sf _ (h.within k l))
-act-spin Jorg c p r P f v h sp sf k l = absurd v
-act-spin Cmr c p r P f v h sp sf k l = absurd v
+act_spin Houd c p r P f v h sp sf k l = flip_spin (flip_of c p r && ltb k (2 * (size c / 2))) (f k) (sf k l)
+act_spin Pair c p r P f v h sp sf k l = sf _ (h.within k l)
+act_spin Perm c p r P f v h sp sf k l = sf _ (h.within k l)
+act_spin Gperm c p r P f v h sp sf k l = times_spin _ _ (times_spin _ _ (sp refl k l) (sp refl _ (h.within k l))) (sf _ (h.within k l))
+act_spin Jorg c p r P f v h sp sf k l = absurd v
+act_spin Cmr c p r P f v h sp sf k l = absurd v
 
 -- ---- no choice changes a pattern that does not act
 all_same : (m : ℕ) (f : Pattern) (q : ℕ → ℕ) → Permutes m q → differs m f ≡ false → (k : ℕ) → k < m → f (q k) ≡ f k
@@ -150,7 +150,7 @@ two_same true f s e zero h = sym (agree (f 0) (f 1) (s 0 (omega arith)) (s 1 (om
 two_same true f s e (suc zero) h = agree (f 0) (f 1) (s 0 (omega arith)) (s 1 (omega arith)) e
 two_same true f s e (suc (suc k)) h = absurd (omega arith)
 
-houd-same :
+houd_same :
     (m : ℕ)
     → m ≡ 2
     → (t : Bool) (f : Pattern)
@@ -159,7 +159,7 @@ houd-same :
     → (k : ℕ)
     → k < m
     → exchanged m t f k ≡ f k
-houd-same m q t f = rw q (two_same t f)
+houd_same m q t f = rw q (two_same t f)
 
 pub still :
     (m : Mode) (c : Call) (p : Choices) (r : ℕ) (P f : Pattern)
@@ -170,7 +170,7 @@ pub still :
     → (k : ℕ)
     → k < size c
     → gauge m P f (chosen_by m c p r k) ≡ gauge m P f k
-still Houd c p r P f v h sf a k l = houd-same (size c) v (flip_of c p r) f sf a k l
+still Houd c p r P f v h sf a k l = houd_same (size c) v (flip_of c p r) f sf a k l
 still Pair c p r P f v h sf a k l = flip_same (size c) (flip_of c p r) f a k
 still Perm c p r P f v h sf a k l = all_same (size c) f (perm_of c p r) h a k l
 still Gperm c p r P f v h sf a k l = all_same (size c) (λ k. P k *ℤ f k) (perm_of c p r) h a k l

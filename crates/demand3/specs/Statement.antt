@@ -149,7 +149,7 @@ pub record Demand3 (c : Call) : Type 0 where
   -- and it writes the same component numbers and how many there are, the same counts and the same sizes
   pub outputs : {p q : Choices} {b b' d d' : Buffers} → Two c p q b b' d d' → SameOutputs b' d'
   -- "Two moves .. choosing p and then q on a component, leave the spin bytes of one such move choosing k to p(q(k))": on that component
-  pub composes-at :
+  pub composes_at :
       {p q r : Choices} {b b' d d' e e' : Buffers}
       → Two c p q b b' d d'
       → Such c r e e'
@@ -170,7 +170,7 @@ pub record Demand3 (c : Call) : Type 0 where
   -- SW: that one move is always there
   pub one_sw : {p q : Choices} {b b' d d' : Buffers} → c.form ≡ Sw → Two c p q b b' d d' → Leaves c (composite c p q) b d'.spins
   -- Wolff "refuses the identity": it is there for every other composite of permutations
-  pub one-wolff :
+  pub one_wolff :
       {p q : Choices} {b b' d d' : Buffers}
       → c.form ≡ Wolff
       → is_perm c.mode ≡ true
@@ -178,7 +178,7 @@ pub record Demand3 (c : Call) : Type 0 where
       → NotIdentity (size c) (λ k. perm_row c p 0 (perm_row c q 0 k))
       → Leaves c (composite c p q) b d'.spins
   -- "where p(q(k)) is k for every k .. the two moves restore the bytes": on one component; on all
-  pub restores-at :
+  pub restores_at :
       {p q : Choices} {b b' d d' : Buffers}
       → Two c p q b b' d d'
       → (i k : ℕ)
@@ -188,7 +188,7 @@ pub record Demand3 (c : Call) : Type 0 where
       → pattern c d'.spins i k ≡ pattern c b.spins i k
   pub restores : {p q : Choices} {b b' d d' : Buffers} → Two c p q b b' d d' → Cancels c b.spins b'.labels p q → d'.spins ≡ b.spins
   -- ".. or the mode takes no choice": Wolff of pair and houd
-  pub restores-wolff :
+  pub restores_wolff :
       {p q : Choices} {b b' d d' : Buffers}
       → c.form ≡ Wolff
       → is_perm c.mode ≡ false

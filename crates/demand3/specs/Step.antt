@@ -149,12 +149,12 @@ step {c} {p} {b} {b'} v f (Move.moved w) =
     m.others
 
 -- what grows turns the sites of the seed's component
-pub step-grown :
+pub step_grown :
     {c : Call} {p : Choices} {b b' : Buffers}
     → Reversible c.mode (size c)
     → (g : grows_by c.form ≡ true) (w : Goes c p b b')
     → Step c p b.spins (w.turned g).blue b'.spins
-step-grown {c} {p} {b} {b'} v g w =
+step_grown {c} {p} {b} {b'} v g w =
     let valid = valid_of c p b w.valid in
     let t = w.turned g in
     let m = t.moved in

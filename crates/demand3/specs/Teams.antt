@@ -24,7 +24,7 @@ use Rattle.demand3.specs.Statement.{Reversible, Move, Such, SameRows, Demand3}
 use Rattle.demand3.specs.Step.{valid_move}
 use Rattle.demand3.specs.Theorem.{demand3}
 use Rattle.demand3.specs.NamedRows.{NamedRows, named_rows}
-use Rattle.demand3.specs.TotalsSum.{group-total-kept, task-total-kept}
+use Rattle.demand3.specs.TotalsSum.{group_total_kept, task_total_kept}
 
 -- ---- a call that answers the number 0 has passed the owner tests
 owners_kept : {o : Team} {s r : ℕ} {Same Told : Type 0} → Owned o s r Same Told → r ≡ 0 → Kept (owner_rules o s)
@@ -153,12 +153,12 @@ team_demand3 o c v f = record {
 abbrev group_total : Call → List ℤ → ℤ
 group_total c zs = sum (size c) (λ k. total zs (system c k))
 
-pub team-total-kept :
+pub team_total_kept :
     (o : Team) (keeping : Bool) (c : Call) (p : Choices) (b b' : Buffers) (ts us : List ℤ) (a : Answer)
     → Reversible c.mode (size c)
     → TeamAnswers o keeping c p b ts a b' us
     → sum (size c) (λ k. total us (system c k)) ≡ sum (size c) (λ k. total ts (system c k))
-team-total-kept o keeping c p b b' ts us a v w = go (owners_tested o c.lattice.s)
+team_total_kept o keeping c p b b' ts us a v w = go (owners_tested o c.lattice.s)
   where
     -- the totals are those of the systems that the call names
     named_so : Valid (read_call o c) p b → group_total (read_call o c) us ≡ group_total (read_call o c) ts → group_total c us ≡ group_total c ts
@@ -169,9 +169,9 @@ team-total-kept o keeping c p b b' ts us a v w = go (owners_tested o c.lattice.s
 
     kept : (a : Answer) → KeepAnswers keeping (read_call o c) p b ts a b' us → group_total c us ≡ group_total c ts
     kept (Refused r) f = ap (group_total c) f.totals_kept
-    kept Idle f = named_so (kept_valid keeping (read_call o c) p b ts f.valid) (group-total-kept keeping (read_call o c) p b b' ts us Idle v f)
-    kept Held f = named_so (kept_valid keeping (read_call o c) p b ts f.valid) (group-total-kept keeping (read_call o c) p b b' ts us Held v f)
-    kept Moved f = named_so (kept_valid keeping (read_call o c) p b ts f.valid) (group-total-kept keeping (read_call o c) p b b' ts us Moved v f)
+    kept Idle f = named_so (kept_valid keeping (read_call o c) p b ts f.valid) (group_total_kept keeping (read_call o c) p b b' ts us Idle v f)
+    kept Held f = named_so (kept_valid keeping (read_call o c) p b ts f.valid) (group_total_kept keeping (read_call o c) p b b' ts us Held v f)
+    kept Moved f = named_so (kept_valid keeping (read_call o c) p b ts f.valid) (group_total_kept keeping (read_call o c) p b b' ts us Moved v f)
 
     go : Kept (owner_rules o c.lattice.s) ⊎ ((k : ℕ) × Broken (owner_rules o c.lattice.s) k) → group_total c us ≡ group_total c ts
     go (inl k) = kept a (w.told k)
@@ -200,7 +200,7 @@ ordered w systems order = record {
   greys = w.greys;
 }
 
-pub team-task-total-kept :
+pub team_task_total_kept :
     (o : Team) (keeping : Bool) (w : Sweep) (b b' : Buffers) (ts us : List ℤ) (i m h : ℕ)
     → Reversible w.mode w.members
     → TeamSweepAnswers o keeping w b ts (Swept i m h) b' us
@@ -208,8 +208,8 @@ pub team-task-total-kept :
     → k < tasks w
     → masked w k ≡ false
     → sum w.members (λ x. total us (system (task_call w k) x)) ≡ sum w.members (λ x. total ts (system (task_call w k) x))
-team-task-total-kept o keeping w b b' ts us i m h v f k below unmasked =
-    subst (λ (order : List ℕ). task_sum order us ≡ task_sum order ts) same (task-total-kept keeping (read_sweep o w) b b' ts us i m h v told k below unmasked)
+team_task_total_kept o keeping w b b' ts us i m h v f k below unmasked =
+    subst (λ (order : List ℕ). task_sum order us ≡ task_sum order ts) same (task_total_kept keeping (read_sweep o w) b b' ts us i m h v told k below unmasked)
   where
     task_sum : List ℕ → List ℤ → ℤ
     task_sum order zs = sum w.members (λ x. total zs (system (task_call (ordered w w.systems order) k) x))

@@ -19,7 +19,7 @@ use Rattle.demand3.specs.Turns.{acts_kept, numbered_kept, counts_kept, sizes_kep
 use Rattle.demand3.specs.BondSums.{sum_kept}
 use Rattle.demand3.specs.Compose.{none_moved, composed_all, cancels_all, back_at, two_back, then_at, two_then}
 use Rattle.demand3.specs.ChoicesAdd.{wolff_cancels}
-use Rattle.demand3.specs.ChoicesFit.{composite-chosen, composite_is, composite_sized, inverse_chosen, inverse_cancels, inverse_sized}
+use Rattle.demand3.specs.ChoicesFit.{composite_chosen, composite_is, composite_sized, inverse_chosen, inverse_cancels, inverse_sized}
 use Rattle.demand3.specs.ChoicesFit.{identity_chosen, identity_stays, identity_sized}
 use Rattle.demand3.specs.Such.{move_of, own}
 use Rattle.demand3.specs.Chain.{instead, next, exact_instead, exact_next}
@@ -98,7 +98,7 @@ module _ (c : Call) (v : Reversible c.mode (size c)) (f : labels_by c.form ≡ t
         → Leaves c (composite c p q) b d'.spins
     one moving moving-form sw =
         let m = move_of w.first in
-        let o = instead v f m (exact_instead v f m (composite_sized c p q)) (composite-chosen c v chosen_first chosen_second moving) in
+        let o = instead v f m (exact_instead v f m (composite_sized c p q)) (composite_chosen c v chosen_first chosen_second moving) in
         let is = composed_all f first (composite_is c v chosen_first chosen_second moving-form sw) in
         record { outcome = o; bytes = sym (two_then f first second (step v f (own o)) is) }
 
@@ -107,13 +107,13 @@ demand3 c v f = record {
   keeps = keeps c v f;
   next = λ m. next v f (move_of m);
   outputs = outputs c v f;
-  composes-at = λ w m same i k hi hk h. then_at f (first c v f w) (second c v f w) (third c v f w m same) i k hi hk (λ _. h);
+  composes_at = λ w m same i k hi hk h. then_at f (first c v f w) (second c v f w) (third c v f w m same) i k hi hk (λ _. h);
   composes = λ w m same. two_then f (first c v f w) (second c v f w) (third c v f w m same);
   one_sw = λ sw w. one c v f w (λ t. never (rw sw at (and_right (takes_perms c) (one_cluster c.form) t))) (rw sw refl) (λ _. sw);
-  one-wolff = λ wolff perm w moving. one c v f w (λ _. moving) (rw wolff refl) (λ e. never (sym e ∙ perm));
-  restores-at = λ w i k hi hk h. back_at f (first c v f w) (second c v f w) i k hi hk (λ _. h);
+  one_wolff = λ wolff perm w moving. one c v f w (λ _. moving) (rw wolff refl) (λ e. never (sym e ∙ perm));
+  restores_at = λ w i k hi hk h. back_at f (first c v f w) (second c v f w) i k hi hk (λ _. h);
   restores = λ w. two_back f (first c v f w) (second c v f w);
-  restores-wolff = λ wolff flips w. two_back f (first c v f w) (second c v f w) (cancels_all f (first c v f w) (wolff_cancels c v flips _ _ wolff));
+  restores_wolff = λ wolff flips w. two_back f (first c v f w) (second c v f w) (cancels_all f (first c v f w) (wolff_cancels c v flips _ _ wolff));
   inverse_there = λ g m. undone g (move_of m);
   inverse_restores = λ g w. two_back f (first c v f w) (second c v f w) (cancels_all f (first c v f w) (inverse_cancels c v (chosen_first c v f w) g));
   identity_there = λ sw m. rest sw (move_of m);

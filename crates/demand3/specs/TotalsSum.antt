@@ -18,7 +18,7 @@ use Rattle.paper.specs.Answer.Totals.{total, TotalsAfter, kept_valid, KeepAccept
 use Rattle.laws.specs.Forms.{by_form}
 use Rattle.laws.specs.SweepTasks.{task_valid}
 use Rattle.demand3.specs.Statement.{Reversible, Move}
-use Rattle.demand3.specs.Step.{step, step-grown}
+use Rattle.demand3.specs.Step.{step, step_grown}
 use Rattle.demand3.specs.BondSums.{sum_kept}
 use Rattle.demand3.specs.Products.{times_assoc, sum_times, sum_neg}
 
@@ -32,7 +32,7 @@ module _ (c : Call) (p : Choices) (b b' : Buffers) (v : Reversible c.mode (size 
     where
       go : (labels_by c.form ≡ true) ⊎ (grows_by c.form ≡ true) → SumsStay c b.spins b'.spins
       go (inl f) = sum_kept (step v f (Move.moved w))
-      go (inr g) = sum_kept (step-grown v g w)
+      go (inr g) = sum_kept (step_grown v g w)
 
   pub bond_sums_stay : (a : Answer) → Answers c p b a b' → SumsStay c b.spins b'.spins
   bond_sums_stay (Refused r) w i e hi he = ap (λ (z : Buffers). bond_sum c z.spins i e) w.kept
@@ -65,11 +65,11 @@ module _ (c : Call) where
       ∙ sum_ext c.lattice.n _ _
       (λ i _. sum_swap (size c) c.lattice.d (λ k e. part xs k i e) ∙ sum_ext c.lattice.d _ _ (λ e _. part_sum xs i e)))
 
-  pub energies-stay :
+  pub energies_stay :
       (xs ys : List ℤ)
       → SumsStay c xs ys
       → sum (size c) (λ k. energy c.lattice ys (system c k)) ≡ sum (size c) (λ k. energy c.lattice xs (system c k))
-  energies-stay xs ys h =
+  energies_stay xs ys h =
       by_bonds ys
       ∙ (ap neg_ℤ
       (sum_ext c.lattice.n _ _ (λ i hi. sum_ext c.lattice.d _ _ (λ e he. ap (λ (z : ℤ). coupling i e *ℤ z) (h i e hi he))))
@@ -79,14 +79,14 @@ module _ (c : Call) where
   abbrev pub group_total : List ℤ → ℤ
   group_total ts = sum (size c) (λ k. total ts (system c k))
 
-  brought-sum :
+  brought_sum :
       (keeping : Bool) (xs ts ys us : List ℤ)
       → Grouped c.lattice.s c.group
       → SumsStay c xs ys
       → TotalsAfter keeping c.lattice xs ts ys us
       → group_total us ≡ group_total ts
-  brought-sum false xs ts ys us g h t = ap group_total (t.left refl)
-  brought-sum true xs ts ys us g h t =
+  brought_sum false xs ts ys us g h t = ap group_total (t.left refl)
+  brought_sum true xs ts ys us g h t =
       sum_ext N _ (λ k. total ts (system c k) +ℤ (after k +ℤ neg_ℤ (before k))) (λ k l. (t.brought refl).each (system c k) (g.below k l))
       ∙ (sum_add N (λ k. total ts (system c k)) (λ k. after k +ℤ neg_ℤ (before k))
       ∙ (ap (λ (x : ℤ). group_total ts +ℤ x) none ∙ +ℤ_idr (group_total ts)))
@@ -103,19 +103,19 @@ module _ (c : Call) where
       none : sum N (λ k. after k +ℤ neg_ℤ (before k)) ≡ pos 0
       none =
           sum_add N after (λ k. neg_ℤ (before k))
-          ∙ (cc (sum_neg N before, energies-stay xs ys h) ∙ +ℤ_invr (sum N before))
+          ∙ (cc (sum_neg N before, energies_stay xs ys h) ∙ +ℤ_invr (sum N before))
 
 -- "For pair, perm, gperm and houd of two the group's sum of totals does not change": in any call, whatever the totals were
-pub group-total-kept :
+pub group_total_kept :
     (keeping : Bool) (c : Call) (p : Choices) (b b' : Buffers) (ts us : List ℤ) (a : Answer)
     → Reversible c.mode (size c)
     → KeepAnswers keeping c p b ts a b' us
     → sum (size c) (λ k. total us (system c k)) ≡ sum (size c) (λ k. total ts (system c k))
-group-total-kept keeping c p b b' ts us a v = go a
+group_total_kept keeping c p b b' ts us a v = go a
   where
     accepted : (a : Answer) → KeepAccepts keeping c p b ts a b' us → group_total c us ≡ group_total c ts
     accepted a f =
-        brought-sum c keeping b.spins ts b'.spins us (kept_valid keeping c p b ts f.valid).sound.grouped
+        brought_sum c keeping b.spins ts b'.spins us (kept_valid keeping c p b ts f.valid).sound.grouped
         (bond_sums_stay c p b b' v a f.answers) f.totals
 
     go : (a : Answer) → KeepAnswers keeping c p b ts a b' us → group_total c us ≡ group_total c ts
@@ -125,7 +125,7 @@ group-total-kept keeping c p b b' ts us a v = go a
     go Moved f = accepted Moved f
 
 -- and in an accepted sweep that of each task's group
-pub task-total-kept :
+pub task_total_kept :
     (keeping : Bool) (w : Sweep) (b b' : Buffers) (ts us : List ℤ) (idle moved held : ℕ)
     → Reversible w.mode w.members
     → SweepKeeps keeping w b ts idle moved held b' us
@@ -133,8 +133,8 @@ pub task-total-kept :
     → k < tasks w
     → masked w k ≡ false
     → sum w.members (λ x. total us (system (task_call w k) x)) ≡ sum w.members (λ x. total ts (system (task_call w k) x))
-task-total-kept keeping w b b' ts us idle moved held v f k below unmasked =
-    brought-sum c keeping b.spins ts b'.spins us valid.sound.grouped sums f.totals
+task_total_kept keeping w b b' ts us idle moved held v f k below unmasked =
+    brought_sum c keeping b.spins ts b'.spins us valid.sound.grouped sums f.totals
   where
     c : Call
     c = task_call w k

@@ -19,8 +19,8 @@ use Rattle.laws.specs.Unique.{HoldAlike, labels_ext, numbered_ext, counts_ext, s
 use Rattle.laws.specs.Patterns.{Spinning}
 use Rattle.laws.specs.Entries.{reached_moves}
 use Rattle.laws.specs.Acting.{acts_same, gauge_ext}
-use Rattle.demand3.specs.Reversible.{holds_both, gauge-back, chosen-permutes, act-gauged, act-spin}
-use Rattle.demand3.specs.ActsKept.{acts-chosen, reference_rests}
+use Rattle.demand3.specs.Reversible.{holds_both, gauge_back, chosen_permutes, act_gauged, act_spin}
+use Rattle.demand3.specs.ActsKept.{acts_chosen, reference_rests}
 use Rattle.demand3.specs.Step.{Step, reached_no, reached_acts}
 
 -- ---- by cases of the mode or the form
@@ -51,7 +51,7 @@ pub seen_back :
     → seen_at c ys i k ≡ seen_at c zs i k
     → pattern c ys i k ≡ pattern c zs i k
 seen_back c ys zs i k same sr sy sz e =
-    gauge-back c.mode (pattern c zs c.reference) (pattern c ys i) (pattern c zs i) k sr sy sz
+    gauge_back c.mode (pattern c zs c.reference) (pattern c ys i) (pattern c zs i) k sr sy sz
     (gauge_ext c.mode (pattern c zs c.reference) (pattern c ys c.reference) (pattern c ys i) (pattern c ys i) k (λ q. sym (same q)) refl ∙ e)
 
 module _ {c : Call} {p : Choices} {xs : List ℤ} {l : List ℕ} {ys : List ℤ} (s : Step c p xs l ys) where
@@ -64,7 +64,7 @@ module _ {c : Call} {p : Choices} {xs : List ℤ} {l : List ℕ} {ys : List ℤ}
 
   pub permutes_at : (i : ℕ) → i < c.lattice.n → reached c xs l i ≡ true → Permutes (size c) (chosen c p (label_of l i))
   permutes_at i h e =
-      chosen-permutes c.mode c p (label_of l i) s.reversible
+      chosen_permutes c.mode c p (label_of l i) s.reversible
       (λ q. s.told.perms (taken q) i h)
     where
       taken : is_perm c.mode ≡ true → (moves c.form && is_perm c.mode) ≡ true
@@ -93,7 +93,7 @@ module _ {c : Call} {p : Choices} {xs : List ℤ} {l : List ℕ} {ys : List ℤ}
 
       go : (t : Bool) → reached c xs l i ≡ t → gauge c.mode P (new t) k ≡ seen_at c xs i (cond t (chosen c p (label_of l i) k) k)
       go true e =
-          act-gauged c.mode c p (label_of l i) P (pattern c xs i) s.reversible (permutes_at i hi e) reference_spins (s.spins i hi)
+          act_gauged c.mode c p (label_of l i) P (pattern c xs i) s.reversible (permutes_at i hi e) reference_spins (s.spins i hi)
           (reached_acts c xs l i e) k hk
       go false e = refl
 
@@ -103,7 +103,7 @@ module _ {c : Call} {p : Choices} {xs : List ℤ} {l : List ℕ} {ys : List ℤ}
       go : (t : Bool) → reached c xs l i ≡ t → Spin (after c p xs l i k)
       go true e =
           rw e
-          (act-spin c.mode c p (label_of l i) P (pattern c xs i) s.reversible (permutes_at i hi e) reference_spins (s.spins i hi) k hk)
+          (act_spin c.mode c p (label_of l i) P (pattern c xs i) s.reversible (permutes_at i hi e) reference_spins (s.spins i hi) k hk)
       go false e = rw e (s.spins i hi k hk)
 
   pub acts_kept : (i : ℕ) → i < c.lattice.n → acts c ys i ≡ acts c xs i
@@ -115,7 +115,7 @@ module _ {c : Call} {p : Choices} {xs : List ℤ} {l : List ℕ} {ys : List ℤ}
 
       go : (t : Bool) → reached c xs l i ≡ t → acts_by c.mode (size c) Q (pattern c ys i) ≡ acts_by c.mode (size c) P (pattern c xs i)
       go true e =
-          acts-chosen c.mode c p (label_of l i) Q P (pattern c ys i) (pattern c xs i) s.some_size s.reversible (permutes_at i hi e)
+          acts_chosen c.mode c p (label_of l i) Q P (pattern c ys i) (pattern c xs i) s.some_size s.reversible (permutes_at i hi e)
           (λ k hk. rw e at (turned i k hi hk))
       go false e = acts_same c.mode (size c) Q P (pattern c ys i) (pattern c xs i) s.some_size (λ k hk. rw e at (turned i k hi hk))
 

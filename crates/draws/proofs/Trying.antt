@@ -16,14 +16,14 @@ module _ (lent : Source) (m : ℕ) (s : Source) where
   again zero p h = absurd (omega arith)
   again (suc k) p h = rw (le-ltb (high (word s)) (limit m) h, sub-one (suc k))
 
-  pub word-taken :
+  pub word_taken :
       (k : ℕ) (d : Drawn) → 0 < k → d ≡ stepped s → d.value / 2 ^ 32 < limit m
       → drawn 0 ((d.value / 2 ^ 32) % m) d.source ≡ tried lent k m s
-  word-taken k d p e h =
+  word_taken k d p e h =
       ap (λ (x : Drawn). drawn 0 ((x.value / 2 ^ 32) % m) x.source) e
       ∙ sym (taken k p (subst (λ (x : Drawn). x.value / 2 ^ 32 < limit m) e h))
 
-  pub word-again :
+  pub word_again :
       (k : ℕ) (d : Drawn) → 0 < k → d ≡ stepped s → limit m ≤ d.value / 2 ^ 32 → tried lent (k - 1) m d.source ≡ tried lent k m s
-  word-again k d p e h =
+  word_again k d p e h =
       ap (λ (x : Drawn). tried lent (k - 1) m x.source) e ∙ sym (again k p (subst (λ (x : Drawn). limit m ≤ x.value / 2 ^ 32) e h))

@@ -52,14 +52,14 @@ row_by_determined moving n s x y = one_value
 pub word_verdict_determined : (fits : Bool) (s : Source) (x y : ℕ) → Verdict (word_rules fits s) x → Verdict (word_rules fits s) y → x ≡ y
 word_verdict_determined fits s = verdict_unique (word_rules fits s)
 
-pub number-verdict-determined :
+pub number_verdict_determined :
     (fits : Bool) (most m k : ℕ) (s : Source) (x y : ℕ) → Verdict (number_rules fits most m k s) x → Verdict (number_rules fits most m k s) y → x ≡ y
-number-verdict-determined fits most m k s = verdict_unique (number_rules fits most m k s)
+number_verdict_determined fits most m k s = verdict_unique (number_rules fits most m k s)
 
-pub row-verdict-determined :
+pub row_verdict_determined :
     (single moving : Bool) (n len : ℕ) (s : Source) (x y : ℕ) → Verdict (row_rules single moving n len s) x → Verdict (row_rules single moving n len s) y
     → x ≡ y
-row-verdict-determined single moving n len s = verdict_unique (row_rules single moving n len s)
+row_verdict_determined single moving n len s = verdict_unique (row_rules single moving n len s)
 
 -- one answer, and one content of what was lent
 pub record Same {A : Type 0} (a b : A) (ys zs : List ℕ) : Type 0 where
@@ -73,26 +73,26 @@ module _ {at : ℕ → ℕ} {t u v : Source} {xs ys zs : List ℕ} where
     buffer = ext_get_or 0 ys zs (one_value p.long q.long) (λ i l. one_value (p.each i (omega (arith, p.long))) (q.each i (omega (arith, p.long))));
   }
 
-pub write-flips-determined :
+pub write_flips_determined :
     (s u v : Source) (xs ys zs : List ℕ) → Written (number_at flipped s) (stop (go_on flipped) (length xs) s) xs u ys
     → Written (number_at flipped s) (stop (go_on flipped) (length xs) s) xs v zs → Same u v ys zs
-write-flips-determined s u v xs ys zs = same_written
+write_flips_determined s u v xs ys zs = same_written
 
-pub write-numbers-determined :
+pub write_numbers_determined :
     (m : ℕ) (s u v : Source) (xs ys zs : List ℕ) → Written (number_at (number m) s) (stop (go_on (number m)) (length xs) s) xs u ys
     → Written (number_at (number m) s) (stop (go_on (number m)) (length xs) s) xs v zs → Same u v ys zs
-write-numbers-determined m s u v xs ys zs = same_written
+write_numbers_determined m s u v xs ys zs = same_written
 
-pub write-bytes-determined :
+pub write_bytes_determined :
     (plus m : ℕ) (s u v : Source) (xs ys zs : List ℕ)
     → Written (λ j. number_at (number m) s j + plus) (stop (go_on (number m)) (length xs) s) xs u ys
     → Written (λ j. number_at (number m) s j + plus) (stop (go_on (number m)) (length xs) s) xs v zs → Same u v ys zs
-write-bytes-determined plus m s u v xs ys zs = same_written
+write_bytes_determined plus m s u v xs ys zs = same_written
 
-pub write-rows-determined :
+pub write_rows_determined :
     (moving : Bool) (n k : ℕ) (s u v : Source) (xs ys zs : List ℕ) → Written (entry_at moving n s) (stop (go_down moving n) k s) xs u ys
     → Written (entry_at moving n s) (stop (go_down moving n) k s) xs v zs → Same u v ys zs
-write-rows-determined moving n k s u v xs ys zs = same_written
+write_rows_determined moving n k s u v xs ys zs = same_written
 
 -- a fill has one number, one source and one content
 module _ (rs : List Rule) (at : ℕ → ℕ) (t s : Source) (xs : List ℕ) where
@@ -107,16 +107,16 @@ module _ (rs : List Rule) (at : ℕ → ℕ) (t s : Source) (xs : List ℕ) wher
     buffer = one_value p.kept q.kept;
   }
 
-  pub fills-determined :
+  pub fills_determined :
       (x y : Left) (ys zs : List ℕ) → Fills rs at t s xs x.refusal x.source ys → Fills rs at t s xs y.refusal y.source zs → Same x y ys zs
-  fills-determined x y ys zs p q = by_number x.refusal y.refusal p q
+  fills_determined x y ys zs p q = by_number x.refusal y.refusal p q
 
 module _ (s : Source) (xs : List ℕ) (x y : Left) (ys zs : List ℕ) where
   by_draws : (d : Source → Drawn) (rs : List Rule) → FillsBy d rs s xs x ys → FillsBy d rs s xs y zs → Same x y ys zs
-  by_draws d rs = fills-determined rs (number_at d s) (stop (go_on d) (length xs) s) s xs x y ys zs
+  by_draws d rs = fills_determined rs (number_at d s) (stop (go_on d) (length xs) s) s xs x y ys zs
 
   by_rows : (moving : Bool) (n : ℕ) (rs : List Rule) → FillsRows moving n rs s xs x ys → FillsRows moving n rs s xs y zs → Same x y ys zs
-  by_rows moving n rs = fills-determined rs (entry_at moving n s) (stop (go_down moving n) (length xs / n) s) s xs x y ys zs
+  by_rows moving n rs = fills_determined rs (entry_at moving n s) (stop (go_down moving n) (length xs / n) s) s xs x y ys zs
 
   pub one_word_determined : WordDrawn s xs x ys → WordDrawn s xs y zs → Same x y ys zs
   one_word_determined = by_draws stepped (word_rules (length xs == 1) s)

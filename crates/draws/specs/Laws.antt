@@ -124,15 +124,15 @@ Taken m s k = high (word (after k s)) < limit m
 abbrev pub Again : ℕ → Source → ℕ → Type 0
 Again m s k = limit m ≤ high (word (after k s))
 
-pub tried-first :
+pub tried_first :
     (lent : Source) (budget m : ℕ) (s : Source) (k : ℕ) → k < budget → Taken m s k → ((j : ℕ) → j < k → Again m s j)
     → tried lent budget m s ≡ drawn 0 (high (word (after k s)) % m) (after (suc k) s)
 unfolding tried after
-tried-first lent zero m s k l t f = absurd (omega arith)
-tried-first lent (suc b) m s zero l t f = rw (lt-ltb (high (word s)) (limit m) t)
-tried-first lent (suc b) m s (suc k) l t f =
+tried_first lent zero m s k l t f = absurd (omega arith)
+tried_first lent (suc b) m s zero l t f = rw (lt-ltb (high (word s)) (limit m) t)
+tried_first lent (suc b) m s (suc k) l t f =
     rw (le-ltb (high (word s)) (limit m) (f 0 (omega arith)))
-    (tried-first lent b m (next s) k (omega arith) (rw (after_next k s) t) (λ j q. rw (after_next j s) (f (suc j) (omega arith)))
+    (tried_first lent b m (next s) k (omega arith) (rw (after_next k s) t) (λ j q. rw (after_next j s) (f (suc j) (omega arith)))
     ∙ ap (λ (x : Source). drawn 0 (high (word x) % m) (next x)) (after_next k s))
 
 pub tried_none : (lent : Source) (budget m : ℕ) (s : Source) → ((j : ℕ) → j < budget → Again m s j) → tried lent budget m s ≡ refused lent

@@ -97,20 +97,20 @@ first_permutes n t = record {
   distinct = λ a b la lb e. sym (first_at n a la t) ∙ (e ∙ first_at n b lb t);
 }
 
-unless-refused :
+unless_refused :
     (lent : Source) (P : Row → Type 0) {r : Row} (b : Bool) → (r.refusal ≡ 0 → P r) → (cond b r (refused_row lent)).refusal ≡ 0
     → P (cond b r (refused_row lent))
-unless-refused lent P true f h = f h
-unless-refused lent P false f h = absurd (omega arith)
+unless_refused lent P true f h = f h
+unless_refused lent P false f h = absurd (omega arith)
 
-shuffled-permutes :
+shuffled_permutes :
     (lent : Source) (n i : ℕ) (xs : List ℕ) (s : Source) → i < n → n ≤ length xs → Permutes n (at xs) → (shuffled lent i xs s).refusal ≡ 0
     → Permutes n (at (shuffled lent i xs s).row)
 unfolding shuffled
-shuffled-permutes lent n zero xs s l t p e = p
-shuffled-permutes lent n (suc i) xs s l t p e =
-    unless-refused lent (λ (r : Row). Permutes n (at r.row)) ((number (suc i + 1) s).refusal == 0)
-    (λ h. shuffled-permutes lent n i (swapped xs (suc i) (number (suc i + 1) s).value) (number (suc i + 1) s).source (omega arith)
+shuffled_permutes lent n zero xs s l t p e = p
+shuffled_permutes lent n (suc i) xs s l t p e =
+    unless_refused lent (λ (r : Row). Permutes n (at r.row)) ((number (suc i + 1) s).refusal == 0)
+    (λ h. shuffled_permutes lent n i (swapped xs (suc i) (number (suc i + 1) s).value) (number (suc i + 1) s).source (omega arith)
     (simp length-set t) (swapped_permutes n xs (suc i) (number (suc i + 1) s).value t l below p) h)
     e
   where
@@ -118,7 +118,7 @@ shuffled-permutes lent n (suc i) xs s l t p e =
     below = omega (arith, tried_below s 64 (suc i + 1) s (omega arith))
 
 pub permuted_permutes : (n : ℕ) (s : Source) → Members n → (permuted n s).refusal ≡ 0 → Permutes n (at (permuted n s).row)
-permuted_permutes n s m e = shuffled-permutes s n (n - 1) (first_row n) s (omega (arith, m.low)) m.top (first_permutes n m.top) e
+permuted_permutes n s m e = shuffled_permutes s n (n - 1) (first_row n) s (omega (arith, m.low)) m.top (first_permutes n m.top) e
 
 pub not_identity_lem : (n : ℕ) (xs : List ℕ) → is_identity n xs ≡ false → NotIdentity n (at xs)
 unfolding is_identity
@@ -141,18 +141,18 @@ moved :
 moved r again true i p f g = f g
 moved {n} r again false i p f g = record { permutes = p g; moves = λ _. not_identity_lem n r.row i }
 
-retried-drawable :
+retried_drawable :
     (lent : Source) (k n : ℕ) (s : Source) → Members n → (retried lent k n s).refusal ≡ 0 → Drawable true n (at (retried lent k n s).row)
 unfolding retried
-retried-drawable lent zero n s m e = absurd (omega arith)
-retried-drawable lent (suc k) n s m e =
-    unless-refused lent (λ (r : Row). Drawable true n (at r.row)) ((permuted n s).refusal == 0)
+retried_drawable lent zero n s m e = absurd (omega arith)
+retried_drawable lent (suc k) n s m e =
+    unless_refused lent (λ (r : Row). Drawable true n (at r.row)) ((permuted n s).refusal == 0)
     (λ h. moved (permuted n s) (retried lent k n (permuted n s).source) (is_identity n (permuted n s).row) refl (λ g. permuted_permutes n s m g)
-    (λ g. retried-drawable lent k n (permuted n s).source m g) h)
+    (λ g. retried_drawable lent k n (permuted n s).source m g) h)
     e
 
 pub row_drawable : (moving : Bool) (n : ℕ) (s : Source) → Members n → (row_by moving n s).refusal ≡ 0 → Drawable moving n (at (row_by moving n s).row)
-row_drawable true n s m e = retried-drawable s 64 n s m e
+row_drawable true n s m e = retried_drawable s 64 n s m e
 row_drawable false n s m e = record { permutes = permuted_permutes n s m e; moves = λ h. absurd (let z : ◌≡◌ {A = ℕ} 0 1 = cc in omega arith) }
 
 -- ---- the rows that are filled
@@ -169,9 +169,9 @@ row_inside i k n l = omega (arith, mul-le-mul_right n l, suc-mul i n)
 
 -- with the members' count n, k rows filled from s: each is what test 9 asks
 module _ (moving : Bool) (n k : ℕ) (s t u : Source) (xs ys : List ℕ) (m : Members n) (g : RowsGo moving n k s) where
-  pub filled-rows :
+  pub filled_rows :
       Written (entry_at moving n s) t xs u ys → length xs ≡ k * n → (i : ℕ) → i < k → Drawable moving n (λ j. slice_index ys (i * n + j))
-  filled-rows w long i l = record {
+  filled_rows w long i l = record {
     permutes = record {
       within = λ a la. rw (same a la) (row.permutes.within a la);
       distinct = λ a b la lb e. row.permutes.distinct a b la lb (sym (same a la) ∙ (e ∙ same b lb));

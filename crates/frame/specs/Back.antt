@@ -13,9 +13,9 @@ reversed_of n d fwd true bwd t = record { right = λ b v. t.inverse }
 reversed_of n d fwd false bwd t = record { right = λ b v. absurd (t.none b v) }
 
 -- a text's table
-pub back-complete :
+pub back_complete :
     (text bwd : List ℕ)
     → Reversed (frame_lattice text []).n (frame_lattice text []).d (frame_lattice text []).fwd bwd
     → HasBack text
     → Inverse (frame_lattice text []).n (frame_lattice text []).d (frame_lattice text []).fwd bwd
-back-complete text bwd r h = r.right h.bwd h.inverse
+back_complete text bwd r h = r.right h.bwd h.inverse

@@ -31,7 +31,7 @@ use Rattle.frame_lines.specs.declared.Written.TheVariants.{Wrote, NoRoom}
 use Rattle.frame_lines.specs.Spelling.{spelling_rules, Spelling, spelling_of, misspelt, misvalued, all_kept, broken_small, misspelt_small}
 use Rattle.frame_lines.specs.Reading.{AnyPanelFits, Held as Lent, Misread, Readout, FoundAs}
 use Rattle.frame_lines.specs.Writing.{result_of, TwoByte, Fitted, WrittenAs, RefusalAs, count, shorter, fitted_take, fitted_drop}
-use Rattle.frame.specs.Back.{Reversed, back-complete}
+use Rattle.frame.specs.Back.{Reversed, back_complete}
 use Rattle.frame.specs.Values.{values_kept, values_broken}
 use Rattle.frame.specs.Joined.{spins_count, fwd_count, perms_count, spins_part, fwd_part, perms_part, seen_small}
 
@@ -140,7 +140,7 @@ module _ (text bwd : List ℕ) (k : Kept (spelling_rules text)) (long : length b
     (reversed : Reversed (frame_lattice text []).n (frame_lattice text []).d (frame_lattice text []).fwd bwd)
     (spun : Spins (frame_lattice text []).n (AllSystems (frame_lattice text []).s) (frame_buffers text).spins) where
   inverse : HasBack text → Inverse (frame_lattice text []).n (frame_lattice text []).d (frame_lattice text []).fwd bwd
-  inverse h = back-complete text bwd reversed h
+  inverse h = back_complete text bwd reversed h
 
   pub moves_answer : (r : Answer) (after : Buffers) → Answers (frame_call text bwd) (frame_choices text) (frame_buffers text) r after
       → FrameAnswers text (answer_text r after.labels after.counts after.spins)

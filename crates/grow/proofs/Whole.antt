@@ -21,7 +21,7 @@ use Rattle.grow.specs.Members.{members_by}
 use Rattle.grow.specs.Kept.{Kept, kept_first}
 use Rattle.grow.specs.Listed.{listed_same}
 use Rattle.grow.specs.Growth.{Growing, started}
-use Rattle.grow.specs.Spread.{Spreads, spreads-by, again}
+use Rattle.grow.specs.Spread.{Spreads, spreads_by, again}
 use Rattle.grow.specs.Contract.{graph_for, ruled, Grounds, Seedable, Grew, blue_grey}
 
 module _ {t : Task} {fwd bwd : List ℕ} {xs js : List ℤ} {cuts : List Float} {members list cols : ℕ} (g : Seedable t fwd bwd xs js cuts members list cols)
@@ -37,10 +37,10 @@ module _ {t : Task} {fwd bwd : List ℕ} {xs js : List ℤ} {cuts : List Float} 
         rw p.task (started (graph_for t fwd) _ t.seed m l (rw g.members_long at h) (omega (arith, g.list_long)) g.seed_lt)
 
     -- and its column kept
-    pub seed-kept :
+    pub seed_kept :
         {grey : Bool} {r : Rule} (m area : List ℕ) (column : ℕ) → Prepared t grey xs r → Cleared members m → length area ≡ cols
         → column ≡ column_for t xs t.seed → Kept r.task xs (set m t.seed 1) (set area t.seed column)
-    seed-kept m area column p h e is =
+    seed_kept m area column p h e is =
         let long : length area ≡ 4096 = e ∙ g.cols_long in
         rw p.task
         (kept_first m area t.seed column (omega (arith, h.long, g.members_long, g.seed_lt)) (omega (arith, g.seed_lt, g.growable.panel.n_high))
@@ -59,7 +59,7 @@ module _ {t : Task} {fwd bwd : List ℕ} {xs js : List ℤ} {cuts : List Float} 
         (pins : List ℕ) {r : Rule} {start len : ℕ} {l₀ m l : List ℕ} → Prepared t false xs r
         → Spreads (graph_for r.task fwd) (ruled r fwd xs js cuts) r.task.seed start l₀ m l len
         → Spreads (graph (call_of t fwd bwd pins js cuts)) (holds (call_of t fwd bwd pins js cuts) xs) t.seed start l₀ m l len
-    first_by pins p s = spreads-by (λ i e il el. judged_holds t fwd bwd pins js cuts xs i e _ refl) (rw (p.task, p.grey) at s)
+    first_by pins p s = spreads_by (λ i e il el. judged_holds t fwd bwd pins js cuts xs i e _ refl) (rw (p.task, p.grey) at s)
 
     pub plain : (pins : List ℕ) → is_cmr t.mode ≡ false → {start len : ℕ} {l₀ m l : List ℕ}
         → Spreads (graph (call_of t fwd bwd pins js cuts)) (holds (call_of t fwd bwd pins js cuts) xs) t.seed start l₀ m l len
@@ -73,19 +73,19 @@ module _ {t : Task} {fwd bwd : List ℕ} {xs js : List ℤ} {cuts : List Float} 
 
     module _ (pins : List ℕ) (q : is_cmr t.mode ≡ true) where
       -- each blue site waits again
-      pub blue-seeds :
+      pub blue_seeds :
           {r : Rule} {start blue : ℕ} {l₀ m l : List ℕ} → Prepared t true xs r
           → Spreads (graph (call_of t fwd bwd pins js cuts)) (holds (call_of t fwd bwd pins js cuts) xs) t.seed start l₀ m l blue
           → Growing (graph_for r.task fwd) (ruled r fwd xs js cuts) r.task.seed m l blue
-      blue-seeds p s =
+      blue_seeds p s =
           rw (p.task, p.grey)
           (again g.seed_lt (λ i e il el on. judged_grey t fwd bwd pins js cuts xs i e _ refl q ∙ blue_grey _ xs i e q on) s.cluster)
 
-      pub second-by :
+      pub second_by :
           {r : Rule} {start len : ℕ} {l₀ m l : List ℕ} → Prepared t true xs r
           → Spreads (graph_for r.task fwd) (ruled r fwd xs js cuts) r.task.seed start l₀ m l len
           → Spreads (graph (call_of t fwd bwd pins js cuts)) (holds_grey (call_of t fwd bwd pins js cuts) xs) t.seed start l₀ m l len
-      second-by p s = spreads-by (λ i e il el. judged_grey t fwd bwd pins js cuts xs i e _ refl q) (rw (p.task, p.grey) at s)
+      second_by p s = spreads_by (λ i e il el. judged_grey t fwd bwd pins js cuts xs i e _ refl q) (rw (p.task, p.grey) at s)
 
       pub both :
           {start blue len : ℕ} {l₀ m₁ l₁ m l : List ℕ}

@@ -31,7 +31,7 @@ use Rattle.column_rules.specs.Sight.{none_acts}
 use Rattle.judge.specs.Judged.{Growable}
 use Rattle.judge.specs.Laws.{growable}
 use Rattle.turn.specs.Turned.{bare, acted_to, turned_to, OneCluster, Chooses, Turnable}
-use Rattle.turn.specs.Laws.{act-any, grey_any}
+use Rattle.turn.specs.Laws.{act_any, grey_any}
 use Rattle.grow.specs.Formed.{one_cluster_lem, reached_grown, is_cmr_lem, and_yes, not_true, none_flips, grown_greys, grown_perms, grown_entries}
 use Rattle.grow.specs.Listed.{is_in, site_at}
 use Rattle.grow.specs.Kept.{Kept}
@@ -39,7 +39,7 @@ use Rattle.grow.specs.Spread.{cluster_site, cluster_joined}
 use Rattle.grow.specs.Contract.{Grew}
 use Rattle.grow.specs.Pinned.{PinAmong, TurnedFree, among_held, held_among}
 use Rattle.grow.specs.Finding.{Findable, FindsNone, Finds}
-use Rattle.grow.specs.Task.{Outputs, no_outputs, with_outputs, GrowAsks, grown-with}
+use Rattle.grow.specs.Task.{Outputs, no_outputs, with_outputs, GrowAsks, grown_with}
 
 module _ (t : Task) (fwd bwd pins : List ℕ) (js : List ℤ) (cuts : List Float) (choices greys : List ℕ) (xs : List ℤ) (members : List ℕ)
     (asks : GrowAsks (call_of t fwd bwd pins js cuts) (choices_of choices greys) xs members) where
@@ -99,7 +99,7 @@ module _ (t : Task) (fwd bwd pins : List ℕ) (js : List ℤ) (cuts : List Float
 
   -- ---- the seed does not act, and so no site does
   answered : (o : Outputs) → Valid c p (with_outputs o xs members)
-  answered o = grown-with no_outputs o asks.grows v
+  answered o = grown_with no_outputs o asks.grows v
 
   seed_tells : SomeActs c xs → acts c xs t.seed ≡ true
   seed_tells = v.fit.seeded.acting (grows_one t.form asks.grows)
@@ -231,7 +231,7 @@ module _ (t : Task) (fwd bwd pins : List ℕ) (js : List ℤ) (cuts : List Float
       chosen_same : (grey : List ℕ) (P f : Pattern) (k : ℕ) (b : Bool)
           → cond b (act_by t.mode c p P (label_of g.blues (site_at l x)) f k) (f k) ≡ acted_to t choices grey P b f k
       chosen_same grey P f k true =
-          act-any t choices one greys fwd bwd pins js cuts (label_of g.blues (site_at l x)) t.mode P f k ∙ act_greys grey t.mode P f k
+          act_any t choices one greys fwd bwd pins js cuts (label_of g.blues (site_at l x)) t.mode P f k ∙ act_greys grey t.mode P f k
       chosen_same grey P f k false = refl
 
       module _ (free : has_one (pinned c) g.blues 1 ≡ false) where
@@ -339,10 +339,10 @@ module _ (t : Task) (fwd bwd pins : List ℕ) (js : List ℤ) (cuts : List Float
       }
 
   -- an answer that is no move leaves the spins
-  pub still-answers :
+  pub still_answers :
       (m l : List ℕ) (blue len : ℕ) (a : Answer) → (a ≡ Moved → ⊥) → Finds c xs m l a blue len → (o : Outputs)
       → Answers c p (with_outputs o xs members) a (with_outputs o xs m)
-  still-answers m l blue len (Refused r) still f o = absurd f
-  still-answers m l blue len Idle still f o = idle_answers f o
-  still-answers m l blue len Held still f o = held_answers f.on f.grew f.held o
-  still-answers m l blue len Moved still f o = absurd (still refl)
+  still_answers m l blue len (Refused r) still f o = absurd f
+  still_answers m l blue len Idle still f o = idle_answers f o
+  still_answers m l blue len Held still f o = held_answers f.on f.grew f.held o
+  still_answers m l blue len Moved still f o = absurd (still refl)

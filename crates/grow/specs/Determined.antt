@@ -18,9 +18,9 @@ use Rattle.paper.specs.Answer.Totals.{TotalsReady, TotalsAfter}
 use Rattle.laws.specs.Determined.{Same, determined}
 use Rattle.laws.specs.Unique.{members_unique}
 use Rattle.totals.specs.Contract.{Bringable}
-use Rattle.totals.specs.Determined.{brought-determined}
+use Rattle.totals.specs.Determined.{brought_determined}
 use Rattle.turn.specs.Turned.{ListWritten}
-use Rattle.turn.specs.Determined.{write-listed-determined}
+use Rattle.turn.specs.Determined.{write_listed_determined}
 use Rattle.grow.specs.Listed.{is_in, site_at, Listed}
 use Rattle.grow.specs.Kept.{Kept, Keeping}
 use Rattle.grow.specs.Contract.{Grew}
@@ -28,26 +28,26 @@ use Rattle.grow.specs.Finding.{Finds}
 use Rattle.grow.specs.Task.{Outputs, no_outputs, with_outputs}
 
 -- with any outputs of the other forms, which are no buffers of the task's: so with none
-pub run-grow-determined :
+pub run_grow_determined :
     (c : Call) (p : Choices) (xs ys zs : List ℤ) (members m m' : List ℕ) (a a' : Answer)
     → ((o : Outputs) → Answers c p (with_outputs o xs members) a (with_outputs o ys m))
     → ((o : Outputs) → Answers c p (with_outputs o xs members) a' (with_outputs o zs m'))
     → Same a (with_outputs no_outputs ys m) a' (with_outputs no_outputs zs m')
-run-grow-determined c p xs ys zs members m m' a a' f g =
+run_grow_determined c p xs ys zs members m m' a a' f g =
     determined c p (with_outputs no_outputs xs members) (with_outputs no_outputs ys m) (with_outputs no_outputs zs m') a a' (f no_outputs) (g no_outputs)
 
-pub run-grow-totals-determined :
+pub run_grow_totals_determined :
     (keeping : Bool) (g : Lattice) (o : Group) (xs ts ys us vs : List ℤ)
     → TotalsReady keeping g o ts
     → TotalsAfter keeping g xs ts ys us
     → TotalsAfter keeping g xs ts ys vs
     → us ≡ vs
-run-grow-totals-determined true g o xs ts ys us vs r p q =
-    brought-determined g xs ts ys us vs (r.lengths refl).totals (p.brought refl) (q.brought refl)
-run-grow-totals-determined false g o xs ts ys us vs r p q = p.left refl ∙ sym (q.left refl)
+run_grow_totals_determined true g o xs ts ys us vs r p q =
+    brought_determined g xs ts ys us vs (r.lengths refl).totals (p.brought refl) (q.brought refl)
+run_grow_totals_determined false g o xs ts ys us vs r p q = p.left refl ∙ sym (q.left refl)
 
 -- ---- what is written
-pub write-cluster-determined :
+pub write_cluster_determined :
     (keeping : Bool) (g : Lattice) (o : Group) (list : List ℕ) (len : ℕ) (news : List ℕ) (xs ts ys us zs vs : List ℤ)
     → When keeping (Bringable g o ts)
     → ListWritten g.n o list len news xs ys
@@ -55,13 +55,13 @@ pub write-cluster-determined :
     → TotalsAfter keeping g xs ts ys us
     → TotalsAfter keeping g xs ts zs vs
     → (ys ≡ zs) × (us ≡ vs)
-write-cluster-determined keeping g o list len news xs ts ys us zs vs r w v p q = (rows, totals keeping r p (rw rows q))
+write_cluster_determined keeping g o list len news xs ts ys us zs vs r w v p q = (rows, totals keeping r p (rw rows q))
   where
     rows : ys ≡ zs
-    rows = write-listed-determined g.n o list len news xs ys zs w v
+    rows = write_listed_determined g.n o list len news xs ys zs w v
 
     totals : (b : Bool) → When b (Bringable g o ts) → TotalsAfter b g xs ts ys us → TotalsAfter b g xs ts ys vs → us ≡ vs
-    totals true r p q = brought-determined g xs ts ys us vs (r refl).totals_long (p.brought refl) (q.brought refl)
+    totals true r p q = brought_determined g xs ts ys us vs (r refl).totals_long (p.brought refl) (q.brought refl)
     totals false r p q = p.left refl ∙ sym (q.left refl)
 
 -- ---- what is found
@@ -90,10 +90,10 @@ module _ (t : Task) (c : Call) (xs : List ℤ) (m l cols : List ℕ) (blue len :
   same_columns : m ≡ m' → Kept t xs m cols → Kept t xs m' cols' → (i : ℕ) → get_or m i 0 ≡ 1 → get_or cols i 0 ≡ get_or cols' i 0
   same_columns e k h i on = k.at i on ∙ sym (h.at i (subst (λ (z : List ℕ). get_or z i 0 ≡ 1) e on))
 
-  same-grown :
+  same_grown :
       {a a' : Answer} → a ≡ a' → Grew c xs m l blue len → Grew c xs m' l' blue' len' → Kept t xs m cols → Kept t xs m' cols'
       → SameFound m l cols a blue len m' l' cols' a' blue' len'
-  same-grown e g h k k' =
+  same_grown e g h k k' =
       let all = members_unique (graph c) (member_bonds c xs) c.seed m m' g.cluster.members h.cluster.members in
       let first = members_unique (graph c) (holds c xs) c.seed g.blues h.blues g.first.members h.first.members in
       record {
@@ -106,14 +106,14 @@ module _ (t : Task) (c : Call) (xs : List ℤ) (m l cols : List ℕ) (blue len :
         columns = same_columns all k k';
       }
 
-  pub find-determined :
+  pub find_determined :
       (a a' : Answer) → Keeping (Finds c xs m l a blue len) t xs m cols → Keeping (Finds c xs m' l' a' blue' len') t xs m' cols'
       → SameFound m l cols a blue len m' l' cols' a' blue' len'
-  find-determined (Refused r) a' f g = absurd f.grown
-  find-determined Idle (Refused r) f g = absurd g.grown
-  find-determined Held (Refused r) f g = absurd g.grown
-  find-determined Moved (Refused r) f g = absurd g.grown
-  find-determined Idle Idle f g =
+  find_determined (Refused r) a' f g = absurd f.grown
+  find_determined Idle (Refused r) f g = absurd g.grown
+  find_determined Held (Refused r) f g = absurd g.grown
+  find_determined Moved (Refused r) f g = absurd g.grown
+  find_determined Idle Idle f g =
       let e = clear_determined c.lattice.n m m' f.grown.cleared g.grown.cleared in
       let none = f.grown.no_member in
       let blue-none = f.grown.no_blue in
@@ -126,11 +126,11 @@ module _ (t : Task) (c : Call) (xs : List ℤ) (m l cols : List ℕ) (blue len :
         sites = λ i p. absurd (omega (arith, p.1, none));
         columns = same_columns e f.kept g.kept;
       }
-  find-determined Idle Held f g = never (sym f.grown.off ∙ g.grown.on)
-  find-determined Idle Moved f g = never (sym f.grown.off ∙ g.grown.on)
-  find-determined Held Idle f g = never (sym g.grown.off ∙ f.grown.on)
-  find-determined Moved Idle f g = never (sym g.grown.off ∙ f.grown.on)
-  find-determined Held Moved f g = absurd (g.grown.free f.grown.held)
-  find-determined Moved Held f g = absurd (f.grown.free g.grown.held)
-  find-determined Held Held f g = same-grown refl f.grown.grew g.grown.grew f.kept g.kept
-  find-determined Moved Moved f g = same-grown refl f.grown.grew g.grown.grew f.kept g.kept
+  find_determined Idle Held f g = never (sym f.grown.off ∙ g.grown.on)
+  find_determined Idle Moved f g = never (sym f.grown.off ∙ g.grown.on)
+  find_determined Held Idle f g = never (sym g.grown.off ∙ f.grown.on)
+  find_determined Moved Idle f g = never (sym g.grown.off ∙ f.grown.on)
+  find_determined Held Moved f g = absurd (g.grown.free f.grown.held)
+  find_determined Moved Held f g = absurd (f.grown.free g.grown.held)
+  find_determined Held Held f g = same_grown refl f.grown.grew g.grown.grew f.kept g.kept
+  find_determined Moved Moved f g = same_grown refl f.grown.grew g.grown.grew f.kept g.kept

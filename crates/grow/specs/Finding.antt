@@ -79,9 +79,9 @@ module _ {t : Task} {fwd bwd pins : List ℕ} {xs js : List ℤ} {cuts : List Fl
   unfolding acts
   acts_seed e = sym e
 
-  pub finds-none :
+  pub finds_none :
       {m : List ℕ} → acts c xs t.seed ≡ false → Cleared members m → FindsNone c xs m 0 0
-  finds-none {m} off cleared = record { off = off; cleared = rw f.members_long at cleared; no_blue = refl; no_member = refl }
+  finds_none {m} off cleared = record { off = off; cleared = rw f.members_long at cleared; no_blue = refl; no_member = refl }
 
   -- no member, and so no column is asked
   pub kept_none : {m area : List ℕ} → Cleared members m → length area ≡ cols → Kept t xs m area
@@ -102,17 +102,17 @@ module _ {t : Task} {fwd bwd pins : List ℕ} {xs js : List ℤ} {cuts : List Fl
       };
     }
 
-    pub finds-held :
+    pub finds_held :
         acts c xs t.seed ≡ true → PinAmong pins l 0 blue → FindsHeld c xs m l blue len
-    finds-held on q = record {
+    finds_held on q = record {
       on = on;
       grew = g;
       held = (held_members c xs f.seed_lt g.blues g.first.members).0 (among_held c g.first.listed q);
     }
 
-    pub finds-free :
+    pub finds_free :
         acts c xs t.seed ≡ true → (PinAmong pins l 0 blue → ⊥) → FindsFree c xs m l blue len
-    finds-free on none = record {
+    finds_free on none = record {
       on = on;
       grew = g;
       free = λ s. none (held_among c g.first.listed ((held_members c xs f.seed_lt g.blues g.first.members).1 s));

@@ -67,12 +67,12 @@ module _ {b : Bool} {found : ℕ} {m l : List ℕ} {len : ℕ} (h : Listed m l l
   met_found (joins e new) on = now_marked h fl new
 
 module _ {t : Graph} {holding : ℕ → ℕ → Bool} {seed : ℕ} {b : Bool} {found : ℕ} where
-  pub met-growing :
+  pub met_growing :
       {m l m' l' : List ℕ} {len len' : ℕ} → Growing t holding seed m l len → found < t.n → (b ≡ true → Joined t holding seed found)
       → Met b found m l len m' l' len' → Growing t holding seed m' l' len'
-  met-growing g fl w (known e) = g
-  met-growing g fl w (loose e) = g
-  met-growing {m} {l} {m'} {l'} {len} g fl w (joins on new) = record {
+  met_growing g fl w (known e) = g
+  met_growing g fl w (loose e) = g
+  met_growing {m} {l} {m'} {l'} {len} g fl w (joins on new) = record {
     long = simp length-set g.long;
     byte = λ i il. byte i il (after_set m found 1 i inner);
     seeded = still g.listed inner new seed g.seeded;
@@ -128,10 +128,10 @@ pub record Visiting (t : Graph) (holding : ℕ → ℕ → Bool) (seed x : ℕ) 
   pub marked : get_or m x 0 ≡ 1
   pub shut : Shut t holding m k x
 
-pub visit-start :
+pub visit_start :
     {t : Graph} {holding : ℕ → ℕ → Bool} {seed x : ℕ} {m l : List ℕ} {len : ℕ} → Growing t holding seed m l len → get_or m x 0 ≡ 1
     → Visiting t holding seed x m l len 0 m l len
-visit-start {t} {holding} {seed} {x} {m} {l} {len} g e = record {
+visit_start {t} {holding} {seed} {x} {m} {l} {len} g e = record {
   reached = omega arith;
   growing = g;
   later = later_refl m l len;
@@ -154,14 +154,14 @@ module _ {t : Graph} {holding : ℕ → ℕ → Bool} {seed x k : ℕ} {m₀ l�
   pub from_here : {y : ℕ} → Joined t holding x y → Joined t holding seed y
   from_here w = trans (was.growing.joined x was.marked) w
 
-  pub visiting-met :
+  pub visiting_met :
       {b : Bool} {found : ℕ} {m' l' : List ℕ} {len' : ℕ} → found < t.n → (b ≡ true → Joined t holding x found) → Met b found m l len m' l' len'
       → Visiting t holding seed x m₀ l₀ len₀ k m' l' len'
-  visiting-met fl w met =
+  visiting_met fl w met =
       let after = met_later was.growing.listed (inner fl) met in
       record {
         reached = was.reached;
-        growing = met-growing was.growing fl (λ on. from_here (w on)) met;
+        growing = met_growing was.growing fl (λ on. from_here (w on)) met;
         later = later_trans was.later after;
         marked = after.marked x was.marked;
         shut = shut_later after.marked was.shut;
@@ -169,11 +169,11 @@ module _ {t : Graph} {holding : ℕ → ℕ → Bool} {seed x k : ℕ} {m₀ l�
 
 module _ {t : Graph} {bwd : List ℕ} {holding : ℕ → ℕ → Bool} {seed x k : ℕ} {m₀ l₀ m l m' l' : List ℕ} {len₀ len len' : ℕ}
     (tables : Inverse t.n t.d t.fwd bwd) (kl : k < t.d) {b : Bool} {found : ℕ} (met : Met b found m l len m' l' len') where
-  pub visit-ahead :
+  pub visit_ahead :
       Visiting t holding seed x m₀ l₀ len₀ k m l len → found ≡ leads_to t x k → b ≡ holding x k
       → Halfway t holding seed x m₀ l₀ len₀ k m' l' len'
-  visit-ahead was is rule = record {
-    visiting = visiting-met was fl (λ on. along (record { site = site was; dir = k; dir_lt = kl; on = sym rule ∙ on; leads = sym is }) stay) met;
+  visit_ahead was is rule = record {
+    visiting = visiting_met was fl (λ on. along (record { site = site was; dir = k; dir_lt = kl; on = sym rule ∙ on; leads = sym is }) stay) met;
     ahead = λ on. rw (← is) (met_found was.growing.listed (inner was fl) met (rule ∙ on));
   }
     where
@@ -181,10 +181,10 @@ module _ {t : Graph} {bwd : List ℕ} {holding : ℕ → ℕ → Bool} {seed x k
       fl = rw is (tables.there x k (site was) kl).inside
 
   -- the bond behind leads from the site found to x, and no other in its direction does
-  pub visit-behind :
+  pub visit_behind :
       Halfway t holding seed x m₀ l₀ len₀ k m l len → found ≡ get_or bwd (x * t.d + k) 0 → b ≡ holding found k
       → Visiting t holding seed x m₀ l₀ len₀ (k + 1) m' l' len'
-  visit-behind half is rule = record {
+  visit_behind half is rule = record {
     reached = omega arith;
     growing = now.growing;
     later = now.later;
@@ -202,7 +202,7 @@ module _ {t : Graph} {bwd : List ℕ} {holding : ℕ → ℕ → Bool} {seed x k
       leads = rw is (tables.here x k (site was) kl).home
 
       now : Visiting t holding seed x m₀ l₀ len₀ k m' l' len'
-      now = visiting-met was fl (λ on. against (record { site = fl; dir = k; dir_lt = kl; on = sym rule ∙ on; leads = leads }) stay) met
+      now = visiting_met was fl (λ on. against (record { site = fl; dir = k; dir_lt = kl; on = sym rule ∙ on; leads = leads }) stay) met
 
       ahead : (e : ℕ) → e < k + 1 → Dec (e ≡ k) → holding x e ≡ true → get_or m' (leads_to t x e) 0 ≡ 1
       ahead e el (yes q) on = rw q ((met_later was.growing.listed (inner was fl) met).marked (leads_to t x k) (half.ahead (rw (← q) on)))

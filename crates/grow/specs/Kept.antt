@@ -5,7 +5,7 @@ use Rattle.lemmas.specs.Bools.{and_right}
 use Rattle.lemmas.specs.Stores.{AfterSet, AfterSet.here, AfterSet.there, after_set, Cleared, cleared_all}
 use Rattle.paper.specs.declared.Task.{Task}
 use Rattle.paper.specs.Panel.Takes.{is_drawn}
-use Rattle.column_rules.specs.Sight.{acts_at, column-acts}
+use Rattle.column_rules.specs.Sight.{acts_at, column_acts_lem}
 use Rattle.judge.specs.declared.Rule.{Rule}
 use Rattle.judge.specs.Judged.{Ready, KnownToAct, column_acts, column_for}
 use Rattle.judge.specs.Drawn.{judged_on}
@@ -28,12 +28,12 @@ pub record Keeping (P : Type 0) (t : Task) (xs : List ℤ) (m cols : List ℕ) :
 -- ---- a column and its site
 module _ {r : Rule} {xs js : List ℤ} {cuts : List Float} (ready : Ready r xs js cuts) {i x : ℕ} (il : i < r.task.n) (is : x ≡ column_for r.task xs i) where
   pub known_to_act : MemberActs r.task xs i → KnownToAct r x
-  known_to_act acts q = column-acts ready.growable.panel il is ready.prepared.gauge ∙ acts q
+  known_to_act acts q = column_acts_lem ready.growable.panel il is ready.prepared.gauge ∙ acts q
 
   -- the other end of a bond that holds
   pub end_acts : (j e a : ℕ) → judged_on r js cuts j e a x ≡ true → MemberActs r.task xs i
   end_acts j e a on q =
-      sym (column-acts ready.growable.panel il is ready.prepared.gauge) ∙ and_right (column_acts r a) (column_acts r x) (rw q at on)
+      sym (column_acts_lem ready.growable.panel il is ready.prepared.gauge) ∙ and_right (column_acts r a) (column_acts r x) (rw q at on)
 
 -- ---- one site more
 module _ {t : Task} {xs : List ℤ} (m cols : List ℕ) (found column : ℕ) (inside : found < length m) (room : found < length cols) (long : length cols ≡ 4096)

@@ -22,12 +22,12 @@ pub record Listed (members list : List ℕ) (len : ℕ) : Type 0 where
   pub apart : Distinct len (site_at list)
 
 -- ---- a count after one more passes
-count-more :
+count_more :
     (f g : ℕ → Bool) (m i : ℕ) → i < m → f i ≡ false → g i ≡ true → ((k : ℕ) → (k ≡ i → ⊥) → g k ≡ f k)
     → count_where g m ≡ count_where f m + 1
 unfolding count_where
-count-more f g zero i l off on same = absurd (omega arith)
-count-more f g (suc m) i l off on same = at (ℕ_discrete i m) (λ (k : i < m). count-more f g m i k off on same)
+count_more f g zero i l off on same = absurd (omega arith)
+count_more f g (suc m) i l off on same = at (ℕ_discrete i m) (λ (k : i < m). count_more f g m i k off on same)
   where
     at : Dec (i ≡ m) → (i < m → count_where g m ≡ count_where f m + 1) → count_where g m + bit (g m) ≡ count_where f m + bit (f m) + 1
     at (yes q) ih =
@@ -55,7 +55,7 @@ module _ {members list : List ℕ} {len : ℕ} (h : Listed members list len) {i 
   counted : count_where (is_in (set members i 1)) (length (set members i 1)) ≡ len + 1
   counted =
       rw (length-set members i 1)
-      (count-more (is_in members) (is_in (set members i 1)) (length members) i il (ne_eqb _ _ new) (eq-eqb _ _ now_marked) same
+      (count_more (is_in members) (is_in (set members i 1)) (length members) i il (ne_eqb _ _ new) (eq-eqb _ _ now_marked) same
       ∙ ap (λ (x : ℕ). x + 1) h.number)
     where
       same : (k : ℕ) → (k ≡ i → ⊥) → is_in (set members i 1) k ≡ is_in members k

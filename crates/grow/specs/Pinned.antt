@@ -11,7 +11,7 @@ use Rattle.laws.specs.Holding.{one_is, one_has}
 use Rattle.totals.specs.Listed.{SitesIn}
 use Rattle.judge.specs.Judged.{gauge_for}
 use Rattle.turn.specs.Turned.{Turnable, ColumnsTurned, ListWritten, Turned}
-use Rattle.turn.specs.Laws.{written-turned}
+use Rattle.turn.specs.Laws.{written_turned}
 use Rattle.grow.specs.Members.{inside}
 use Rattle.grow.specs.Listed.{site_at, Listed}
 
@@ -47,10 +47,10 @@ pub record TurnedFree (t : Task) (pins choices greys list : List ℕ) (blue len 
   pub turned : Turned t choices grey list blue len xs ys
 
 -- the grey number 0 can be turned by
-pub none-turnable :
+pub none_turnable :
     {t : Task} {xs : List ℤ} {choices greys list cols : List ℕ} {len : ℕ} → Turnable t xs choices greys list cols len
     → Turnable t xs choices (0 ∷ []) list cols len
-none-turnable h = record {
+none_turnable h = record {
   panel = h.panel;
   distinct = h.distinct;
   chooses = h.chooses;
@@ -65,11 +65,11 @@ none-turnable h = record {
 }
 
 -- the columns, chosen with the gauge of the rows
-pub chosen-with :
+pub chosen_with :
     {t : Task} {pins choices greys list cols grey : List ℕ} {blue len gauge : ℕ} {xs : List ℤ} {news news' : List ℕ} → gauge ≡ gauge_for t xs
     → GreyBy pins greys list blue len grey → ColumnsTurned t gauge choices grey list cols blue len news news'
     → ChosenFree t pins choices greys list cols blue len xs news news'
-chosen-with {t} {pins} {choices} {greys} {list} {cols} {grey} {blue} {len} {gauge} {xs} {news} {news'} e w c = record {
+chosen_with {t} {pins} {choices} {greys} {list} {cols} {grey} {blue} {len} {gauge} {xs} {news} {news'} e w c = record {
   grey = grey;
   which = w;
   chosen = subst (λ (z : ℕ). ColumnsTurned t z choices grey list cols blue len news news') e c;
@@ -85,13 +85,13 @@ module _ {t : Task} {pins choices greys list cols : List ℕ} {blue len : ℕ} {
     grey = grey;
     kept = λ _. e;
     none = λ pin. absurd (f pin);
-    turned = written-turned (subst (λ (z : List ℕ). Turnable t xs choices z list cols len) (sym e) h) refl c w;
+    turned = written_turned (subst (λ (z : List ℕ). Turnable t xs choices z list cols len) (sym e) h) refl c w;
   }
   turned_by {grey} (held p e) c = record {
     grey = grey;
     kept = λ f. absurd (f p);
     none = λ _. e;
-    turned = written-turned (subst (λ (z : List ℕ). Turnable t xs choices z list cols len) (sym e) (none-turnable h)) refl c w;
+    turned = written_turned (subst (λ (z : List ℕ). Turnable t xs choices z list cols len) (sym e) (none_turnable h)) refl c w;
   }
 
   pub turned_free : ChosenFree t pins choices greys list cols blue len xs news news' → TurnedFree t pins choices greys list blue len xs ys
@@ -106,10 +106,10 @@ pub record Looking (pins list : List ℕ) (from to a : ℕ) (found : Bool) : Typ
 pub look_start : (pins list : List ℕ) {from to : ℕ} → from ≤ to → Looking pins list from to from false
 look_start pins list {from} h = record { low = le_refl from; high = h; tells = record { says = λ p. omega (arith, p.low, p.high) } }
 
-pub look-more :
+pub look_more :
     {pins list : List ℕ} {from to a i : ℕ} {found b : Bool} → Looking pins list from to a found → a < to → i ≡ site_at list a
     → Test b (get_or pins i 0 ≡ 1) → Looking pins list from to (a + 1) (found || b)
-look-more {pins} {list} {from} {to} {a} {i} w l is t = record {
+look_more {pins} {list} {from} {to} {a} {i} w l is t = record {
   low = omega (arith, w.low);
   high = omega arith;
   tells = same (PinAmong pins list from (a + 1)) there (λ p. home p (ℕ_discrete p.place a)) (either w.tells t);

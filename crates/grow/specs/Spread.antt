@@ -51,10 +51,10 @@ pub record Spreads (t : Graph) (holding : ℕ → ℕ → Bool) (seed start : �
   pub kept : (k : ℕ) → k < start → site_at l k ≡ site_at l₀ k
 
 -- ---- the same by a rule that says the same of each bond
-pub spreads-by :
+pub spreads_by :
     {t : Graph} {h g : ℕ → ℕ → Bool} {seed start : ℕ} {l₀ m l : List ℕ} {len : ℕ} → ((i e : ℕ) → i < t.n → e < t.d → h i e ≡ g i e)
     → Spreads t h seed start l₀ m l len → Spreads t g seed start l₀ m l len
-spreads-by same s = record {
+spreads_by same s = record {
   long = s.long;
   more = s.more;
   cluster = record { members = members_by same s.cluster.members; listed = s.cluster.listed };
@@ -91,10 +91,10 @@ again {t} {h} {g} {seed} {m} sl w c = record {
 }
 
 -- ---- from one turn to the next
-pub spread-start :
+pub spread_start :
     {t : Graph} {holding : ℕ → ℕ → Bool} {seed start : ℕ} {m l : List ℕ} → Growing t holding seed m l start
     → Spreading t holding seed start l 0 m l start
-spread-start g = record { reached = omega arith; long = refl; more = omega arith; growing = g; visited = λ k h. absurd (omega arith); kept = λ k h. refl }
+spread_start g = record { reached = omega arith; long = refl; more = omega arith; growing = g; visited = λ k h. absurd (omega arith); kept = λ k h. refl }
 
 module _ {t : Graph} {holding : ℕ → ℕ → Bool} {seed start head : ℕ} {l₀ m l : List ℕ} {len : ℕ} (was : Spreading t holding seed start l₀ head m l len) where
   pub spread_high : len ≤ t.n
@@ -143,10 +143,10 @@ module _ {t : Graph} {holding : ℕ → ℕ → Bool} {seed start head : ℕ} {l
   pub next_marked : {r : ℕ} → head < len → r ≡ site_at l head → get_or m r 0 ≡ 1
   next_marked hl e = rw e (was.growing.listed.each head hl)
 
-  pub spread-more :
+  pub spread_more :
       {r : ℕ} {m' l' : List ℕ} {len' : ℕ} → head < len → r ≡ site_at l head → Visiting t holding seed r m l len t.d m' l' len'
       → Spreading t holding seed start l₀ (head + 1) m' l' len'
-  spread-more {r} {m'} {l'} {len'} hl is v = record {
+  spread_more {r} {m'} {l'} {len'} hl is v = record {
     reached = omega (arith, v.later.more);
     long = v.later.long ∙ was.long;
     more = omega (arith, was.more, v.later.more);

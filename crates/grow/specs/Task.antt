@@ -27,10 +27,10 @@ pub record GrowAsks (c : Call) (p : Choices) (xs : List ℤ) (members : List ℕ
   pub valid : Valid c p (with_outputs no_outputs xs members)
 
 -- what is valid with some of them is so with others
-pub grown-with :
+pub grown_with :
     {c : Call} {p : Choices} {xs : List ℤ} {members : List ℕ} (o u : Outputs) → grows_by c.form ≡ true → Valid c p (with_outputs o xs members)
     → Valid c p (with_outputs u xs members)
-grown-with {c} o u f v = let s = v.sound in let e = s.exact in record {
+grown_with {c} o u f v = let s = v.sound in let e = s.exact in record {
   sound = record {
     ranged = s.ranged;
     houd = s.houd;

@@ -14,7 +14,7 @@ prepare_determined t grey xs r r' p q =
     let byte = p.gauge ∙ sym q.gauge in
     λ i. record { task = task i; grey = colour i; sampler = sampler i; gauge = byte i }
 
-pub judge-determined :
+pub judge_determined :
     (r : Rule) (js : List ℤ) (cuts : List Float) (i e x y : ℕ) (b b' : Bool)
     → b ≡ judged_on r js cuts i e x y → b' ≡ judged_on r js cuts i e x y → b ≡ b'
-judge-determined r js cuts i e x y b b' p q = p ∙ sym q
+judge_determined r js cuts i e x y b b' p q = p ∙ sym q

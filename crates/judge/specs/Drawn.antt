@@ -74,10 +74,10 @@ not_drawn j m f g s cut e =
     ap (λ (z : ℤ). lt_z (pos 0) (j *ℤ z) && drawn s.four (whole (nat_abs (j *ℤ z))) cut) e
     ∙ ap (λ (z : ℤ). lt_z (pos 0) z && drawn s.four (whole (nat_abs z)) cut) (*ℤ-zero j)
 
-pub jorg-acts :
+pub jorg_acts :
     (j : ℤ) (m : ℕ) (f g : Pattern) (s : Sampler) (cut : Float)
     → jorg_holds j m f g s cut ≡ ((pair_differs (m / 2) f && pair_differs (m / 2) g) && jorg_holds j m f g s cut)
-jorg-acts j m f g s cut = at (pair_differs (m / 2) f) (pair_differs (m / 2) g) refl refl
+jorg_acts j m f g s cut = at (pair_differs (m / 2) f) (pair_differs (m / 2) g) refl refl
   where
     at :
         (a b : Bool) → pair_differs (m / 2) f ≡ a → pair_differs (m / 2) g ≡ b
@@ -112,7 +112,7 @@ module _ (t : Task) (grey : Bool) (xs js : List ℤ) (cuts : List Float) (i e j 
       go Pair p q = never q
       go Perm p q = never q
       go Gperm p q = never q
-      go Jorg p q = rw p (jorg-acts (coupling_of t js i e) t.group.len (end_at t xs i) (end_at t xs j) (sampler_of t.temperature) (cut_of t cuts i e))
+      go Jorg p q = rw p (jorg_acts (coupling_of t js i e) t.group.len (end_at t xs i) (end_at t xs j) (sampler_of t.temperature) (cut_of t cuts i e))
       go Cmr p q = colour grey
         where
           colour : (b : Bool) → drawn_by true b t (sampler_of t.temperature) (end_at t xs i) (end_at t xs j) (coupling_of t js i e) (cut_of t cuts i e)

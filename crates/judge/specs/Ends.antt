@@ -14,7 +14,7 @@ use Rattle.paper.specs.Panel.Takes.{is_cmr, is_drawn}
 use Rattle.paper.specs.Site.Bonds.{sampler_of, whole, drawn, pick, pair_term, kind_of, jorg_holds, blue_holds, grey_holds}
 use Rattle.laws.specs.Local.{Agree, kind_ext}
 use Rattle.columns.specs.Column.{bit_of, sign, shown, column_of, shown_column}
-use Rattle.column_rules.specs.Sight.{column-acts}
+use Rattle.column_rules.specs.Sight.{column_acts_lem}
 use Rattle.bonds.specs.Laws.{jorg_ext}
 use Rattle.judge.specs.declared.Rule.{Rule}
 use Rattle.judge.specs.Judged.{Ready, Judgeable, column_acts, coupling_of, cut_of, end_at, judged}
@@ -59,17 +59,17 @@ jorg_turned j m f g s cut =
     ap (λ (z : ℤ). lt_z (pos 0) (j *ℤ z) && drawn s.four (whole (nat_abs (j *ℤ z))) cut)
     (sum_ext (m / 2) (pair_term f g) (pair_term g f) (λ k h. term_turned f g k))
 
-drawn-turned :
+drawn_turned :
     (cmr grey : Bool) (t : Task) (s : Sampler) (a b : ℕ) (j : ℤ) (cut : Float)
     → drawn_by cmr grey t s (shown a) (shown b) j cut ≡ drawn_by cmr grey t s (shown b) (shown a) j cut
-drawn-turned true true t s a b j cut = ap (λ (k : BondKind). grey_holds k s cut) (kind_turned j a b)
-drawn-turned true false t s a b j cut = ap (λ (k : BondKind). blue_holds k s cut) (kind_turned j a b)
-drawn-turned false grey t s a b j cut = jorg_turned j t.group.len (shown a) (shown b) s cut
+drawn_turned true true t s a b j cut = ap (λ (k : BondKind). grey_holds k s cut) (kind_turned j a b)
+drawn_turned true false t s a b j cut = ap (λ (k : BondKind). blue_holds k s cut) (kind_turned j a b)
+drawn_turned false grey t s a b j cut = jorg_turned j t.group.len (shown a) (shown b) s cut
 
 pub judged_turned : (r : Rule) (js : List ℤ) (cuts : List Float) (i e a b : ℕ) → judged_on r js cuts i e a b ≡ judged_on r js cuts i e b a
 judged_turned r js cuts i e a b =
     λ k. cond (is_drawn r.task.mode)
-    (drawn-turned (is_cmr r.task.mode) r.grey r.task r.sampler a b (coupling_of r.task js i e) (cut_of r.task cuts i e) k)
+    (drawn_turned (is_cmr r.task.mode) r.grey r.task r.sampler a b (coupling_of r.task js i e) (cut_of r.task cuts i e) k)
     (either (column_acts r a) (column_acts r b) k)
 
 -- ---- columns show the patterns
@@ -94,13 +94,13 @@ module _
         kind_ext z (shown a) (shown b) (end_at r.task xs i) (end_at r.task xs j)
         (λ k hk. shows i a hi ea k (omega (arith, ready.growable.two q))) (λ k hk. shows j b hj eb k (omega (arith, ready.growable.two q)))
 
-    drawn-seen :
+    drawn_seen :
         (cmr grey : Bool) (z : ℤ) (cut : Float) → is_cmr r.task.mode ≡ cmr
         → drawn_by cmr grey r.task r.sampler (shown a) (shown b) z cut
         ≡ drawn_by cmr grey r.task (sampler_of r.task.temperature) (end_at r.task xs i) (end_at r.task xs j) z cut
-    drawn-seen true true z cut q = λ k. grey_holds (kind_seen z q k) (ready.prepared.sampler k) cut
-    drawn-seen true false z cut q = λ k. blue_holds (kind_seen z q k) (ready.prepared.sampler k) cut
-    drawn-seen false grey z cut q =
+    drawn_seen true true z cut q = λ k. grey_holds (kind_seen z q k) (ready.prepared.sampler k) cut
+    drawn_seen true false z cut q = λ k. blue_holds (kind_seen z q k) (ready.prepared.sampler k) cut
+    drawn_seen false grey z cut q =
         (λ k. jorg_holds z r.task.group.len (shown a) (shown b) (ready.prepared.sampler k) cut)
         ∙ jorg_ext z r.task.group.len (shown a) (shown b) (end_at r.task xs i) (end_at r.task xs j) (sampler_of r.task.temperature) cut
         (shows i a hi ea) (shows j b hj eb)
@@ -114,9 +114,9 @@ module _
             (column_acts r a && column_acts r b)
             ≡ judged r.task r.grey xs js cuts i e j
         go true q =
-            drawn-seen (is_cmr r.task.mode) r.grey (coupling_of r.task js i e) (cut_of r.task cuts i e) refl
+            drawn_seen (is_cmr r.task.mode) r.grey (coupling_of r.task js i e) (cut_of r.task cuts i e) refl
             ∙ drawn_judged r.task r.grey xs js cuts i e j q
         go false q =
-            (λ k. column-acts ready.growable.panel hi ea ready.prepared.gauge k
-            && column-acts ready.growable.panel hj eb ready.prepared.gauge k)
+            (λ k. column_acts_lem ready.growable.panel hi ea ready.prepared.gauge k
+            && column_acts_lem ready.growable.panel hj eb ready.prepared.gauge k)
             ∙ acts_judged r.task r.grey xs js cuts i e j q

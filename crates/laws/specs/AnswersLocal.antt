@@ -15,9 +15,9 @@ use Rattle.paper.specs.Refusal.Rules.{Spin, group_names, Named, Spins, Exact, Se
 use Rattle.paper.specs.Refusal.Kept.{named, Valid, valid_of, valid_kept}
 use Rattle.paper.specs.Answer.Move.{SeenAll, SeenOne, Seen, member_bonds, SeedHeld, Turns, Answers, Accepted, Accepted.idle, Accepted.held, Accepted.moved}
 use Rattle.laws.specs.Forms.{grows_one, grows_moves}
-use Rattle.laws.specs.Unique.{HoldAlike, GroupIs, OthersOf, label_lt, spins_equal, joined_ext, numbered_ext, members-ext, counts_ext, sizes_ext}
+use Rattle.laws.specs.Unique.{HoldAlike, GroupIs, OthersOf, label_lt, spins_equal, joined_ext, numbered_ext, members_ext, counts_ext, sizes_ext}
 use Rattle.laws.specs.Entries.{perm_of, reached_moves, perms_of, perms_grown}
-use Rattle.laws.specs.Local.{Agree, Alike, acts_local, holds_local, grey_local, final-local}
+use Rattle.laws.specs.Local.{Agree, Alike, acts_local, holds_local, grey_local, final_local}
 
 abbrev pub with_spins : Buffers → List ℤ → Buffers
 with_spins b xs = record {
@@ -156,7 +156,7 @@ module _ {c : Call} {p : Choices} {b : Buffers} {xs : List ℤ} (s : Instead c b
 
   one_there : {b' : Buffers} → grows_by c.form ≡ true → SeenOne c b b' → (ys : List ℤ) → SeenOne c (with_spins b xs) (with_spins b' ys)
   one_there {b'} g w ys = record {
-    members = λ t. members-ext (graph c) (member_bonds c b.spins) (member_bonds c xs) c.seed b'.members bonds (w.members (sym seed ∙ t));
+    members = λ t. members_ext (graph c) (member_bonds c b.spins) (member_bonds c xs) c.seed b'.members bonds (w.members (sym seed ∙ t));
     none = λ t. w.none (sym seed ∙ t);
     labels_kept = w.labels_kept;
     grey_kept = w.grey_kept;
@@ -191,14 +191,14 @@ module _ {c : Call} {p : Choices} {b : Buffers} {xs : List ℤ} (s : Instead c b
   moves_there : (l g : List ℕ) {zs : List ℤ} → PermsAt l → Moves c p b.spins l g zs → (ys : List ℤ) → Rows c xs zs ys → Moves c p xs l g ys
   moves_there l g perms w ys r = record {
     long = r.long;
-    group = λ i k hi hk. r.group i hi k hk ∙ (w.group i k hi hk ∙ sym (final-local c xs b.spins alike p l g i k hi hk (perms i hi)));
+    group = λ i k hi hk. r.group i hi k hk ∙ (w.group i k hi hk ∙ sym (final_local c xs b.spins alike p l g i k hi hk (perms i hi)));
     others = r.others;
   }
 
   turned_there : {m : List ℕ} {zs : List ℤ} → grows_by c.form ≡ true → Turns c p b.spins m zs → (ys : List ℤ) → Rows c xs zs ys → Turns c p xs m ys
   turned_there {m} g w ys r = record {
     blue = w.blue;
-    joined = members-ext (graph c) (holds c b.spins) (holds c xs) c.seed w.blue blue w.joined;
+    joined = members_ext (graph c) (holds c b.spins) (holds c xs) c.seed w.blue blue w.joined;
     moved = moves_there w.blue m (λ i hi e q. perms_grown v g (rw (grows_moves c.form g, q)) (label_of w.blue i)) w.moved ys r;
   }
 

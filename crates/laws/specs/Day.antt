@@ -52,14 +52,14 @@ module _ (Which : ℕ → Type 0) (g : Lattice) (inside : (t : ℕ) → Which t 
   left_current : ys ≡ xs → us ≡ ts → Current Which g ys us
   left_current p q = rw (p, q) h
 
-  after-current :
+  after_current :
       (keeping : Bool) (l : Lattice)
       → When keeping (l ≡ g)
       → TotalsAfter keeping l xs ts ys us
       → (keeping ≡ false → ys ≡ xs)
       → Current Which g ys us
-  after-current true l same p still = brought_current (rw (same refl) at (p.brought refl))
-  after-current false l same p still = left_current (still refl) (p.left refl)
+  after_current true l same p still = brought_current (rw (same refl) at (p.brought refl))
+  after_current false l same p still = left_current (still refl) (p.left refl)
 
 module _
     (Which : ℕ → Type 0) (g : Lattice) (inside : (t : ℕ) → Which t → t < g.s) (ts us : List ℤ) (b b' : Buffers)
@@ -71,7 +71,7 @@ module _
     module _ (c : Call) (p : Choices) (same : When (keeps_by Totals c.form) (c.lattice ≡ g)) where
       accepted_current : (a : Answer) → KeepAccepts (keeps_by Totals c.form) c p b ts a b' us → Current Which g b'.spins us
       accepted_current a f =
-          after-current Which g inside b.spins ts b'.spins us h (keeps_by Totals c.form) c.lattice same f.totals
+          after_current Which g inside b.spins ts b'.spins us h (keeps_by Totals c.form) c.lattice same f.totals
           (λ e. observed_still c p e b b' a f.answers)
 
       move_current : (a : Answer) → KeepAnswers (keeps_by Totals c.form) c p b ts a b' us → Current Which g b'.spins us
@@ -84,7 +84,7 @@ module _
       sweep_current : (a : SweepAnswer) → SweepKeepAnswers (keeps_by Totals w.form) w b ts a b' us → Current Which g b'.spins us
       sweep_current (Fault r) f = refused_current f.kept f.totals_kept
       sweep_current (Swept i m n) f =
-          after-current Which g inside b.spins ts b'.spins us h (keeps_by Totals w.form) w.lattice same f.totals
+          after_current Which g inside b.spins ts b'.spins us h (keeps_by Totals w.form) w.lattice same f.totals
           (λ e. sweep_observed_still w e b b' i m n f.answers)
 
 module _ {Which : ℕ → Type 0} {g : Lattice} (inside : (t : ℕ) → Which t → t < g.s) where

@@ -14,13 +14,13 @@ use Rattle.paper.specs.Refusal.Rules.{rules}
 use Rattle.paper.specs.Refusal.Kept.{valid_of}
 use Rattle.paper.specs.Answer.Move.{SeenAll, SeenOne, Seen, member_bonds, Turns, Goes, Answers}
 use Rattle.laws.specs.Forms.{by_form}
-use Rattle.laws.specs.Unique.{numbered_unique, members_unique, counts_unique, sizes_unique, moves-unique}
+use Rattle.laws.specs.Unique.{numbered_unique, members_unique, counts_unique, sizes_unique, moves_unique}
 
 pub record Same (a₁ : Answer) (b₁ : Buffers) (a₂ : Answer) (b₂ : Buffers) : Type 0 where
   pub answer : a₁ ≡ a₂
   pub buffers : b₁ ≡ b₂
 
-pub buffers-equal :
+pub buffers_equal :
     (y z : Buffers)
     → y.spins ≡ z.spins
     → y.labels ≡ z.labels
@@ -31,7 +31,7 @@ pub buffers-equal :
     → y.found ≡ z.found
     → y.grey_found ≡ z.grey_found
     → y ≡ z
-buffers-equal y z a b c d e f g h = λ i. record {
+buffers_equal y z a b c d e f g h = λ i. record {
   spins = a i;
   labels = b i;
   grey_labels = c i;
@@ -56,7 +56,7 @@ module _ (c : Call) (p : Choices) (b : Buffers) (y z : Buffers) where
 
   all_same : y.spins ≡ z.spins → SeenAll c b y → SeenAll c b z → y ≡ z
   all_same e s t =
-      buffers-equal y z e l grey.0
+      buffers_equal y z e l grey.0
       (counts_unique y.labels y.counts z.counts s.counts (rw l t.counts))
       (sizes_unique y.labels y.sizes z.sizes s.sizes (rw l t.sizes))
       (s.members_kept ∙ sym t.members_kept) (labels_same s t).1 grey.1
@@ -74,7 +74,7 @@ module _ (c : Call) (p : Choices) (b : Buffers) (y z : Buffers) where
 
   one_same : y.spins ≡ z.spins → SeenOne c b y → SeenOne c b z → y ≡ z
   one_same e s t =
-      buffers-equal y z e (s.labels_kept ∙ sym t.labels_kept) (s.grey_kept ∙ sym t.grey_kept) (s.counts_kept ∙ sym t.counts_kept)
+      buffers_equal y z e (s.labels_kept ∙ sym t.labels_kept) (s.grey_kept ∙ sym t.grey_kept) (s.counts_kept ∙ sym t.counts_kept)
       (s.sizes_kept ∙ sym t.sizes_kept) (members_same (acts c b.spins c.seed) refl s t) (s.found_kept ∙ sym t.found_kept)
       (s.grey_found_kept ∙ sym t.grey_found_kept)
 
@@ -100,11 +100,11 @@ module _ (c : Call) (p : Choices) (b : Buffers) (y z : Buffers) where
 
       turned : Turns c p b.spins y.members y.spins → Turns c p b.spins z.members z.spins → y.members ≡ z.members → y.spins ≡ z.spins
       turned s t e =
-          moves-unique c p b.spins s.blue y.members y.spins z.spins some s.moved
+          moves_unique c p b.spins s.blue y.members y.spins z.spins some s.moved
           (rw (members_unique (graph c) (holds c b.spins) c.seed s.blue t.blue s.joined t.joined, e) t.moved)
 
       go : (labels_by c.form ≡ true) ⊎ (grows_by c.form ≡ true) → y.spins ≡ z.spins
-      go (inl q) = moves-unique c p b.spins y.labels y.grey_labels y.spins z.spins some (g.moved q) (again q)
+      go (inl q) = moves_unique c p b.spins y.labels y.grey_labels y.spins z.spins some (g.moved q) (again q)
       go (inr q) =
           turned (g.turned q) (h.turned q) (members_same (acts c b.spins c.seed) refl (g.seen.one q) (h.seen.one q))
 

@@ -25,9 +25,9 @@ use Rattle.paper.specs.Refusal.Rule.{Kept, Broken, broken_unique, broken_not_kep
 use Rattle.paper.specs.Refusal.Rules.{When, Exact, Chosen, Seeded, choice_rules, rules}
 use Rattle.paper.specs.Refusal.Kept.{Valid, valid_of}
 use Rattle.paper.specs.Answer.Move.{member_bonds, SeenAll, SeenOne, SeedHeld, Turns, Goes, Answers}
-use Rattle.laws.specs.Unique.{HoldAlike, same_label, joined_ext, members-ext, spins_equal}
-use Rattle.laws.specs.Holding.{one-ext}
-use Rattle.laws.specs.Determined.{buffers-equal, not_both}
+use Rattle.laws.specs.Unique.{HoldAlike, same_label, joined_ext, members_ext, spins_equal}
+use Rattle.laws.specs.Holding.{one_ext}
+use Rattle.laws.specs.Determined.{buffers_equal, not_both}
 use Rattle.laws.specs.Matched.{Matched, matched_kept, matched_broken, itself}
 use Rattle.laws.specs.Counting.{idle_members}
 use Rattle.laws.specs.Untaken.{onto}
@@ -77,7 +77,7 @@ pub record GrowsAs (c : Call) (a : Answer) (b' : Buffers) (a' : Answer) (d' : Bu
   pub members : MembersBy a c b' d'
 
 -- ---- labels and members of one component
-member-label :
+member_label :
     (t : Graph) (holding : ℕ → ℕ → Bool) (seed : ℕ) {found : ℕ} (l m : List ℕ)
     → seed < t.n
     → Labels t holding l found
@@ -85,7 +85,7 @@ member-label :
     → (i : ℕ)
     → i < t.n
     → (get_or m i 0 ≡ 1) ↔ (label_of l i ≡ label_of l seed)
-member-label t holding seed l m hs w v i hi =
+member_label t holding seed l m hs w v i hi =
     let same = same_label t holding l w i seed hi hs in
     ((λ e. same.1 (back (v.joined i hi e))), (λ e. v.marked i hi (back (same.0 e))))
 
@@ -165,7 +165,7 @@ module _ (c : Call) where
         same j hj = tests_same (get_or m j 0) 1 (label_of l j) (label_of l c.seed) (e j hj)
 
         one : has_one (pinned c) l (label_of l c.seed) ≡ has_one (pinned c) m 1
-        one = one-ext (pinned c) l m (label_of l c.seed) 1 (ll ∙ sym lm) (λ j hj. same j (rw ll at hj))
+        one = one_ext (pinned c) l m (label_of l c.seed) 1 (ll ∙ sym lm) (λ j hj. same j (rw ll at hj))
 
         go :
             (t : Bool)
@@ -268,14 +268,14 @@ module _ (c : Call) where
       members = one.members (sym (acts_same xs c.seed) ∙ valid.fit.seeded.acting refl some)
 
       -- by the bonds that hold and in CMR by the grey ones
-      grey-label :
+      grey_label :
           is_cmr c.mode ≡ true
           → (i : ℕ)
           → i < c.lattice.n
           → (get_or d'.members i 0 ≡ 1) ↔ (label_of b'.grey_labels i ≡ label_of b'.grey_labels c.seed)
-      grey-label q =
-          member-label (graph c) (holds_grey wolff xs) c.seed b'.grey_labels d'.members (seed_lt valid) (all.grey_labels q).labels
-          (members-ext (graph c) (holds_grey grow xs) (holds_grey wolff xs) c.seed d'.members (grey_same xs) (rw q at members))
+      grey_label q =
+          member_label (graph c) (holds_grey wolff xs) c.seed b'.grey_labels d'.members (seed_lt valid) (all.grey_labels q).labels
+          (members_ext (graph c) (holds_grey grow xs) (holds_grey wolff xs) c.seed d'.members (grey_same xs) (rw q at members))
 
       plain_label :
           is_cmr c.mode ≡ false
@@ -283,8 +283,8 @@ module _ (c : Call) where
           → i < c.lattice.n
           → (get_or d'.members i 0 ≡ 1) ↔ (label_of b'.labels i ≡ label_of b'.labels c.seed)
       plain_label q =
-          member-label (graph c) (holds wolff xs) c.seed b'.labels d'.members (seed_lt valid) all.labels.labels
-          (members-ext (graph c) (holds grow xs) (holds wolff xs) c.seed d'.members (holds_same xs) (rw q at members))
+          member_label (graph c) (holds wolff xs) c.seed b'.labels d'.members (seed_lt valid) all.labels.labels
+          (members_ext (graph c) (holds grow xs) (holds wolff xs) c.seed d'.members (holds_same xs) (rw q at members))
 
       members_are : MembersBy Moved c b' d'
       members_are i h = go (is_cmr c.mode) refl
@@ -293,7 +293,7 @@ module _ (c : Call) where
               (t : Bool)
               → is_cmr c.mode ≡ t
               → (get_or d'.members i 0 ≡ 1) ↔ (label_of (member_labels c b') i ≡ label_of (member_labels c b') c.seed)
-          go true q = rw q (grey-label q i h)
+          go true q = rw q (grey_label q i h)
           go false q = rw q (plain_label q i h)
 
     -- ---- the spins
@@ -309,8 +309,8 @@ module _ (c : Call) where
 
       blue_label : (i : ℕ) → i < c.lattice.n → (get_or turned.blue i 0 ≡ 1) ↔ (label_of b'.labels i ≡ label_of b'.labels c.seed)
       blue_label =
-          member-label (graph c) (holds wolff xs) c.seed b'.labels turned.blue (seed_lt valid) all.labels.labels
-          (members-ext (graph c) (holds grow xs) (holds wolff xs) c.seed turned.blue (holds_same xs) turned.joined)
+          member_label (graph c) (holds wolff xs) c.seed b'.labels turned.blue (seed_lt valid) all.labels.labels
+          (members_ext (graph c) (holds grow xs) (holds wolff xs) c.seed turned.blue (holds_same xs) turned.joined)
 
       after_same : (i k : ℕ) → i < c.lattice.n → after wolff p xs b'.labels i k ≡ after grow p xs turned.blue i k
       after_same i k h = cc (
@@ -321,14 +321,14 @@ module _ (c : Call) where
       grey_reached : is_cmr c.mode ≡ true → (i : ℕ) → i < c.lattice.n → reached wolff xs b'.grey_labels i ≡ reached grow xs d'.members i
       grey_reached q =
           reached_same xs b'.grey_labels d'.members (all.grey_labels q).labels.long
-          (members b' d' valid w.some all (g.seen.one refl)).long (grey-label b' d' valid w.some all (g.seen.one refl) q)
+          (members b' d' valid w.some all (g.seen.one refl)).long (grey_label b' d' valid w.some all (g.seen.one refl) q)
 
-      final-same :
+      final_same :
           (i k : ℕ)
           → i < c.lattice.n
           → final wolff p xs b'.labels b'.grey_labels i k ≡ final grow p xs turned.blue d'.members i k
       unfolding final
-      final-same i k h = go (is_cmr c.mode) refl
+      final_same i k h = go (is_cmr c.mode) refl
         where
           go : (t : Bool) → is_cmr c.mode ≡ t → final wolff p xs b'.labels b'.grey_labels i k ≡ final grow p xs turned.blue d'.members i k
           go true q = cc (grey_reached q i h, after_same i k h)
@@ -339,7 +339,7 @@ module _ (c : Call) where
           let m = w.moved refl in
           let t = turned.moved in
           spins_equal c d'.spins b'.spins valid.sound.ranged.lattice.n_low (t.long ∙ sym m.long)
-          (λ i k hi hk. t.group i k hi hk ∙ (sym (final-same i k hi) ∙ sym (m.group i k hi hk)))
+          (λ i k hi hk. t.group i k hi hk ∙ (sym (final_same i k hi) ∙ sym (m.group i k hi hk)))
           (λ i x hi out. t.others i x hi out ∙ sym (m.others i x hi out))
 
     -- ---- the answer
@@ -383,12 +383,12 @@ module _ (c : Call) where
       members = members_are b' d' (valid_of wolff p b f.valid) f.some (f.seen.all refl) (g.seen.one refl);
     }
 
-    pub grows-as-wolff :
+    pub grows_as_wolff :
         (a : Answer) (b' : Buffers) (a' : Answer) (d' : Buffers)
         → Answers wolff p b a b'
         → Answers grow p d a' d'
         → GrowsAs c a b' a' d'
-    grows-as-wolff a b' a' d' f g = there a b' a' d' f (subst (λ (z : Buffers). Answers grow p z a' d') is_onto g)
+    grows_as_wolff a b' a' d' f g = there a b' a' d' f (subst (λ (z : Buffers). Answers grow p z a' d') is_onto g)
       where
         is_onto : d ≡ onto b d
-        is_onto = buffers-equal d (onto b d) own.spins refl refl refl refl refl refl refl
+        is_onto = buffers_equal d (onto b d) own.spins refl refl refl refl refl refl refl

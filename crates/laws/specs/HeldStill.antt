@@ -1,5 +1,5 @@
 -- A component with a pinned site does not move, in any mode and form (`held_still`). In CMR that is a blue component: its grey one is held with it
--- (`grey-held-too`), so that neither flip reaches it.
+-- (`grey_held_too`), so that neither flip reaches it.
 use Rattle.std.specs.Prelude.{ℕ, ◌<◌, ◌≡◌, ◌⊎◌, Bool, List, Float, length, ℤ}
 use Rattle.std.proofs.Math.Path.{refl, sym}
 use Rattle.std.proofs.Common.{◌∙◌, ap, inl, inr}
@@ -53,7 +53,7 @@ module _ (c : Call) (xs : List ℤ) (cmr : is_cmr c.mode ≡ true) where
   grey_joined : {i j : ℕ} → Joined (graph c) (holds c xs) i j → Joined (graph c) (holds_grey c xs) i j
   grey_joined q = bind over q
 
-  pub grey-held-too :
+  pub grey_held_too :
       {f h : ℕ} (l g : List ℕ)
       → Labels (graph c) (holds c xs) l f
       → Labels (graph c) (holds_grey c xs) g h
@@ -61,7 +61,7 @@ module _ (c : Call) (xs : List ℤ) (cmr : is_cmr c.mode ≡ true) where
       → i < c.lattice.n
       → held c l i ≡ true
       → held c g i ≡ true
-  grey-held-too l g wl wg i hi e =
+  grey_held_too l g wl wg i hi e =
       let o = one_is (pinned c) l (label_of l i) e in
       let hj = rw wl.long at o.below in
       one_has (pinned c) g (label_of g i) (record {

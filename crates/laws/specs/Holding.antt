@@ -51,13 +51,13 @@ module _ (mark : ℕ → Bool) (l : List ℕ) (r : ℕ) where
       lt-ltb _ _ (count_pos (λ j. eqb (label_of l j) r && mark j) (length l) o.site o.below (rw (eq-eqb _ _ o.label, o.marked)))
 
 -- two lists that tell the same component
-pub one-ext :
+pub one_ext :
     (mark : ℕ → Bool) (l m : List ℕ) (r s : ℕ)
     → length l ≡ length m
     → ((j : ℕ) → j < length l → eqb (label_of l j) r ≡ eqb (label_of m j) s)
     → has_one mark l r ≡ has_one mark m s
 unfolding has_one
-one-ext mark l m r s long same =
+one_ext mark l m r s long same =
     rw (← long)
     (ap (ltb 0)
     (count_ext (λ j. eqb (label_of l j) r && mark j) (λ j. eqb (label_of m j) s && mark j) (length l) (λ j h. ap (λ (t : Bool). t && mark j) (same j h))))

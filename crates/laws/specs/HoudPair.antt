@@ -24,7 +24,7 @@ use Rattle.paper.specs.Refusal.Rule.{Rule, rule}
 use Rattle.paper.specs.Refusal.Kept.{named, Valid, valid_of}
 use Rattle.paper.specs.Answer.Move.{SeenAll, SeenOne, Seen, SeedHeld, Turns, Answers}
 use Rattle.laws.specs.Forms.{grows_one}
-use Rattle.laws.specs.Unique.{HoldAlike, joined_ext, numbered_ext, members-ext, counts_ext, sizes_ext}
+use Rattle.laws.specs.Unique.{HoldAlike, joined_ext, numbered_ext, members_ext, counts_ext, sizes_ext}
 use Rattle.laws.specs.Matched.{SameVerdict, verdict_back, unchanged, behind, behind_if, reworded, past}
 
 abbrev pub with_mode : Mode → Call → Call
@@ -129,7 +129,7 @@ module _ (m o : Mode) (c : Call) (p : Choices) (b b' : Buffers) (w : Twins m o c
   one_there below s = record {
     members = λ e.
         rw w.one_colour_too
-        (members-ext (graph c) (holds one xs) (holds two xs) c.seed b'.members w.bonds
+        (members_ext (graph c) (holds one xs) (holds two xs) c.seed b'.members w.bonds
         (rw w.one_colour at (s.members (w.acting c.seed below ∙ e))));
     none = λ e. s.none (w.acting c.seed below ∙ e);
     labels_kept = s.labels_kept;
@@ -146,7 +146,7 @@ module _ (m o : Mode) (c : Call) (p : Choices) (b b' : Buffers) (w : Twins m o c
   turns_there : (l : List ℕ) (ys : List ℤ) → Turns one p xs l ys → Turns two p xs l ys
   turns_there l ys t = record {
     blue = t.blue;
-    joined = members-ext (graph c) (holds one xs) (holds two xs) c.seed t.blue w.bonds t.joined;
+    joined = members_ext (graph c) (holds one xs) (holds two xs) c.seed t.blue w.bonds t.joined;
     moved = moves_there t.blue l ys t.moved;
   }
 

@@ -16,10 +16,10 @@ use Rattle.paper.specs.Answer.Totals.{total, Current, HandOverExact, KeepAnswers
 use Rattle.paper.specs.Answer.Team.{Team, owner_rules, own, Ours, read, read_call, read_sweep, TeamAnswers, TeamSweepAnswers, TeamMeterAnswers, hand_over_rules}
 use Rattle.laws.specs.Matched.{SameVerdict, unchanged, reworded, behind, behind_if}
 use Rattle.laws.specs.Owners.{own_below, own_ours, read_own, read_same, named_own, ordered_own}
-use Rattle.laws.specs.Owners.{owned-cases, owned-both, answer_of, sweep_answer_of, meter_answer_of}
-use Rattle.laws.specs.SameView.{SameRows, SameTotals, SameView, view-fewer, LeadsInside, energy-local}
-use Rattle.laws.specs.NamedOnly.{NamesOnly, SeenAlike, Leaves, spins_same, call-isolated, call-leaves}
-use Rattle.laws.specs.SweepNamedOnly.{ListsOnly, order-isolated, order-leaves}
+use Rattle.laws.specs.Owners.{owned_cases, owned_both, answer_of, sweep_answer_of, meter_answer_of}
+use Rattle.laws.specs.SameView.{SameRows, SameTotals, SameView, view_fewer, LeadsInside, energy_local}
+use Rattle.laws.specs.NamedOnly.{NamesOnly, SeenAlike, Leaves, spins_same, call_isolated, call_leaves}
+use Rattle.laws.specs.SweepNamedOnly.{ListsOnly, order_isolated, order_leaves}
 
 -- ---- a move
 pub only_own : (o : Team) (c : Call) → NamesOnly (own o) (read_call o c)
@@ -33,7 +33,7 @@ pub isolated :
     → TeamAnswers o keeping c p d us a' z us'
     → SeenAlike c.lattice.n (Ours o c.lattice.s) a y ts' a' z us'
 isolated o keeping c p b d ts us a a' y z ts' us' view =
-    owned-both told (λ k some e q v w. record {
+    owned_both told (λ k some e q v w. record {
       answer = answer_of a k some e ∙ sym (answer_of a' k some q);
       view = rw (v.0, v.1, w.0, w.1) view;
     })
@@ -44,8 +44,8 @@ isolated o keeping c p b d ts us a a' y z ts' us' view =
         → KeepAnswers keeping (read_call o c) p d us a' z us'
         → SeenAlike c.lattice.n (Ours o c.lattice.s) a y ts' a' z us'
     told h f g =
-        let s = call-isolated (own o) (read_call o c) (only_own o c) (own_below h) keeping p b d ts us a a' y z ts' us' (view-fewer (own_ours h) view) f g in
-        record { answer = s.answer; view = view-fewer (λ t q. q.1) s.view }
+        let s = call_isolated (own o) (read_call o c) (only_own o c) (own_below h) keeping p b d ts us a a' y z ts' us' (view_fewer (own_ours h) view) f g in
+        record { answer = s.answer; view = view_fewer (λ t q. q.1) s.view }
 
 -- the rows and totals of the systems that are not its own stay, whatever it is answered
 pub others_left :
@@ -53,7 +53,7 @@ pub others_left :
     → TeamAnswers o keeping c p b ts a y ts'
     → Leaves c.lattice.n (own o) b.spins ts y.spins ts'
 others_left o keeping c p b ts a y ts' =
-    owned-cases (λ h f. call-leaves (own o) (read_call o c) (only_own o c) (own_below h) keeping p b ts a y ts' f)
+    owned_cases (λ h f. call_leaves (own o) (read_call o c) (only_own o c) (own_below h) keeping p b ts a y ts' f)
     (λ k w e v. record {
       rows = λ t i _ _. ap (λ (u : Buffers). spin c.lattice.n u.spins t i) v.0;
       totals = λ t _. ap (λ (u : List ℤ). total u t) v.1;
@@ -63,14 +63,14 @@ others_left o keeping c p b ts a y ts' =
 pub lists_own : (o : Team) (w : Sweep) → ListsOnly (own o) (read_sweep o w)
 lists_own o w t n = ordered_own o w.lattice.s w.order t n
 
-pub sweep-isolated :
+pub sweep_isolated :
     (o : Team) (keeping : Bool) (w : Sweep) (b d : Buffers) (ts us : List ℤ) (a a' : SweepAnswer) (y z : Buffers) (ts' us' : List ℤ)
     → SameView w.lattice.n (Ours o w.lattice.s) b ts d us
     → TeamSweepAnswers o keeping w b ts a y ts'
     → TeamSweepAnswers o keeping w d us a' z us'
     → SeenAlike w.lattice.n (Ours o w.lattice.s) a y ts' a' z us'
-sweep-isolated o keeping w b d ts us a a' y z ts' us' view =
-    owned-both swept (λ k some e q u v. record {
+sweep_isolated o keeping w b d ts us a a' y z ts' us' view =
+    owned_both swept (λ k some e q u v. record {
       answer = sweep_answer_of a k some e ∙ sym (sweep_answer_of a' k some q);
       view = rw (u.0, u.1, v.0, v.1) view;
     })
@@ -81,15 +81,15 @@ sweep-isolated o keeping w b d ts us a a' y z ts' us' view =
         → SweepKeepAnswers keeping (read_sweep o w) d us a' z us'
         → SeenAlike w.lattice.n (Ours o w.lattice.s) a y ts' a' z us'
     swept h f g =
-        let s = order-isolated (own o) (read_sweep o w) (lists_own o w) (own_below h) keeping b d ts us a a' y z ts' us' (view-fewer (own_ours h) view) f g in
-        record { answer = s.answer; view = view-fewer (λ t q. q.1) s.view }
+        let s = order_isolated (own o) (read_sweep o w) (lists_own o w) (own_below h) keeping b d ts us a a' y z ts' us' (view_fewer (own_ours h) view) f g in
+        record { answer = s.answer; view = view_fewer (λ t q. q.1) s.view }
 
-pub sweep-others-left :
+pub sweep_others_left :
     (o : Team) (keeping : Bool) (w : Sweep) (b : Buffers) (ts : List ℤ) (a : SweepAnswer) (y : Buffers) (ts' : List ℤ)
     → TeamSweepAnswers o keeping w b ts a y ts'
     → Leaves w.lattice.n (own o) b.spins ts y.spins ts'
-sweep-others-left o keeping w b ts a y ts' =
-    owned-cases (λ h f. order-leaves (own o) (read_sweep o w) (lists_own o w) (own_below h) keeping b ts a y ts' f)
+sweep_others_left o keeping w b ts a y ts' =
+    owned_cases (λ h f. order_leaves (own o) (read_sweep o w) (lists_own o w) (own_below h) keeping b ts a y ts' f)
     (λ k q e v. record {
       rows = λ t i _ _. ap (λ (u : Buffers). spin w.lattice.n u.spins t i) v.0;
       totals = λ t _. ap (λ (u : List ℤ). total u t) v.1;
@@ -149,7 +149,7 @@ module _ (o : Team) (g : Lattice) (xs ys : List ℤ) (long : length ys ≡ lengt
     metered : Kept (meter_rules g xs (read o g.s t)) → energy g ys (read o g.s t) ≡ energy g xs (read o g.s t)
     metered k =
         let low = k.1.1.1.1.0 in
-        energy-local g xs ys (read o g.s t) (leads g k.1.1.1.0)
+        energy_local g xs ys (read o g.s t) (leads g k.1.1.1.0)
         (λ i hi. rows (read o g.s t) i (one_own _ (record { place = 0; below = omega arith; is = refl; inside = low })) hi)
 
     told : (a a' : MeterAnswer) → MeterAnswers g xs (read o g.s t) a → MeterAnswers g ys (read o g.s t) a' → a ≡ a'
@@ -168,7 +168,7 @@ module _ (o : Team) (g : Lattice) (xs ys : List ℤ) (long : length ys ≡ lengt
     }
 
     pub meter_isolated : (a a' : MeterAnswer) → TeamMeterAnswers o g xs t a → TeamMeterAnswers o g ys t a' → a ≡ a'
-    meter_isolated a a' = owned-both (λ _. told a a') (λ k some e q _ _. meter_answer_of a k some e ∙ sym (meter_answer_of a' k some q))
+    meter_isolated a a' = owned_both (λ _. told a a') (λ k some e q _ _. meter_answer_of a k some e ∙ sym (meter_answer_of a' k some q))
 
   -- ---- the hand-over
   module _ (ts us : List ℤ) (many : length us ≡ length ts) (totals : SameTotals (Ours o g.s) ts us) where
@@ -179,7 +179,7 @@ module _ (o : Team) (g : Lattice) (xs ys : List ℤ) (long : length ys ≡ lengt
     )
       where
         same : (t : ℕ) → Ours o g.s t → energy g ys t ≡ energy g xs t
-        same t q = energy-local g xs ys t inside (λ i hi. rows t i q hi)
+        same t q = energy_local g xs ys t inside (λ i hi. rows t i q hi)
 
     handed_exact_same : HandOverExact g xs ts ↔ HandOverExact g ys us
     handed_exact_same = (

@@ -89,16 +89,16 @@ module _ (keeping : Bool) (w : Sweep) (b : Buffers) (ts : List ℤ) (y z : Buffe
       s : SameSweep (Swept i m h) y (Swept j o l) z
       s = sweep_determined w b y z (Swept i m h) (Swept j o l) f.answers g.answers
 
-  pub sweep-keep-determined :
+  pub sweep_keep_determined :
       (a a' : SweepAnswer)
       → SweepKeepAnswers keeping w b ts a y us
       → SweepKeepAnswers keeping w b ts a' z vs
       → SameSweepKept a y us a' z vs
-  sweep-keep-determined (Fault r) (Fault s) f g = record {
+  sweep_keep_determined (Fault r) (Fault s) f g = record {
     answer = ap Fault (broken_unique (swept_rules keeping w b ts) r s f.why g.why);
     buffers = f.kept ∙ sym g.kept;
     totals = f.totals_kept ∙ sym g.totals_kept;
   }
-  sweep-keep-determined (Fault r) (Swept i m h) f g = absurd (broken_not_kept (swept_rules keeping w b ts) r f.why g.valid)
-  sweep-keep-determined (Swept i m h) (Fault s) f g = absurd (broken_not_kept (swept_rules keeping w b ts) s g.why f.valid)
-  sweep-keep-determined (Swept i m h) (Swept j o l) f g = swept_same i m h j o l f g
+  sweep_keep_determined (Fault r) (Swept i m h) f g = absurd (broken_not_kept (swept_rules keeping w b ts) r f.why g.valid)
+  sweep_keep_determined (Swept i m h) (Fault s) f g = absurd (broken_not_kept (swept_rules keeping w b ts) s g.why f.valid)
+  sweep_keep_determined (Swept i m h) (Swept j o l) f g = swept_same i m h j o l f g

@@ -60,15 +60,15 @@ module _ (c : Call) (p : Choices) (b : Buffers) (ts : List ℤ) where
   none_kept Moved b' f = record { valid = rules_as_before.kept.1 f.valid; answers = f; totals = left_alone }
 
   -- where a call that keeps totals is accepted, the call that keeps none answers the same and leaves the same in every other buffer
-  pub totals-beside :
+  pub totals_beside :
       (keeping : Bool) (a a' : Answer) (y z : Buffers) (ts' : List ℤ)
       → Accepted a
       → KeepAnswers keeping c p b ts a y ts'
       → Answers c p b a' z
       → Same a y a' z
-  totals-beside keeping Idle a' y z ts' idle f g = determined c p b y z Idle a' f.answers g
-  totals-beside keeping Held a' y z ts' held f g = determined c p b y z Held a' f.answers g
-  totals-beside keeping Moved a' y z ts' moved f g = determined c p b y z Moved a' f.answers g
+  totals_beside keeping Idle a' y z ts' idle f g = determined c p b y z Idle a' f.answers g
+  totals_beside keeping Held a' y z ts' held f g = determined c p b y z Held a' f.answers g
+  totals_beside keeping Moved a' y z ts' moved f g = determined c p b y z Moved a' f.answers g
 
 -- ---- a sweep
 module _ (w : Sweep) (b : Buffers) (ts : List ℤ) where
@@ -100,9 +100,9 @@ module _ (w : Sweep) (b : Buffers) (ts : List ℤ) where
   sweep_none_kept (Fault r) b' f = record { why = (sweep_rules_as_before.broken _).1 f.why; kept = f.kept; totals_kept = refl }
   sweep_none_kept (Swept i m h) b' f = record { valid = sweep_rules_as_before.kept.1 f.valid; answers = f; totals = left_alone }
 
-  pub sweep-totals-beside :
+  pub sweep_totals_beside :
       (keeping : Bool) (i m h : ℕ) (a' : SweepAnswer) (y z : Buffers) (ts' : List ℤ)
       → SweepKeeps keeping w b ts i m h y ts'
       → SweepAnswers w b a' z
       → SameSweep (Swept i m h) y a' z
-  sweep-totals-beside keeping i m h a' y z ts' f g = sweep_determined w b y z (Swept i m h) a' f.answers g
+  sweep_totals_beside keeping i m h a' y z ts' f g = sweep_determined w b y z (Swept i m h) a' f.answers g

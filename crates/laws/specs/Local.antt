@@ -41,18 +41,18 @@ flip_at m k true f g e h = e (partner m k) (partner_lt m k h)
 flip_at m k false f g e h = e k h
 
 -- a component's choice makes the same of two patterns that agree
-pub act-ext :
+pub act_ext :
     (m : Mode) (c : Call) (p : Choices) (r : ℕ) (P Q f g : Pattern)
     → (is_perm m ≡ true → Permutes (size c) (perm_of c p r))
     → (is_gperm m ≡ true → Agree (size c) P Q)
     → Agree (size c) f g
     → Agree (size c) (act_by m c p P r f) (act_by m c p Q r g)
-act-ext Houd c p r P Q f g h u e k l = cc (e k l)
-act-ext Pair c p r P Q f g h u e k l = flip_at (size c) k (flip_of c p r) f g e l
-act-ext Jorg c p r P Q f g h u e k l = flip_at (size c) k (flip_of c p r) f g e l
-act-ext Perm c p r P Q f g h u e k l = e (perm_of c p r k) ((h refl).within k l)
-act-ext Gperm c p r P Q f g h u e k l = let b = (h refl).within k l in cc (u refl k l, u refl (perm_of c p r k) b, e (perm_of c p r k) b)
-act-ext Cmr c p r P Q f g h u e k l = cc (e k l)
+act_ext Houd c p r P Q f g h u e k l = cc (e k l)
+act_ext Pair c p r P Q f g h u e k l = flip_at (size c) k (flip_of c p r) f g e l
+act_ext Jorg c p r P Q f g h u e k l = flip_at (size c) k (flip_of c p r) f g e l
+act_ext Perm c p r P Q f g h u e k l = e (perm_of c p r k) ((h refl).within k l)
+act_ext Gperm c p r P Q f g h u e k l = let b = (h refl).within k l in cc (u refl k l, u refl (perm_of c p r k) b, e (perm_of c p r k) b)
+act_ext Cmr c p r P Q f g h u e k l = cc (e k l)
 
 pub kind_ext : (j : ℤ) (f g f' g' : Pattern) → Agree 2 f f' → Agree 2 g g' → kind_of j f g ≡ kind_of j f' g'
 kind_ext j f g f' g' p q = cc (p 0 (omega arith), p 1 (omega arith), q 0 (omega arith), q 1 (omega arith))
@@ -124,17 +124,17 @@ module _ (c : Call) (xs ys : List ℤ) (a : Alike c xs ys) where
   unfolding reached
   reached_local l i h = cc (acts_local i h)
 
-  pub final-local :
+  pub final_local :
       (p : Choices) (l g : List ℕ) (i k : ℕ)
       → i < c.lattice.n
       → k < size c
       → (reached c xs l i ≡ true → is_perm c.mode ≡ true → Permutes (size c) (perm_of c p (label_of l i)))
       → final c p xs l g i k ≡ final c p ys l g i k
   unfolding final
-  final-local p l g i k hi hk perms = cc (after_local (reached c xs l i) refl, reached_local g i hi)
+  final_local p l g i k hi hk perms = cc (after_local (reached c xs l i) refl, reached_local g i hi)
     where
       after_local : (t : Bool) → reached c xs l i ≡ t → after c p xs l i k ≡ after c p ys l i k
       after_local true e =
           rw (← reached_local l i hi, e)
-          (act-ext c.mode c p (label_of l i) P Q (pattern c xs i) (pattern c ys i) (perms e) same_reference (a.patterns i hi) k hk)
+          (act_ext c.mode c p (label_of l i) P Q (pattern c xs i) (pattern c ys i) (perms e) same_reference (a.patterns i hi) k hk)
       after_local false e = rw (← reached_local l i hi, e) (a.patterns i hi k hk)

@@ -10,7 +10,7 @@ use Rattle.paper.specs.Answer.Totals.{Current}
 use Rattle.paper.specs.Answer.Team.{Ours, Unchanged}
 use Rattle.laws.specs.TeamDay.{TeamCalled, TeamDay, team_totals_stay_current}
 use Rattle.laws.specs.Turns.{Request, Reply, Answered, team_of}
-use Rattle.laws.specs.Turns.{panel_same, panel_back, panel_on, Turn, Asked, Told, ask, tell, LooksSame, turn-alike, turn_passes}
+use Rattle.laws.specs.Turns.{panel_same, panel_back, panel_on, Turn, Asked, Told, ask, tell, LooksSame, turn_alike, turn_passes}
 
 -- any number of calls, each lent the spins and the totals that the one before left, whosever that was
 pub data MixedDay (n s : ℕ) (owners : List ℕ) : (xs ts ys us : List ℤ) → Type 0 where
@@ -102,15 +102,15 @@ module _ (n s : ℕ) (owners : List ℕ) (k : ℕ) where
         → LooksSame n s owners k xs ts xs' ts'
         → SameDay n s owners k (tells k m) (tells k m') ys us ys' us'
 
-  from-turn :
+  from_turn :
       {xs ts ys us xs' ts' ys' us' : List ℤ} {q : Asked} {qs : List Asked} {heard heard' : List Told}
       → Apart qs
       → LooksSame n s owners k xs ts xs' ts'
       → Next n s owners k xs ts ys us q qs heard
       → Next n s owners k xs' ts' ys' us' q qs heard'
       → SameDay n s owners k heard heard' ys us ys' us'
-  from-turn later h (Next.turn t rest w mine is left) (Next.turn t' rest' w' mine' is' left') =
-      let now = turn-alike k t t' mine mine' (is ∙ sym is') (panel_on (panel_back w) (panel_on h w')) in
+  from_turn later h (Next.turn t rest w mine is left) (Next.turn t' rest' w' mine' is' left') =
+      let now = turn_alike k t t' mine mine' (is ∙ sym is') (panel_on (panel_back w) (panel_on h w')) in
       let then = later.days rest rest' left left' now.1 in
       record { told = cc (now.0, then.told); panel = then.panel }
 
@@ -121,18 +121,18 @@ module _ (n s : ℕ) (owners : List ℕ) (k : ℕ) where
         let d' = passed_by k m' e' in
         record { told = sym d.told ∙ d'.told; panel = panel_on (panel_back d.panel) (panel_on h d'.panel) };
   }
-  apart (q ∷ qs) = record { days = λ m m' e e' h. from-turn (apart qs) h (next k m e) (next k m' e') }
+  apart (q ∷ qs) = record { days = λ m m' e e' h. from_turn (apart qs) h (next k m e) (next k m' e') }
 
 -- Two days on one panel's sizes and owners, each of calls of both teams in any number and order, accepted and refused, such that the team k makes the same
 -- calls in both with the same outputs lent, from panels that look the same to it. Then it is told the same, the same is left in its outputs, and the panels
 -- look the same to it at the end, whatever the other team does in either. So the one may be a day in which no other calls, and AloneDay has one for each
-pub teams-apart :
+pub teams_apart :
     {n s : ℕ} {owners : List ℕ} {xs ts ys us xs' ts' ys' us' : List ℤ} (k : ℕ) (m : MixedDay n s owners xs ts ys us)
     (m' : MixedDay n s owners xs' ts' ys' us')
     → LooksSame n s owners k xs ts xs' ts'
     → asks k m ≡ asks k m'
     → SameDay n s owners k (tells k m) (tells k m') ys us ys' us'
-teams-apart {n} {s} {owners} k m m' h e = (apart n s owners k (asks k m')).days m m' e refl h
+teams_apart {n} {s} {owners} k m m' h e = (apart n s owners k (asks k m')).days m m' e refl h
 
 -- ---- totals
 -- a call that keeps the totals on the lattice g where its form keeps any
@@ -168,9 +168,9 @@ module _ {n s : ℕ} {owners : List ℕ} (g : Lattice) where
       called g t.lent t.left t.before t.after (as_team_day rest h.1) t.team t.request t.reply h.0 t.answered
 
   -- over such a day the totals of each team that are current stay so
-  pub mixed-totals-stay-current :
+  pub mixed_totals_stay_current :
       {xs ts ys us : List ℤ} (k : ℕ) (m : MixedDay n s owners xs ts ys us)
       → KeepsAll m
       → Current (Ours (team_of owners k) g.s) g xs ts
       → Current (Ours (team_of owners k) g.s) g ys us
-  mixed-totals-stay-current k m h c = team_totals_stay_current (team_of owners k) g owners c (as_team_day m h)
+  mixed_totals_stay_current k m h c = team_totals_stay_current (team_of owners k) g owners c (as_team_day m h)

@@ -59,13 +59,13 @@ module _ (c : Call) (xs : List ℤ) (new : ℕ → Pattern) where
           let long = length_tabulate (length xs) (λ x. cell_of c xs new (x / c.lattice.n) (x % c.lattice.n) x) in
           get_or-eq_default (write c xs new) (pos 0) (omega (arith, long)) ∙ sym (get_or-eq_default xs (pos 0) far)
 
-pub moves-exist :
+pub moves_exist :
     (c : Call) (p : Choices) (xs : List ℤ) (l g : List ℕ)
     → Grouped c.lattice.s c.group
     → length xs ≡ c.lattice.s * c.lattice.n
     → Moves c p xs l g (write c xs (final c p xs l g))
 unfolding write
-moves-exist c p xs l g grouped sized = record {
+moves_exist c p xs l g grouped sized = record {
   long = length_tabulate (length xs) _;
   group = group_written c xs (final c p xs l g) grouped sized;
   others = others_written c xs (final c p xs l g);

@@ -18,7 +18,7 @@ use Rattle.laws.specs.Local.{Agree, acts_local}
 use Rattle.laws.specs.AnswersLocal.{with_spins, Rows, local}
 use Rattle.laws.specs.Matched.{SameVerdict, unchanged, reworded, behind, behind_if}
 use Rattle.laws.specs.SameView.{SameRows, SameTotals, SameView, outputs_with, with_outputs, join_rows, join_length, join_mine, join_other}
-use Rattle.laws.specs.SameView.{totals-alike, totals-stay, totals_length}
+use Rattle.laws.specs.SameView.{totals_alike, totals_stay, totals_length}
 
 abbrev pub Passing : (ℕ → Bool) → ℕ → Type 0
 Passing mine t = mine t ≡ true
@@ -87,11 +87,11 @@ small_same keeping Names Which ts us only same = (
   (λ h e t q. subst (λ (x : ℤ). nat_abs x ≤ 16384000000) (same t (only t q)) (h e t q)),
 )
 
-pub lengths-same :
+pub lengths_same :
     (keeping : Bool) (g : Lattice) (ts us : List ℤ)
     → length us ≡ length ts
     → When keeping (TotalLengths g ts) ↔ When keeping (TotalLengths g us)
-lengths-same keeping g ts us e = (
+lengths_same keeping g ts us e = (
   (λ h q. record { couplings = (h q).couplings; totals = e ∙ (h q).totals }),
   (λ h q. record { couplings = (h q).couplings; totals = sym e ∙ (h q).totals }),
 )
@@ -108,14 +108,14 @@ valid_by c p b Idle y idle w = valid_of c p b w.valid
 valid_by c p b Held y held w = valid_of c p b w.valid
 valid_by c p b Moved y moved w = valid_of c p b w.valid
 
-pub spins-length :
+pub spins_length :
     (c : Call) (p : Choices) (b : Buffers) (a : Answer) (y : Buffers)
     → Accepted a
     → Answers c p b a y
     → length y.spins ≡ length b.spins
-spins-length c p b Idle y idle w = ap length w.still
-spins-length c p b Held y held w = ap length w.still
-spins-length c p b Moved y moved w = (some_moves c p b y w).moved.long
+spins_length c p b Idle y idle w = ap length w.still
+spins_length c p b Held y held w = ap length w.still
+spins_length c p b Moved y moved w = (some_moves c p b y w).moved.long
 
 -- ---- a call and a test that all systems pass which it names, on two panels with the same rows of the systems that pass
 module _
@@ -125,25 +125,25 @@ module _
     exact_same : Exact c p b ↔ Exact c p (with_spins b xs)
     exact_same = ((λ e. rw long e), (λ e. rw long at e))
 
-    patterns-same :
+    patterns_same :
         size c ≤ 8
         → Grouped c.lattice.s c.group
         → (i : ℕ)
         → i < c.lattice.n
         → Agree (size c) (pattern c xs i) (pattern c b.spins i)
-    patterns-same few grouped i hi k hk = rows (system c k) i (only few (system c k) (named k hk grouped)) hi
+    patterns_same few grouped i hi k hk = rows (system c k) i (only few (system c k) (named k hk grouped)) hi
 
     -- the two lists of rules have one verdict
-    pub rules-isolated :
+    pub rules_isolated :
         (keeping : Bool) (ts us : List ℤ)
         → length us ≡ length ts
         → SameTotals (Passing mine) ts us
         → SameVerdict (kept_rules keeping c p b ts) (kept_rules keeping c p (with_spins b xs) us)
-    rules-isolated keeping ts us many totals =
+    rules_isolated keeping ts us many totals =
         behind_if _ _ _ (λ ranged.
         behind _ _ _
         (reworded 2 _ _ exact_same
-        (reworded 2 _ _ (lengths-same keeping c.lattice ts us many)
+        (reworded 2 _ _ (lengths_same keeping c.lattice ts us many)
         (reworded 3 _ _ (spins_same c.lattice.n _ (Passing mine) b.spins xs (only ranged.size_high) rows)
         (behind_if _ _ _ (λ inverse.
         behind _ _ _
@@ -153,7 +153,7 @@ module _
         (behind _ _ _
         (behind _ _ _
         (behind_if _ _ _ (λ chosen.
-        reworded 10 _ _ (seeded_same c p b.spins xs (patterns-same ranged.size_high grouped) ranged inverse chosen)
+        reworded 10 _ _ (seeded_same c p b.spins xs (patterns_same ranged.size_high grouped) ranged inverse chosen)
         (reworded 14 _ _ (small_same keeping _ (Passing mine) ts us (only ranged.size_high) totals) (unchanged [])))))))))))))))
 
     -- an accepted call: what it leaves on the one panel tells what it leaves on the other
@@ -168,7 +168,7 @@ module _
       passing k hk = only valid.sound.ranged.size_high (system c k) (named k hk valid.sound.grouped)
 
       as_long : length y.spins ≡ length xs
-      as_long = spins-length c p b a y accepted w ∙ sym long
+      as_long = spins_length c p b a y accepted w ∙ sym long
 
       after_mine : (t i : ℕ) → mine t ≡ true → i < c.lattice.n → spin c.lattice.n after t i ≡ spin c.lattice.n y.spins t i
       after_mine = join_mine c.lattice.n mine xs y.spins as_long
@@ -185,7 +185,7 @@ module _
           other i t hi out false e = join_other c.lattice.n mine xs y.spins as_long t i e hi
 
       pub moved_there : Answers c p (with_spins b xs) a (with_spins y after)
-      moved_there = local c p b y xs long (patterns-same valid.sound.ranged.size_high valid.sound.grouped) a accepted w after join_rows_lem
+      moved_there = local c p b y xs long (patterns_same valid.sound.ranged.size_high valid.sound.grouped) a accepted w after join_rows_lem
 
       module _ (a' : Answer) (z : Buffers) (v : Answers c p (with_spins b xs) a' z) where
         there : Same a (with_spins y after) a' z
@@ -194,7 +194,7 @@ module _
         rows_after : SameRows c.lattice.n (Passing mine) y.spins z.spins
         rows_after t i e hi = ap (λ (q : Buffers). spin c.lattice.n q.spins t i) (sym there.buffers) ∙ after_mine t i e hi
 
-        pub accepted-alike :
+        pub accepted_alike :
             (keeping : Bool) (ts us ts' us' : List ℤ)
             → ((t : ℕ) → mine t ≡ true → t < c.lattice.s)
             → length us ≡ length ts
@@ -202,7 +202,7 @@ module _
             → TotalsAfter keeping c.lattice b.spins ts y.spins ts'
             → TotalsAfter keeping c.lattice xs us z.spins us'
             → SeenAlike c.lattice.n (Passing mine) a y ts' a' z us'
-        accepted-alike keeping ts us ts' us' below many totals f g = record {
+        accepted_alike keeping ts us ts' us' below many totals f g = record {
           answer = there.answer;
           view = record {
             outputs = with_outputs (sym there.buffers);
@@ -214,7 +214,7 @@ module _
                 totals_length keeping c.lattice xs us z.spins us' g
                 ∙ (many ∙ sym (totals_length keeping c.lattice b.spins ts y.spins ts' f));
             totals = λ t e.
-                totals-alike keeping c.lattice b.spins ts y.spins ts' xs us z.spins us' t
+                totals_alike keeping c.lattice b.spins ts y.spins ts' xs us z.spins us' t
                 (λ i e hi he. (valid.sound.inverse.there i e hi he).inside) (below t e) (λ i hi. rows t i e hi) (λ i hi. rows_after t i e hi)
                 (totals t e) f g;
           };
@@ -236,19 +236,19 @@ outcome keeping c p b ts Moved y us f = inr (moved, f)
 
 module _ (mine : ℕ → Bool) (c : Call) (only : NamesOnly mine c) (below : (t : ℕ) → mine t ≡ true → t < c.lattice.s) (keeping : Bool) (p : Choices) where
   -- one call on two panels that look the same to those systems
-  pub call-isolated :
+  pub call_isolated :
       (b d : Buffers) (ts us : List ℤ) (a a' : Answer) (y z : Buffers) (ts' us' : List ℤ)
       → SameView c.lattice.n (Passing mine) b ts d us
       → KeepAnswers keeping c p b ts a y ts'
       → KeepAnswers keeping c p d us a' z us'
       → SeenAlike c.lattice.n (Passing mine) a y ts' a' z us'
-  call-isolated b d ts us a a' y z ts' us' view f g =
+  call_isolated b d ts us a a' y z ts' us' view f g =
       go (outcome keeping c p b ts a y ts' f) (outcome keeping c p d us a' z us' g)
     where
       verdicts : SameVerdict (kept_rules keeping c p b ts) (kept_rules keeping c p d us)
       verdicts =
           subst (λ (q : Buffers). SameVerdict (kept_rules keeping c p b ts) (kept_rules keeping c p q us)) (sym (outputs_with view.outputs))
-          (rules-isolated mine c only p b d.spins view.long view.rows keeping ts us view.totals_long view.totals)
+          (rules_isolated mine c only p b d.spins view.long view.rows keeping ts us view.totals_long view.totals)
 
       go : Outcome keeping c p b ts a y ts' → Outcome keeping c p d us a' z us' → SeenAlike c.lattice.n (Passing mine) a y ts' a' z us'
       go (inl (r, e, v)) (inl (s, q, w)) = record {
@@ -258,16 +258,16 @@ module _ (mine : ℕ → Bool) (c : Call) (only : NamesOnly mine c) (below : (t 
       go (inl (r, e, v)) (inr (q, w)) = absurd (broken_not_kept (kept_rules keeping c p d us) r ((verdicts.broken r).0 v.why) w.valid)
       go (inr (e, v)) (inl (s, q, w)) = absurd (broken_not_kept (kept_rules keeping c p d us) s w.why (verdicts.kept.0 v.valid))
       go (inr (e, v)) (inr (q, w)) =
-          accepted-alike mine c only p b d.spins view.long view.rows a y e v.answers a' z
+          accepted_alike mine c only p b d.spins view.long view.rows a y e v.answers a' z
           (subst (λ (q : Buffers). Answers c p q a' z) (outputs_with view.outputs) w.answers) keeping ts us ts' us' below view.totals_long
           view.totals v.totals w.totals
 
   -- ---- the systems that do not pass keep their rows and totals, refused or not
-  pub call-leaves :
+  pub call_leaves :
       (b : Buffers) (ts : List ℤ) (a : Answer) (y : Buffers) (ts' : List ℤ)
       → KeepAnswers keeping c p b ts a y ts'
       → Leaves c.lattice.n mine b.spins ts y.spins ts'
-  call-leaves b ts a y ts' f = go (outcome keeping c p b ts a y ts' f)
+  call_leaves b ts a y ts' f = go (outcome keeping c p b ts a y ts' f)
     where
       go : Outcome keeping c p b ts a y ts' → Leaves c.lattice.n mine b.spins ts y.spins ts'
       go (inl (r, e, v)) = record {
@@ -288,5 +288,5 @@ module _ (mine : ℕ → Bool) (c : Call) (only : NamesOnly mine c) (below : (t 
 
           stay : (t : ℕ) → mine t ≡ false → total ts' t ≡ total ts t
           stay t q =
-              totals-stay keeping c.lattice b.spins ts y.spins ts' t (λ i e hi he. (w.sound.inverse.there i e hi he).inside)
+              totals_stay keeping c.lattice b.spins ts y.spins ts' t (λ i e hi he. (w.sound.inverse.there i e hi he).inside)
               (λ k. ((kept_asked keeping c p b ts v.valid).lengths k).totals) (λ i hi. still t i q hi) v.totals

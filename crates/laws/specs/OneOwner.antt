@@ -134,21 +134,21 @@ module _ (o : Team) (c : Call) (one : OneOwner o c.lattice.s) (p : Choices) wher
             record { valid = k; answers = (same_answers a b' k).1 f.answers; totals = f.totals }),
       )
 
-      move-as-before :
+      move_as_before :
           (a : Answer) (b' : Buffers) (ts' : List ℤ)
           → KeepAnswers keeping (read_call o c) p b ts a b' ts' ↔ AnswersBefore keeping c p b ts a b' ts'
-      move-as-before (Refused r) b' ts' = (
+      move_as_before (Refused r) b' ts' = (
         (λ f. record { why = (rules_as_before.broken r).0 f.why; kept = f.kept; totals_kept = f.totals_kept }),
         (λ f. record { why = (rules_as_before.broken r).1 f.why; kept = f.kept; totals_kept = f.totals_kept }),
       )
-      move-as-before Idle b' ts' = accepted Idle b' ts'
-      move-as-before Held b' ts' = accepted Held b' ts'
-      move-as-before Moved b' ts' = accepted Moved b' ts'
+      move_as_before Idle b' ts' = accepted Idle b' ts'
+      move_as_before Held b' ts' = accepted Held b' ts'
+      move_as_before Moved b' ts' = accepted Moved b' ts'
 
-      pub one-owner :
+      pub one_owner :
           (a : Answer) (b' : Buffers) (ts' : List ℤ)
           → TeamAnswers o keeping c p b ts a b' ts' ↔ AnswersBefore keeping c p b ts a b' ts'
-      one-owner a b' ts' = both_ways (as_told one) (move-as-before a b' ts')
+      one_owner a b' ts' = both_ways (as_told one) (move_as_before a b' ts')
 
 -- ---- the meter
 module _ (o : Team) (g : Lattice) (one : OneOwner o g.s) (xs : List ℤ) where

@@ -23,7 +23,7 @@ use Rattle.paper.specs.Answer.Team.{Team, OwnerBytes, owner_rules, Owned, own, O
 use Rattle.paper.specs.Answer.Team.{TeamAnswers, TeamSweepAnswers, TeamMeterAnswers}
 use Rattle.laws.specs.Decided.{Decided, le, eq, iff, both, all, DecidedAll, refusal, verdict_by}
 use Rattle.laws.specs.Pigeonhole.{all_listed}
-use Rattle.laws.specs.KeepDetermined.{SameKept, keep_determined, SameSweepKept, sweep-keep-determined}
+use Rattle.laws.specs.KeepDetermined.{SameKept, keep_determined, SameSweepKept, sweep_keep_determined}
 
 -- ---- decided
 abbrev pub owner_bytes : (o : Team) → Decided (OwnerBytes o)
@@ -137,51 +137,51 @@ module _ (o : Team) (s : ℕ) (order : List ℕ) where
       low = rw is n.inside
 
   -- one that lists as many as the team has lists each of them; no two places list one
-  pub order-all :
+  pub order_all :
       Listed s (order_names (map (read o s) order))
       → length order ≡ own_count o s
       → (t : ℕ)
       → Ours o s t
       → Placed (length order) (λ k. get_or order k 0) t
-  order-all l many t h = all_listed (length order) s (λ k. get_or order k 0) (own o) q.distinct q.below (order_own l) many t h.0 h.1
+  order_all l many t h = all_listed (length order) s (λ k. get_or order k 0) (own o) q.distinct q.below (order_own l) many t h.0 h.1
     where
       q : Listed s (order_names order)
       q = subst (λ (z : List ℕ). Listed s (order_names z)) (order_same l) l
 
 -- so an accepted sweep is over all systems of its team
-pub sweep-all :
+pub sweep_all :
     (o : Team) (keeping : Bool) (w : Sweep) (b : Buffers) (ts : List ℤ)
     → Kept (swept_rules keeping (read_sweep o w) b ts)
     → (t : ℕ)
     → Ours o w.lattice.s t
     → Placed (length w.order) (λ k. get_or w.order k 0) t
-sweep-all o keeping w b ts k =
-    order-all o w.lattice.s w.order k.1.1.1.1.1.1.1.0 (sym (order_length o w.lattice.s w.order) ∙ k.1.1.0.order)
+sweep_all o keeping w b ts k =
+    order_all o w.lattice.s w.order k.1.1.1.1.1.1.1.0 (sym (order_length o w.lattice.s w.order) ∙ k.1.1.0.order)
 
 -- ---- one answer
 -- a call of a team is as it is told, or refused by an owner test
-pub owned-cases :
+pub owned_cases :
     {o : Team} {s r : ℕ} {Same Told Result : Type 0}
     → (Kept (owner_rules o s) → Told → Result)
     → ((k : ℕ) → Broken (owner_rules o s) k → r ≡ k → Same → Result)
     → Owned o s r Same Told
     → Result
-owned-cases {o} {s} {Result = Result} told refused f = go (owners_tested o s)
+owned_cases {o} {s} {Result = Result} told refused f = go (owners_tested o s)
   where
     go : Kept (owner_rules o s) ⊎ ((k : ℕ) × Broken (owner_rules o s) k) → Result
     go (inl h) = told h (f.told h)
     go (inr (k, w)) = refused k w (f.refused k w).0 (f.refused k w).1
 
 -- and of two of its calls on panels of one size both are, or the same test refuses both
-pub owned-both :
+pub owned_both :
     {o : Team} {s r q : ℕ} {Same Told Same' Told' Result : Type 0}
     → (Kept (owner_rules o s) → Told → Told' → Result)
     → ((k : ℕ) → 0 < k → r ≡ k → q ≡ k → Same → Same' → Result)
     → Owned o s r Same Told
     → Owned o s q Same' Told'
     → Result
-owned-both {o} {s} told refused f g =
-    owned-cases (λ h x. told h x (g.told h))
+owned_both {o} {s} told refused f g =
+    owned_cases (λ h x. told h x (g.told h))
     (λ k w e x. refused k (broken_some o s k w) e (g.refused k w).0 x (g.refused k w).1) f
 
 pub answer_of : (a : Answer) (k : ℕ) → 0 < k → number a ≡ k → a ≡ Refused k
@@ -198,37 +198,37 @@ pub meter_answer_of : (a : MeterAnswer) (k : ℕ) → 0 < k → meter_number a �
 meter_answer_of (Unmetered r) k z e = ap Unmetered e
 meter_answer_of (Energy x) k z e = absurd (omega arith)
 
-pub team-determined :
+pub team_determined :
     (o : Team) (keeping : Bool) (c : Call) (p : Choices) (b : Buffers) (ts : List ℤ) (y z : Buffers) (us vs : List ℤ) (a a' : Answer)
     → TeamAnswers o keeping c p b ts a y us
     → TeamAnswers o keeping c p b ts a' z vs
     → SameKept a y us a' z vs
-team-determined o keeping c p b ts y z us vs a a' =
-    owned-both (λ _. keep_determined keeping (read_call o c) p b ts y z us vs a a')
+team_determined o keeping c p b ts y z us vs a a' =
+    owned_both (λ _. keep_determined keeping (read_call o c) p b ts y z us vs a a')
     (λ k some e e' q q'. record {
       answer = answer_of a k some e ∙ sym (answer_of a' k some e');
       buffers = q.0 ∙ sym q'.0;
       totals = q.1 ∙ sym q'.1;
     })
 
-pub team-sweep-determined :
+pub team_sweep_determined :
     (o : Team) (keeping : Bool) (w : Sweep) (b : Buffers) (ts : List ℤ) (y z : Buffers) (us vs : List ℤ) (a a' : SweepAnswer)
     → TeamSweepAnswers o keeping w b ts a y us
     → TeamSweepAnswers o keeping w b ts a' z vs
     → SameSweepKept a y us a' z vs
-team-sweep-determined o keeping w b ts y z us vs a a' =
-    owned-both (λ _. sweep-keep-determined keeping (read_sweep o w) b ts y z us vs a a')
+team_sweep_determined o keeping w b ts y z us vs a a' =
+    owned_both (λ _. sweep_keep_determined keeping (read_sweep o w) b ts y z us vs a a')
     (λ k some e e' q q'. record {
       answer = sweep_answer_of a k some e ∙ sym (sweep_answer_of a' k some e');
       buffers = q.0 ∙ sym q'.0;
       totals = q.1 ∙ sym q'.1;
     })
 
-pub team-meter-determined :
+pub team_meter_determined :
     (o : Team) (g : Lattice) (xs : List ℤ) (t : ℕ) (a a' : MeterAnswer)
     → TeamMeterAnswers o g xs t a
     → TeamMeterAnswers o g xs t a'
     → a ≡ a'
-team-meter-determined o g xs t a a' =
-    owned-both (λ _. meter_determined g xs (read o g.s t) a a')
+team_meter_determined o g xs t a a' =
+    owned_both (λ _. meter_determined g xs (read o g.s t) a a')
     (λ k some e e' _ _. meter_answer_of a k some e ∙ sym (meter_answer_of a' k some e'))

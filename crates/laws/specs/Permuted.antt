@@ -64,10 +64,10 @@ onto m p h v l = go (place m p v)
     go (inr r) = absurd (crowded m p⁺ (λ k b. below k b (ℕ_discrete k m)) (λ a b ha hb. apart r a b ha hb (ℕ_discrete a m) (ℕ_discrete b m)))
 
 -- a sum over numbers below n that stand once each in a list of m, where those that do not stand there add nothing
-pub sum-listed :
+pub sum_listed :
     (m n : ℕ) (p : ℕ → ℕ) (f : ℕ → ℤ) → ((k : ℕ) → k < m → p k < n) → Distinct m p
     → ((v : ℕ) → v < n → Unplaced m p v → f v ≡ pos 0) → sum m (λ k. f (p k)) ≡ sum n f
-sum-listed m n p f within distinct rest =
+sum_listed m n p f within distinct rest =
     sym (sum_ext m (λ k. sum n (λ v. hit k v)) (λ k. f (p k)) row)
     ∙ (sum_swap m n hit ∙ sum_ext n (λ v. sum m (λ k. hit k v)) f (λ v l. column v l (place m p v)))
   where
@@ -92,4 +92,4 @@ sum-listed m n p f within distinct rest =
 -- so a sum over the places is the same in any order
 pub sum_permuted : (m : ℕ) (p : ℕ → ℕ) (f : ℕ → ℤ) → Permutes m p → sum m (λ k. f (p k)) ≡ sum m f
 sum_permuted m p f h =
-    sum-listed m m p f h.within h.distinct (λ v l u. let r = onto m p h v l in absurd (u r.0 r.1 r.2))
+    sum_listed m m p f h.within h.distinct (λ v l u. let r = onto m p h v l in absurd (u r.0 r.1 r.2))

@@ -12,7 +12,7 @@ use Rattle.paper.specs.Panel.Input.{Lattice, Buffers, spin, bond_of, ahead_of}
 use Rattle.paper.specs.Site.Energy.{energy}
 use Rattle.paper.specs.Refusal.Rules.{When}
 use Rattle.paper.specs.Answer.Totals.{total, Brought, TotalsAfter}
-use Rattle.laws.specs.Determined.{buffers-equal}
+use Rattle.laws.specs.Determined.{buffers_equal}
 use Rattle.laws.specs.AnswersLocal.{with_spins}
 
 -- the same rows of those systems
@@ -41,12 +41,12 @@ pub record SameView (n : ℕ) (Which : ℕ → Type 0) (b : Buffers) (ts : List 
   pub totals : SameTotals Which ts us
 
 -- the same to the one who sees fewer
-pub view-fewer :
+pub view_fewer :
     {n : ℕ} {Which Fewer : ℕ → Type 0} {b d : Buffers} {ts us : List ℤ}
     → ((t : ℕ) → Fewer t → Which t)
     → SameView n Which b ts d us
     → SameView n Fewer b ts d us
-view-fewer f v = record {
+view_fewer f v = record {
   outputs = v.outputs;
   long = v.long;
   rows = λ t i h. v.rows t i (f t h);
@@ -57,7 +57,7 @@ view-fewer f v = record {
 -- ---- buffers by their spins
 pub outputs_with : {b d : Buffers} → SameOutputs b d → d ≡ with_spins b d.spins
 outputs_with {b} {d} s =
-    buffers-equal d (with_spins b d.spins) refl s.labels s.grey_labels s.counts s.sizes s.members s.found s.grey_found
+    buffers_equal d (with_spins b d.spins) refl s.labels s.grey_labels s.counts s.sizes s.members s.found s.grey_found
 
 pub with_outputs : {b d : Buffers} {xs : List ℤ} → d ≡ with_spins b xs → SameOutputs b d
 with_outputs e = record {
@@ -110,12 +110,12 @@ module _ (n : ℕ) (mine : ℕ → Bool) (xs to : List ℤ) where
 abbrev pub LeadsInside : Lattice → Type 0
 LeadsInside g = (i e : ℕ) → i < g.n → e < g.d → ahead_of g i e < g.n
 
-pub energy-local :
+pub energy_local :
     (g : Lattice) (xs ys : List ℤ) (t : ℕ)
     → LeadsInside g
     → ((i : ℕ) → i < g.n → spin g.n ys t i ≡ spin g.n xs t i)
     → energy g ys t ≡ energy g xs t
-energy-local g xs ys t inside same = ap neg_ℤ (sum_ext g.n _ _ (λ i hi. sum_ext g.d _ _ (λ e he. term i e hi he)))
+energy_local g xs ys t inside same = ap neg_ℤ (sum_ext g.n _ _ (λ i hi. sum_ext g.d _ _ (λ e he. term i e hi he)))
   where
     at : List ℤ → ℕ → ℕ → ℤ
     at zs i e = get_or g.couplings (bond_of g i e) (pos 0) *ℤ spin g.n zs t i *ℤ spin g.n zs t (ahead_of g i e)
@@ -125,7 +125,7 @@ energy-local g xs ys t inside same = ap neg_ℤ (sum_ext g.n _ _ (λ i hi. sum_e
 
 -- ---- totals
 -- of two panels with the same rows of the system t before and after, and its total
-pub totals-alike :
+pub totals_alike :
     (keeping : Bool) (g : Lattice) (xs ts ys ts' vs us ws us' : List ℤ) (t : ℕ)
     → LeadsInside g
     → t < g.s
@@ -135,21 +135,21 @@ pub totals-alike :
     → TotalsAfter keeping g xs ts ys ts'
     → TotalsAfter keeping g vs us ws us'
     → total us' t ≡ total ts' t
-totals-alike true g xs ts ys ts' vs us ws us' t inside h before after e p q =
+totals_alike true g xs ts ys ts' vs us ws us' t inside h before after e p q =
     (q.brought refl).each t h
-    ∙ (cc (e, energy-local g xs vs t inside before, energy-local g ys ws t inside after) ∙ sym ((p.brought refl).each t h))
-totals-alike false g xs ts ys ts' vs us ws us' t inside h before after e p q =
+    ∙ (cc (e, energy_local g xs vs t inside before, energy_local g ys ws t inside after) ∙ sym ((p.brought refl).each t h))
+totals_alike false g xs ts ys ts' vs us ws us' t inside h before after e p q =
     ap (λ (z : List ℤ). total z t) (q.left refl) ∙ (e ∙ sym (ap (λ (z : List ℤ). total z t) (p.left refl)))
 
 -- of a system whose row stays; past the last system there is none
-pub totals-stay :
+pub totals_stay :
     (keeping : Bool) (g : Lattice) (xs ts ys ts' : List ℤ) (t : ℕ)
     → LeadsInside g
     → When keeping (length ts ≡ g.s)
     → ((i : ℕ) → i < g.n → spin g.n ys t i ≡ spin g.n xs t i)
     → TotalsAfter keeping g xs ts ys ts'
     → total ts' t ≡ total ts t
-totals-stay true g xs ts ys ts' t inside long still p = go (dec_lt t g.s)
+totals_stay true g xs ts ys ts' t inside long still p = go (dec_lt t g.s)
   where
     b : Brought g xs ts ys ts'
     b = p.brought refl
@@ -157,12 +157,12 @@ totals-stay true g xs ts ys ts' t inside long still p = go (dec_lt t g.s)
     go : Dec (t < g.s) → total ts' t ≡ total ts t
     go (yes h) =
         b.each t h
-        ∙ (ap (λ (x : ℤ). total ts t +ℤ (x +ℤ neg_ℤ (energy g xs t))) (energy-local g xs ys t inside still)
+        ∙ (ap (λ (x : ℤ). total ts t +ℤ (x +ℤ neg_ℤ (energy g xs t))) (energy_local g xs ys t inside still)
         ∙ (ap (λ (x : ℤ). total ts t +ℤ x) (+ℤ_invr (energy g xs t)) ∙ +ℤ_idr (total ts t)))
     go (no h) =
         get_or-eq_default ts' (pos 0) (omega (arith, b.long, long refl))
         ∙ sym (get_or-eq_default ts (pos 0) (omega (arith, long refl)))
-totals-stay false g xs ts ys ts' t inside long still p = ap (λ (z : List ℤ). total z t) (p.left refl)
+totals_stay false g xs ts ys ts' t inside long still p = ap (λ (z : List ℤ). total z t) (p.left refl)
 
 -- there are as many after as before
 pub totals_length : (keeping : Bool) (g : Lattice) (xs ts ys ts' : List ℤ) → TotalsAfter keeping g xs ts ys ts' → length ts' ≡ length ts

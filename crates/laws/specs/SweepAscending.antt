@@ -47,7 +47,7 @@ module _ (w : Sweep) (b : Buffers) (v : Kept (sweep_rules w b)) where
     div-add-mod' w.r w.members,
   )
 
-  pub tasks-apart :
+  pub tasks_apart :
       (k m x y : ℕ)
       → k < tasks w
       → m < tasks w
@@ -56,7 +56,7 @@ module _ (w : Sweep) (b : Buffers) (v : Kept (sweep_rules w b)) where
       → system (task_call w k) x ≡ system (task_call w m) y
       → k ≡ m
   unfolding place_in
-  tasks-apart k m x y hk hm hx hy e = rw (← div-add-mod' k (groups w), ← div-add-mod' m (groups w)) (cc (same_t, same_g))
+  tasks_apart k m x y hk hm hx hy e = rw (← div-add-mod' k (groups w), ← div-add-mod' m (groups w)) (cc (same_t, same_g))
     where
       index : temperature_of w k * w.r + (k % groups w) * w.members + x ≡ temperature_of w m * w.r + (m % groups w) * w.members + y
       index =

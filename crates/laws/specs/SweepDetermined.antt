@@ -15,20 +15,20 @@ use Rattle.paper.specs.Refusal.Rules.{When}
 use Rattle.paper.specs.Answer.Task.{Sweep, tasks, masked, part, task_call, task_choices, areas, is_idle, is_moved, is_held, tasks_that}
 use Rattle.paper.specs.Answer.Sweep.{common, sweep_rules, Sweeps, SweepAnswers}
 use Rattle.laws.specs.SweepKept.{SweepValid, sweep_valid_of}
-use Rattle.laws.specs.Determined.{Same, buffers-equal, determined}
+use Rattle.laws.specs.Determined.{Same, buffers_equal, determined}
 
 -- ---- a list is its parts
 part_at : (k m : ℕ) (xs : List ℕ) (o : ℕ) → o < m → get_or (part k m xs) o 0 ≡ get_or xs (k * m + o) 0
 part_at k m xs o h = get_or-take m (drop (k * m) xs) o 0 h ∙ get_or-drop (k * m) xs o 0
 
-pub parts-equal :
+pub parts_equal :
     (K m : ℕ) (xs ys : List ℕ)
     → 0 < m
     → length xs ≡ K * m
     → length ys ≡ length xs
     → ((k : ℕ) → k < K → part k m xs ≡ part k m ys)
     → xs ≡ ys
-parts-equal K m xs ys z long same h = ext_get_or 0 xs ys (sym same) (λ x l. rw (← div-add-mod' x m) (at (x / m) (x % m) (inside x l) (mod-lt x z)))
+parts_equal K m xs ys z long same h = ext_get_or 0 xs ys (sym same) (λ x l. rw (← div-add-mod' x m) (at (x / m) (x % m) (inside x l) (mod-lt x z)))
   where
     inside : (x : ℕ) → x < length xs → x / m < K
     inside x l = (div-lt_iff_lt-mul z).1 (rw long at l)
@@ -75,22 +75,22 @@ locate w (suc K) t = go (locate w K t) (masked w K) refl (place w.members (syste
 
 module _ (w : Sweep) (b y z : Buffers) (i₁ m₁ h₁ i₂ m₂ h₂ : ℕ) (p : Sweeps w b i₁ m₁ h₁ y) (q : Sweeps w b i₂ m₂ h₂ z) where
   -- what the two answer to one task, and what they leave of it
-  task-determined :
+  task_determined :
       (k : ℕ) (h : k < tasks w) (e : masked w k ≡ false)
       → Same (p.answered k) (areas w y (p.each k h e).spins k) (q.answered k) (areas w z (q.each k h e).spins k)
-  task-determined k h e =
+  task_determined k h e =
       determined (task_call w k) (task_choices w k) (areas w b b.spins k) (areas w y (p.each k h e).spins k) (areas w z (q.each k h e).spins k)
       (p.answered k) (q.answered k) (p.each k h e).answers (q.each k h e).answers
 
   task_same : (k : ℕ) (h : k < tasks w) (e : masked w k ≡ false) → areas w y (p.each k h e).spins k ≡ areas w z (q.each k h e).spins k
-  task_same k h e = (task-determined k h e).buffers
+  task_same k h e = (task_determined k h e).buffers
 
   -- so as many tasks have an answer of one kind
   kind_same : (kind : Answer → Bool) → tasks_that kind w p.answered ≡ tasks_that kind w q.answered
   kind_same kind = count_ext _ _ (tasks w) (λ k h. at k h (masked w k) refl)
     where
       at : (k : ℕ) → k < tasks w → (t : Bool) → masked w k ≡ t → (not t && kind (p.answered k)) ≡ (not t && kind (q.answered k))
-      at k h false e = ap kind (task-determined k h e).answer
+      at k h false e = ap kind (task_determined k h e).answer
       at k h true e = refl
 
   answer_same : Swept i₁ m₁ h₁ ≡ Swept i₂ m₂ h₂
@@ -99,13 +99,13 @@ module _ (w : Sweep) (b y z : Buffers) (i₁ m₁ h₁ i₂ m₂ h₂ : ℕ) (p 
       (p.counts ∙ (cc (kind_same is_idle, kind_same is_moved, kind_same is_held) ∙ sym q.counts))
 
   -- a field f of the areas that is not the spins
-  areas-same :
+  areas_same :
       {A : Type 0} (f : Buffers → A)
       → ((v : Buffers) (xs xs' : List ℤ) (k : ℕ) → f (areas w v xs k) ≡ f (areas w v xs' k))
       → (k : ℕ)
       → k < tasks w
       → f (areas w y b.spins k) ≡ f (areas w z b.spins k)
-  areas-same f free k h = go (masked w k) refl
+  areas_same f free k h = go (masked w k) refl
     where
       go : (t : Bool) → masked w k ≡ t → f (areas w y b.spins k) ≡ f (areas w z b.spins k)
       go true e = ap f (p.skipped k h e ∙ sym (q.skipped k h e))
@@ -151,48 +151,48 @@ module _ (w : Sweep) (b y z : Buffers) (i₁ m₁ h₁ i₂ m₂ h₂ : ℕ) (p 
       → (t ≡ false → f y ≡ f b)
       → (t ≡ false → f z ≡ f b)
       → f y ≡ f z
-  part_same true m f some long ly lz same ky kz = parts-equal (tasks w) m (f y) (f z) some (ly ∙ long refl) (lz ∙ sym ly) same
+  part_same true m f some long ly lz same ky kz = parts_equal (tasks w) m (f y) (f z) some (ly ∙ long refl) (lz ∙ sym ly) same
   part_same false m f some long ly lz same ky kz = ky refl ∙ sym (kz refl)
 
   labels_same : y.labels ≡ z.labels
   labels_same =
       part_same (labels_by w.form) w.lattice.n (λ v. v.labels) some valid.exact.labels p.lengths.labels q.lengths.labels
-      (areas-same (λ v. v.labels) (λ v xs xs' k. refl)) p.kept.labels q.kept.labels
+      (areas_same (λ v. v.labels) (λ v xs xs' k. refl)) p.kept.labels q.kept.labels
 
   grey_same : y.grey_labels ≡ z.grey_labels
   grey_same =
       part_same (takes_grey_labels (common w)) w.lattice.n (λ v. v.grey_labels) some valid.exact.grey_labels p.lengths.grey_labels
-      q.lengths.grey_labels (areas-same (λ v. v.grey_labels) (λ v xs xs' k. refl)) p.kept.grey_labels q.kept.grey_labels
+      q.lengths.grey_labels (areas_same (λ v. v.grey_labels) (λ v xs xs' k. refl)) p.kept.grey_labels q.kept.grey_labels
 
   counts_same : y.counts ≡ z.counts
   counts_same =
       part_same (labels_by w.form) (w.lattice.n + 1) (λ v. v.counts) (omega arith) valid.exact.counts p.lengths.counts q.lengths.counts
-      (areas-same (λ v. v.counts) (λ v xs xs' k. refl)) p.kept.counts q.kept.counts
+      (areas_same (λ v. v.counts) (λ v xs xs' k. refl)) p.kept.counts q.kept.counts
 
   sizes_same : y.sizes ≡ z.sizes
   sizes_same =
       part_same (labels_by w.form) 4 (λ v. v.sizes) (omega arith) valid.exact.sizes p.lengths.sizes q.lengths.sizes
-      (areas-same (λ v. v.sizes) (λ v xs xs' k. refl)) p.kept.sizes q.kept.sizes
+      (areas_same (λ v. v.sizes) (λ v xs xs' k. refl)) p.kept.sizes q.kept.sizes
 
   members_same : y.members ≡ z.members
   members_same =
       part_same (grows_by w.form) w.lattice.n (λ v. v.members) some valid.exact.members p.lengths.members q.lengths.members
-      (areas-same (λ v. v.members) (λ v xs xs' k. refl)) p.kept.members q.kept.members
+      (areas_same (λ v. v.members) (λ v xs xs' k. refl)) p.kept.members q.kept.members
 
   -- of one number a task
   found_same : y.found ≡ z.found
   found_same =
       part_same (labels_by w.form) 1 (λ v. v.found) (omega arith) (λ t. omega (arith, valid.exact.found t)) p.lengths.found q.lengths.found
-      (areas-same (λ v. v.found) (λ v xs xs' k. refl)) p.kept.found q.kept.found
+      (areas_same (λ v. v.found) (λ v xs xs' k. refl)) p.kept.found q.kept.found
 
   grey_found_same : y.grey_found ≡ z.grey_found
   grey_found_same =
       part_same (takes_grey_labels (common w)) 1 (λ v. v.grey_found) (omega arith) (λ t. omega (arith, valid.exact.grey_found t))
-      p.lengths.grey_found q.lengths.grey_found (areas-same (λ v. v.grey_found) (λ v xs xs' k. refl)) p.kept.grey_found
+      p.lengths.grey_found q.lengths.grey_found (areas_same (λ v. v.grey_found) (λ v xs xs' k. refl)) p.kept.grey_found
       q.kept.grey_found
 
   buffers_same : y ≡ z
-  buffers_same = buffers-equal y z spins_same labels_same grey_same counts_same sizes_same members_same found_same grey_found_same
+  buffers_same = buffers_equal y z spins_same labels_same grey_same counts_same sizes_same members_same found_same grey_found_same
 
 pub record SameSweep (a₁ : SweepAnswer) (b₁ : Buffers) (a₂ : SweepAnswer) (b₂ : Buffers) : Type 0 where
   pub answer : a₁ ≡ a₂

@@ -19,9 +19,9 @@ use Rattle.laws.specs.SweepKept.{SweepValid, sweep_valid_of}
 use Rattle.laws.specs.SweepDetermined.{SameSweep, sweep_determined}
 use Rattle.laws.specs.KeepsPlain.{sweep_rules_as_before}
 use Rattle.laws.specs.SameView.{SameRows, SameTotals, SameView, outputs_with, with_outputs, join_rows, join_length, join_mine, join_other}
-use Rattle.laws.specs.SameView.{totals-alike, totals-stay, totals_length}
+use Rattle.laws.specs.SameView.{totals_alike, totals_stay, totals_length}
 use Rattle.laws.specs.NamedOnly.{Passing, NamesOnly, SeenAlike, Leaves, accepted_if, moved_there}
-use Rattle.laws.specs.NamedOnly.{seeded_same, spins_same, small_same, lengths-same, spins-length}
+use Rattle.laws.specs.NamedOnly.{seeded_same, spins_same, small_same, lengths_same, spins_length}
 
 -- the systems that the sweep's order lists pass the test
 abbrev pub ListsOnly : (ℕ → Bool) → Sweep → Type 0
@@ -71,13 +71,13 @@ module _
           below : temperature_of w k * w.r + (k % groups w) * w.members + x < length w.order
           below = rw many (entry_within w ranged k h x l)
 
-      patterns-same :
+      patterns_same :
           (k : ℕ)
           → k < tasks w
           → (i : ℕ)
           → i < w.lattice.n
           → Agree w.members (pattern (task_call w k) xs i) (pattern (task_call w k) b.spins i)
-      patterns-same k h i hi x l = rows (system (task_call w k) x) i (entry_passes k h x l) hi
+      patterns_same k h i hi x l = rows (system (task_call w k) x) i (entry_passes k h x l) hi
 
       module _ (inverse : Inverse w.lattice.n w.lattice.d w.lattice.fwd w.lattice.bwd) where
         task_same : (k : ℕ) → k < tasks w
@@ -85,7 +85,7 @@ module _
         task_same k h =
             behind _ _ _
             (behind_if _ _ _ (λ chosen.
-            reworded 10 _ _ (seeded_same (task_call w k) (task_choices w k) b.spins xs (patterns-same k h) ranged.ranged inverse chosen) (unchanged [])))
+            reworded 10 _ _ (seeded_same (task_call w k) (task_choices w k) b.spins xs (patterns_same k h) ranged.ranged inverse chosen) (unchanged [])))
 
         unless : (t : Bool) (qs rs : List Rule) → SameVerdict qs rs → SameVerdict (cond t [] qs) (cond t [] rs)
         unless true qs rs s = unchanged []
@@ -98,16 +98,16 @@ module _
             (unless (masked w K) _ _ (task_same K (omega arith)))
 
     -- the two lists of rules have one verdict
-    pub sweep-rules-isolated :
+    pub sweep_rules_isolated :
         (keeping : Bool) (ts us : List ℤ)
         → length us ≡ length ts
         → SameTotals (Passing mine) ts us
         → SameVerdict (swept_rules keeping w b ts) (swept_rules keeping w (with_spins b xs) us)
-    sweep-rules-isolated keeping ts us many totals =
+    sweep_rules_isolated keeping ts us many totals =
         behind_if _ _ _ (λ ranged.
         behind _ _ _
         (reworded_if 2 _ _ exact_same (λ exact.
-        reworded 2 _ _ (lengths-same keeping w.lattice ts us many)
+        reworded 2 _ _ (lengths_same keeping w.lattice ts us many)
         (reworded 3 _ _ (spins_same w.lattice.n _ (Passing mine) b.spins xs only rows)
         (behind_if _ _ _ (λ inverse.
         behind _ _ _
@@ -162,7 +162,7 @@ module _
 
           task_long : length d.spins ≡ length xs
           task_long =
-              spins-length (task_call w k) (task_choices w k) (areas w b b.spins k) (s.answered k) (areas w y d.spins k) accepted d.answers
+              spins_length (task_call w k) (task_choices w k) (areas w b b.spins k) (s.answered k) (areas w y d.spins k) accepted d.answers
               ∙ sym long
 
       others_there : (i t : ℕ) → i < w.lattice.n → Unmoved w t → spin w.lattice.n after t i ≡ spin w.lattice.n xs t i
@@ -176,7 +176,7 @@ module _
       swept_there = record {
         valid =
             (sweep_rules_as_before w (with_spins b xs) []).kept.0
-            ((sweep-rules-isolated false [] [] refl (λ _ _. refl)).kept.0 ((sweep_rules_as_before w b []).kept.1 s.valid));
+            ((sweep_rules_isolated false [] [] refl (λ _ _. refl)).kept.0 ((sweep_rules_as_before w b []).kept.1 s.valid));
         answered = s.answered;
         counts = s.counts;
         lengths = record {
@@ -230,7 +230,7 @@ module _
                 totals_length keeping w.lattice xs us z.spins us' g
                 ∙ (many ∙ sym (totals_length keeping w.lattice b.spins ts y.spins ts' f));
             totals = λ t e.
-                totals-alike keeping w.lattice b.spins ts y.spins ts' xs us z.spins us' t
+                totals_alike keeping w.lattice b.spins ts y.spins ts' xs us z.spins us' t
                 (λ i e hi he. (valid.inverse.there i e hi he).inside) (below t e) (λ i hi. rows t i e hi) (λ i hi. rows_after t i e hi)
                 (totals t e) f g;
           };
@@ -238,18 +238,18 @@ module _
 
 module _ (mine : ℕ → Bool) (w : Sweep) (only : ListsOnly mine w) (below : (t : ℕ) → mine t ≡ true → t < w.lattice.s) (keeping : Bool) where
   -- one sweep on two panels that look the same to those systems
-  pub order-isolated :
+  pub order_isolated :
       (b d : Buffers) (ts us : List ℤ) (a a' : SweepAnswer) (y z : Buffers) (ts' us' : List ℤ)
       → SameView w.lattice.n (Passing mine) b ts d us
       → SweepKeepAnswers keeping w b ts a y ts'
       → SweepKeepAnswers keeping w d us a' z us'
       → SeenAlike w.lattice.n (Passing mine) a y ts' a' z us'
-  order-isolated b d ts us a a' y z ts' us' view = go a a'
+  order_isolated b d ts us a a' y z ts' us' view = go a a'
     where
       verdicts : SameVerdict (swept_rules keeping w b ts) (swept_rules keeping w d us)
       verdicts =
           subst (λ (q : Buffers). SameVerdict (swept_rules keeping w b ts) (swept_rules keeping w q us)) (sym (outputs_with view.outputs))
-          (sweep-rules-isolated mine w only b d.spins view.long view.rows keeping ts us view.totals_long view.totals)
+          (sweep_rules_isolated mine w only b d.spins view.long view.rows keeping ts us view.totals_long view.totals)
 
       go :
           (a a' : SweepAnswer)
@@ -268,15 +268,15 @@ module _ (mine : ℕ → Bool) (w : Sweep) (only : ListsOnly mine w) (below : (t
           view.totals_long view.totals f.totals g.totals
 
   -- ---- the systems that do not pass keep their rows and totals, refused or not
-  pub order-leaves :
+  pub order_leaves :
       (b : Buffers) (ts : List ℤ) (a : SweepAnswer) (y : Buffers) (ts' : List ℤ)
       → SweepKeepAnswers keeping w b ts a y ts'
       → Leaves w.lattice.n mine b.spins ts y.spins ts'
-  order-leaves b ts (Fault r) y ts' f = record {
+  order_leaves b ts (Fault r) y ts' f = record {
     rows = λ t i q hi. ap (λ (u : Buffers). spin w.lattice.n u.spins t i) f.kept;
     totals = λ t q. ap (λ (u : List ℤ). total u t) f.totals_kept;
   }
-  order-leaves b ts (Swept i m h) y ts' f = record { rows = still; totals = stay }
+  order_leaves b ts (Swept i m h) y ts' f = record { rows = still; totals = stay }
     where
       v : SweepValid w b
       v = sweep_valid_of w b f.answers.valid
@@ -290,5 +290,5 @@ module _ (mine : ℕ → Bool) (w : Sweep) (only : ListsOnly mine w) (below : (t
 
       stay : (t : ℕ) → mine t ≡ false → total ts' t ≡ total ts t
       stay t q =
-          totals-stay keeping w.lattice b.spins ts y.spins ts' t (λ i e hi he. (v.inverse.there i e hi he).inside)
+          totals_stay keeping w.lattice b.spins ts y.spins ts' t (λ i e hi he. (v.inverse.there i e hi he).inside)
           (λ k. (f.valid.1.1.1.0 k).totals) (λ i hi. still t i q hi) f.totals

@@ -22,12 +22,12 @@ count_all f zero h = refl
 count_all f (suc m) h = rw (h m (omega arith)) (omega (arith, count_all f m (λ i l. h i (omega arith))))
 
 -- an order of the same length for the order
-exact-order :
+exact_order :
     (w : Sweep) (b : Buffers) (xs ys : List ℕ)
     → length ys ≡ length xs
     → SweepExact (with_order w xs) b
     → SweepExact (with_order w ys) b
-exact-order w b xs ys long e = record {
+exact_order w b xs ys long e = record {
   spins = e.spins;
   fwd = e.fwd;
   bwd = e.bwd;
@@ -76,7 +76,7 @@ module _ (o : Team) (w : Sweep) (one : OneOwner o w.lattice.s) where
   exact_same : (b : Buffers) → SweepExact (with_order w taken) b ↔ SweepExact (of_all w) b
   exact_same b =
       let e = order_length o w.lattice.s w.order in
-      (exact-order w b taken w.order (sym e), exact-order w b w.order taken e)
+      (exact_order w b taken w.order (sym e), exact_order w b w.order taken e)
 
   -- to list as many as there are, each once, is to list all
   listed_same : length w.order ≡ w.lattice.s → Listed w.lattice.s (order_names taken) ↔ Permutes w.lattice.s (λ k. get_or w.order k 0)
@@ -128,14 +128,14 @@ module _ (o : Team) (w : Sweep) (one : OneOwner o w.lattice.s) where
           (joined_same (task_rules (with_order w taken) b (tasks (with_order w taken))) (task_rules w b (tasks w)) _ _ (tasks_same listed)
           (reworded 14 _ _ (small_all keeping w.lattice.s (order_names taken) ts small) (unchanged []))))))))))))))
 
-      sweep-told :
+      sweep_told :
           (a : SweepAnswer) (b' : Buffers) (ts' : List ℤ)
           → SweepKeepAnswers keeping (with_order w taken) b ts a b' ts' ↔ SweepAnswersBefore keeping w b ts a b' ts'
-      sweep-told (Fault r) b' ts' = (
+      sweep_told (Fault r) b' ts' = (
         (λ f. record { why = (sweep_rules_as_before.broken r).0 f.why; kept = f.kept; totals_kept = f.totals_kept }),
         (λ f. record { why = (sweep_rules_as_before.broken r).1 f.why; kept = f.kept; totals_kept = f.totals_kept }),
       )
-      sweep-told (Swept i m h) b' ts' = (there, back)
+      sweep_told (Swept i m h) b' ts' = (there, back)
         where
           there : SweepKeepAnswers keeping (with_order w taken) b ts (Swept i m h) b' ts' → SweepAnswersBefore keeping w b ts (Swept i m h) b' ts'
           there f = record {
@@ -153,9 +153,9 @@ module _ (o : Team) (w : Sweep) (one : OneOwner o w.lattice.s) where
                 totals = f.totals;
               }
 
-      pub one-owner-sweep :
+      pub one_owner_sweep :
           (a : SweepAnswer) (b' : Buffers) (ts' : List ℤ)
           → TeamSweepAnswers o keeping w b ts a b' ts' ↔ SweepAnswersBefore keeping w b ts a b' ts'
-      one-owner-sweep a b' ts' =
+      one_owner_sweep a b' ts' =
           both_ways (as_told one)
-          (subst (λ (z : Sweep). SweepKeepAnswers keeping z b ts a b' ts' ↔ SweepAnswersBefore keeping w b ts a b' ts') (sym read_is) (sweep-told a b' ts'))
+          (subst (λ (z : Sweep). SweepKeepAnswers keeping z b ts a b' ts' ↔ SweepAnswersBefore keeping w b ts a b' ts') (sym read_is) (sweep_told a b' ts'))

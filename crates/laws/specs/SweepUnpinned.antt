@@ -147,11 +147,11 @@ module _ (w : Sweep) (none : NoPins w.lattice.n w.pins) (b b' : Buffers) where
 
   -- ---- the counts, where each unmasked task answers as it did
   module _ (answered : ℕ → Answer) (each : (k : ℕ) → k < tasks w → masked w k ≡ false → Says k (answered k)) where
-    counts-by :
+    counts_by :
         (kind : Answer → Bool) (test : ℕ → Bool)
         → ((k : ℕ) → Says k (answered k) → kind (answered k) ≡ test k)
         → tasks_that kind w answered ≡ count_where (λ k. not (masked w k) && test k) (tasks w)
-    counts-by kind test same =
+    counts_by kind test same =
         count_ext (λ k. not (masked w k) && kind (answered k)) (λ k. not (masked w k) && test k) (tasks w) (λ k h. at k h (masked w k) refl)
       where
         at : (k : ℕ) → k < tasks w → (t : Bool) → masked w k ≡ t → (not (masked w k) && kind (answered k)) ≡ (not (masked w k) && test k)
@@ -159,14 +159,14 @@ module _ (w : Sweep) (none : NoPins w.lattice.n w.pins) (b b' : Buffers) where
         at k h false e = rw e (same k (each k h e))
 
     idle_counts : tasks_that is_idle w answered ≡ idle_tasks w b.spins
-    idle_counts = counts-by is_idle idle (λ k s. s.idle_is)
+    idle_counts = counts_by is_idle idle (λ k s. s.idle_is)
 
     moved_counts : tasks_that is_moved w answered ≡ moved_tasks w b.spins
-    moved_counts = counts-by is_moved (λ k. not (idle k)) (λ k s. s.moved_is)
+    moved_counts = counts_by is_moved (λ k. not (idle k)) (λ k s. s.moved_is)
 
     held_counts : tasks_that is_held w answered ≡ 0
     held_counts =
-        counts-by is_held (λ k. false) (λ k s. s.held_is)
+        counts_by is_held (λ k. false) (λ k s. s.held_is)
         ∙ count_zero (λ k. not (masked w k) && false) (tasks w) (λ k _. and_no (not (masked w k)))
 
   -- ---- the answers

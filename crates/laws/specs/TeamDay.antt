@@ -12,7 +12,7 @@ use Rattle.paper.specs.Answer.Task.{Sweep}
 use Rattle.paper.specs.Answer.Totals.{Current}
 use Rattle.paper.specs.Answer.Team.{Team, Unchanged, Ours, read_call, read_sweep, TeamAnswers, TeamSweepAnswers, hand_over_rules}
 use Rattle.laws.specs.Day.{Called, called_current}
-use Rattle.laws.specs.Owners.{owned-cases}
+use Rattle.laws.specs.Owners.{owned_cases}
 
 -- one call of a team o, which is one of the two or is refused: before it the spins are xs and the totals ts, after it ys and us. It is a move or a sweep
 -- of any mode, form, systems and choices that keeps totals, on the lattice g, or one that observes, which keeps none, whatever it is lent
@@ -53,10 +53,10 @@ module _ (o : Team) (g : Lattice) (owners : List ℕ) where
 
   pub team_called_current : {xs ts ys us : List ℤ} → Current (Ours o g.s) g xs ts → TeamCalled g owners xs ts ys us → Current (Ours o g.s) g ys us
   team_called_current h (TeamCalled.move e c p b b' a _ same before after f) =
-      owned-cases (λ _ w. called_current (λ _ q. q.0) h (Called.move (read_call e c) p b b' a same before after w))
+      owned_cases (λ _ w. called_current (λ _ q. q.0) h (Called.move (read_call e c) p b b' a same before after w))
       (λ k w _ q. untouched b b' h before after q) f
   team_called_current h (TeamCalled.sweep e w b b' a _ same before after f) =
-      owned-cases (λ _ v. called_current (λ _ q. q.0) h (Called.sweep (read_sweep e w) b b' a same before after v))
+      owned_cases (λ _ v. called_current (λ _ q. q.0) h (Called.sweep (read_sweep e w) b b' a same before after v))
       (λ k v _ q. untouched b b' h before after q) f
 
   -- those of the team o, by its own calls and by the other's

@@ -11,10 +11,10 @@ use Rattle.paper.specs.Answer.Task.{Sweep}
 use Rattle.paper.specs.Answer.Totals.{KeepAnswers, SweepKeepAnswers}
 use Rattle.paper.specs.Answer.Team.{Team, Unchanged, own, Ours, read_call, read_sweep, TeamAnswers, TeamSweepAnswers, TeamMeterAnswers, hand_over_rules}
 use Rattle.laws.specs.AnswersLocal.{with_spins}
-use Rattle.laws.specs.Owners.{owned-cases}
+use Rattle.laws.specs.Owners.{owned_cases}
 use Rattle.laws.specs.SameView.{SameRows, SameTotals, SameView, outputs_with, totals_length}
-use Rattle.laws.specs.NamedOnly.{Leaves, outcome, spins-length}
-use Rattle.laws.specs.Isolated.{isolated, others_left, sweep-isolated, sweep-others-left, OtherTeam, other_rows_kept, other_totals_kept}
+use Rattle.laws.specs.NamedOnly.{Leaves, outcome, spins_length}
+use Rattle.laws.specs.Isolated.{isolated, others_left, sweep_isolated, sweep_others_left, OtherTeam, other_rows_kept, other_totals_kept}
 use Rattle.laws.specs.Isolated.{meter_isolated, hand_over_isolated}
 
 -- ---- one call
@@ -131,21 +131,21 @@ seen e v = record {
 }
 
 -- ---- a call of the team itself
-answered-alike :
+answered_alike :
     {o : Team} {b d y z : Buffers} {ts us ts' us' : List ℤ} {r : Request} {a a' : Reply}
     → SameView (lattice_of r).n (Ours o (lattice_of r).s) b ts d us
     → Answered o b ts y ts' r a
     → Answered o d us z us' r a'
     → Alike (lattice_of r).n (Ours o (lattice_of r).s) a y ts' a' z us'
-answered-alike {o} {b} {d} {y} {z} {ts} {us} {ts'} {us'} v (Answered.move {keeping} {c} {p} {a} f) (Answered.move {a = a'} g) =
+answered_alike {o} {b} {d} {y} {z} {ts} {us} {ts'} {us'} v (Answered.move {keeping} {c} {p} {a} f) (Answered.move {a = a'} g) =
     let s = isolated o keeping c p b d ts us a a' y z ts' us' v f g in
     seen (ap Reply.moved s.answer) s.view
-answered-alike {o} {b} {d} {y} {z} {ts} {us} {ts'} {us'} v (Answered.sweep {keeping} {w} {a} f) (Answered.sweep {a = a'} g) =
-    let s = sweep-isolated o keeping w b d ts us a a' y z ts' us' v f g in
+answered_alike {o} {b} {d} {y} {z} {ts} {us} {ts'} {us'} v (Answered.sweep {keeping} {w} {a} f) (Answered.sweep {a = a'} g) =
+    let s = sweep_isolated o keeping w b d ts us a a' y z ts' us' v f g in
     seen (ap Reply.swept s.answer) s.view
-answered-alike {o} {b} {d} v (Answered.meter {g} {t} {a} f h) (Answered.meter {a = a'} f' h') =
+answered_alike {o} {b} {d} v (Answered.meter {g} {t} {a} f h) (Answered.meter {a = a'} f' h') =
     seen (ap Reply.metered (meter_isolated o g b.spins d.spins v.long v.rows t a a' f f')) (rw (h.0, h.1, h'.0, h'.1) v)
-answered-alike {o} {b} {d} {ts = ts} {us = us} v (Answered.hand_over {g} {r} f h) (Answered.hand_over {r = r'} f' h') =
+answered_alike {o} {b} {d} {ts = ts} {us = us} v (Answered.hand_over {g} {r} f h) (Answered.hand_over {r = r'} f' h') =
     seen (ap Reply.handed (hand_over_isolated o g b.spins d.spins v.long v.rows ts us v.totals_long v.totals r r' f f'))
     (rw (h.0, h.1, h'.0, h'.1) v)
 
@@ -163,7 +163,7 @@ module _ (keeping : Bool) (b : Buffers) (ts : List ℤ) (y : Buffers) (us : List
   move_many c p a f =
       ⊎_elim (λ (_, _, v). as_many_kept (v.kept, v.totals_kept))
       (λ (e, v). record {
-        spins = spins-length c p b a y e v.answers;
+        spins = spins_length c p b a y e v.answers;
         totals = totals_length keeping c.lattice b.spins ts y.spins us v.totals;
       })
       (outcome keeping c p b ts a y us f)
@@ -176,24 +176,24 @@ module _ (keeping : Bool) (b : Buffers) (ts : List ℤ) (y : Buffers) (us : List
   }
 
 module _ {e o : Team} (h : OtherTeam e o) where
-  left-panel :
+  left_panel :
       {n s : ℕ} {xs ts ys us : List ℤ}
       → AsMany xs ts ys us
       → Leaves n (own e) xs ts ys us
       → SamePanel n (Ours o s) xs ts ys us
-  left-panel m f = record { long = m.spins; rows = other_rows_kept h f; totals_long = m.totals; totals = other_totals_kept h f }
+  left_panel m f = record { long = m.spins; rows = other_rows_kept h f; totals_long = m.totals; totals = other_totals_kept h f }
 
-  answered-passes :
+  answered_passes :
       {b y : Buffers} {ts us : List ℤ} {r : Request} {a : Reply}
       → Answered e b ts y us r a
       → SamePanel (lattice_of r).n (Ours o (lattice_of r).s) b.spins ts y.spins us
-  answered-passes {b} {y} {ts} {us} (Answered.move {keeping} {c} {p} {a} f) =
-      left-panel (owned-cases (λ _. move_many keeping b ts y us (read_call e c) p a) (λ _ _ _. as_many_kept) f) (others_left e keeping c p b ts a y us f)
-  answered-passes {b} {y} {ts} {us} (Answered.sweep {keeping} {w} {a} f) =
-      left-panel (owned-cases (λ _. sweep_many keeping b ts y us (read_sweep e w) a) (λ _ _ _. as_many_kept) f)
-      (sweep-others-left e keeping w b ts a y us f)
-  answered-passes (Answered.meter f q) = panel_kept q
-  answered-passes (Answered.hand_over f q) = panel_kept q
+  answered_passes {b} {y} {ts} {us} (Answered.move {keeping} {c} {p} {a} f) =
+      left_panel (owned_cases (λ _. move_many keeping b ts y us (read_call e c) p a) (λ _ _ _. as_many_kept) f) (others_left e keeping c p b ts a y us f)
+  answered_passes {b} {y} {ts} {us} (Answered.sweep {keeping} {w} {a} f) =
+      left_panel (owned_cases (λ _. sweep_many keeping b ts y us (read_sweep e w) a) (λ _ _ _. as_many_kept) f)
+      (sweep_others_left e keeping w b ts a y us f)
+  answered_passes (Answered.meter f q) = panel_kept q
+  answered_passes (Answered.hand_over f q) = panel_kept q
 
 -- ---- the call with what it is lent and leaves
 abbrev pub team_of : List ℕ → ℕ → Team
@@ -236,14 +236,14 @@ LooksSame n s owners k = SamePanel n (Ours (team_of owners k) s)
 
 module _ {n s : ℕ} {owners : List ℕ} (k : ℕ) where
   -- its own call on two such panels
-  pub turn-alike :
+  pub turn_alike :
       {xs ts ys us xs' ts' ys' us' : List ℤ} (t : Turn n s owners xs ts ys us) (t' : Turn n s owners xs' ts' ys' us')
       → t.team ≡ k
       → t'.team ≡ k
       → ask t ≡ ask t'
       → LooksSame n s owners k xs ts xs' ts'
       → (tell t ≡ tell t') × LooksSame n s owners k ys us ys' us'
-  turn-alike {ts = ts} {us = us} {ts' = ts'} {us' = us'} t t' mine mine' same p = (
+  turn_alike {ts = ts} {us = us} {ts' = ts'} {us' = us'} t t' mine mine' same p = (
     (λ i. record { reply = l.reply i; outputs = l.outputs i }),
     rw (t.sites, t.systems, t.after, t'.after) at l.panel,
   )
@@ -258,10 +258,10 @@ module _ {n s : ℕ} {owners : List ℕ} (k : ℕ) where
 
       l :
           Alike (lattice_of t.request).n (Ours (team_of owners k) (lattice_of t.request).s) t.reply t.left us t'.reply t'.left us'
-      l = answered-alike (view_of (ap (λ (q : Asked). q.outputs) same) (rw (t.sites, t.systems, t.before, t'.before) p)) f f'
+      l = answered_alike (view_of (ap (λ (q : Asked). q.outputs) same) (rw (t.sites, t.systems, t.before, t'.before) p)) f f'
 
   -- another's call: to the team k nothing happens
   pub turn_passes : {xs ts ys us : List ℤ} (t : Turn n s owners xs ts ys us) → (t.team ≡ k → ⊥) → LooksSame n s owners k xs ts ys us
   turn_passes t other =
       let h : OtherTeam (team_of owners t.team) (team_of owners k) = record { owners = refl; other = λ e. other (sym e) } in
-      rw (t.sites, t.systems, t.before, t.after) at (answered-passes h t.answered)
+      rw (t.sites, t.systems, t.before, t.after) at (answered_passes h t.answered)

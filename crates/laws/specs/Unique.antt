@@ -165,13 +165,13 @@ spins_equal c ys zs pos-n len group others = ext_get_or (pos 0) ys zs len (λ x 
     cell : (t i : ℕ) → i < c.lattice.n → spin c.lattice.n ys t i ≡ spin c.lattice.n zs t i
     cell t i h = at t i h (place (size c) (system c) t)
 
-pub moves-unique :
+pub moves_unique :
     (c : Call) (p : Choices) (xs : List ℤ) (l g : List ℕ) (ys zs : List ℤ)
     → 0 < c.lattice.n
     → Moves c p xs l g ys
     → Moves c p xs l g zs
     → ys ≡ zs
-moves-unique c p xs l g ys zs pos-n a b =
+moves_unique c p xs l g ys zs pos-n a b =
     spins_equal c ys zs pos-n (a.long ∙ sym b.long)
     (λ i k h q. a.group i k h q ∙ sym (b.group i k h q))
     (λ i t h q. a.others i t h q ∙ sym (b.others i t h q))
@@ -203,12 +203,12 @@ module _ (t : Graph) (h₁ h₂ : ℕ → ℕ → Bool) where
   pub numbered_ext : (l found : List ℕ) → HoldAlike t h₁ h₂ → Numbered t h₁ l found → Numbered t h₂ l found
   numbered_ext l found same w = record { labels = labels_ext l same w.labels; one = w.one }
 
-pub members-ext :
+pub members_ext :
     (t : Graph) (h₁ h₂ : ℕ → ℕ → Bool) (seed : ℕ) (l : List ℕ)
     → HoldAlike t h₁ h₂
     → Members t h₁ seed l
     → Members t h₂ seed l
-members-ext t h₁ h₂ seed l same w = record {
+members_ext t h₁ h₂ seed l same w = record {
   long = w.long;
   byte = w.byte;
   joined = λ i hi e. bind (carry t h₁ h₂ same) (w.joined i hi e);

@@ -17,7 +17,7 @@ use Rattle.paper.specs.Move.Moving.{flip_by, act_by, reached_by, reached, after,
 use Rattle.paper.specs.Refusal.Rules.{Permutes}
 use Rattle.paper.specs.Answer.Same.{SameCall, SameChoices}
 use Rattle.laws.specs.Choices.{flips_taken, perms_taken}
-use Rattle.laws.specs.Local.{Agree, term_ext, act-ext, kind_ext}
+use Rattle.laws.specs.Local.{Agree, term_ext, act_ext, kind_ext}
 use Rattle.laws.specs.Entries.{perm_of, flip_of, reached_moves}
 use Rattle.laws.specs.Acting.{test_ext, gauge_ext}
 
@@ -101,18 +101,18 @@ flip_in Observe m x y r e h = refl
 flip_in Grow m x y r e h = refl
 
 module _ (c a : Call) (p o : Choices) where
-  choice-in :
+  choice_in :
       (m : Mode) (r : ℕ) (P f : Pattern)
       → (is_perm m ≡ false → flip_of c o r ≡ flip_of c p r)
       → (is_perm m ≡ true → o.choices ≡ p.choices)
       → (k : ℕ)
       → act_by m (over c a) o P r f k ≡ act_by m c p P r f k
-  choice-in Houd r P f flips perms k = rw (flips refl)
-  choice-in Pair r P f flips perms k = rw (flips refl)
-  choice-in Perm r P f flips perms k = rw (perms refl)
-  choice-in Gperm r P f flips perms k = rw (perms refl)
-  choice-in Jorg r P f flips perms k = rw (flips refl)
-  choice-in Cmr r P f flips perms k = rw (flips refl)
+  choice_in Houd r P f flips perms k = rw (flips refl)
+  choice_in Pair r P f flips perms k = rw (flips refl)
+  choice_in Perm r P f flips perms k = rw (perms refl)
+  choice_in Gperm r P f flips perms k = rw (perms refl)
+  choice_in Jorg r P f flips perms k = rw (flips refl)
+  choice_in Cmr r P f flips perms k = rw (flips refl)
 
 module _ {c a : Call} (same : SameCall c a) (xs : List ℤ) where
   pub pattern_same : (i : ℕ) → Agree (size c) (pattern (over c a) xs i) (pattern c xs i)
@@ -192,22 +192,22 @@ module _ {c a : Call} (same : SameCall c a) (xs : List ℤ) where
         go : (t : Bool) → reached c xs l i ≡ t → after (over c a) o xs l i k ≡ after c p xs l i k
         go true e =
             rw (reached_same l i, e)
-            (choice-in c a p o c.mode (label_of l i) (pattern (over c a) xs a.reference) (pattern (over c a) xs i)
+            (choice_in c a p o c.mode (label_of l i) (pattern (over c a) xs a.reference) (pattern (over c a) xs i)
             (λ q. flip_in c.form c.mode p.choices o.choices (label_of l i) q (λ t. chosen.choices (flips_taken c.mode c.form t)))
             (λ q. chosen.choices (perms_taken c.mode c.form (rw (reached_moves c xs l i e, q)))) k
-            ∙ act-ext c.mode c p (label_of l i) (pattern (over c a) xs a.reference) (pattern c xs c.reference) (pattern (over c a) xs i)
+            ∙ act_ext c.mode c p (label_of l i) (pattern (over c a) xs a.reference) (pattern c xs c.reference) (pattern (over c a) xs i)
             (pattern c xs i) (perms e) reference_same (pattern_same i) k hk)
         go false e = rw (reached_same l i, e) (pattern_same i k hk)
 
     -- grey labels are read where they are taken
-    pub final-same :
+    pub final_same :
         (l g g' : List ℕ) (i k : ℕ)
         → (takes_greys c ≡ true → g' ≡ g)
         → k < size c
         → (reached c xs l i ≡ true → is_perm c.mode ≡ true → Permutes (size c) (perm_of c p (label_of l i)))
         → final (over c a) o xs l g' i k ≡ final c p xs l g i k
     unfolding final
-    final-same l g g' i k same-grey hk perms = go (takes_greys c) refl
+    final_same l g g' i k same-grey hk perms = go (takes_greys c) refl
       where
         go : (t : Bool) → takes_greys c ≡ t → final (over c a) o xs l g' i k ≡ final c p xs l g i k
         go true e = cc (same-grey e, reached_same g i, chosen.greys e, after_same l i k hk perms)

@@ -20,10 +20,10 @@ use Rattle.paper.specs.Refusal.Kept.{Valid, valid_of}
 use Rattle.paper.specs.Answer.Move.{SeenAll, SeenOne, Seen, member_bonds, SeedHeld, Turns, Answers}
 use Rattle.paper.specs.Answer.Same.{SameCall, SameTaken, SameLent, written, left}
 use Rattle.laws.specs.Forms.{by_form, not_grows, grows_one, grows_moves}
-use Rattle.laws.specs.Unique.{HoldAlike, label_lt, joined_ext, numbered_ext, members-ext, counts_ext, sizes_ext}
-use Rattle.laws.specs.Determined.{buffers-equal}
+use Rattle.laws.specs.Unique.{HoldAlike, label_lt, joined_ext, numbered_ext, members_ext, counts_ext, sizes_ext}
+use Rattle.laws.specs.Determined.{buffers_equal}
 use Rattle.laws.specs.Matched.{matched_kept, matched_broken}
-use Rattle.laws.specs.Untaken.{over, is_over, onto, acts_same, holds_same, grey_same, final-same, pattern_same}
+use Rattle.laws.specs.Untaken.{over, is_over, onto, acts_same, holds_same, grey_same, final_same, pattern_same}
 use Rattle.laws.specs.UntakenRules.{seed_acts, some_there, rules_same}
 use Rattle.laws.specs.Entries.{perm_of, reached_moves, perms_of, perms_grown}
 
@@ -93,18 +93,18 @@ module _ {c a : Call} {p o : Choices} (same : SameTaken c p a o) {b d : Buffers}
         marks i _ = sym (acts_same same.call b.spins i)
 
     -- the members of the same seed
-    members-there :
+    members_there :
         (g h : ℕ → ℕ → Bool) (l : List ℕ)
         → grows_by c.form ≡ true
         → HoldAlike (graph c) g h
         → Members (graph c) g c.seed l
         → Members (graph c) h a.seed l
-    members-there g h l t alike w =
-        subst (λ (s : ℕ). Members (graph c) h s l) (sym (same.call.seed (grows_one c.form t))) (members-ext (graph c) g h c.seed l alike w)
+    members_there g h l t alike w =
+        subst (λ (s : ℕ). Members (graph c) h s l) (sym (same.call.seed (grows_one c.form t))) (members_ext (graph c) g h c.seed l alike w)
 
     one_there : grows_by c.form ≡ true → SeenOne c b b' → SeenOne (over c a) (onto b d) (written c (onto b d) b')
     one_there g w = record {
-      members = λ t. rw g (members-there (member_bonds c b.spins) (member_bonds (over c a) b.spins) b'.members g bonds (w.members (sym seed ∙ t)));
+      members = λ t. rw g (members_there (member_bonds c b.spins) (member_bonds (over c a) b.spins) b'.members g bonds (w.members (sym seed ∙ t)));
       none = λ t. rw g (w.none (sym seed ∙ t));
       labels_kept = rw g refl;
       grey_kept = rw g refl;
@@ -144,7 +144,7 @@ module _ {c a : Call} {p o : Choices} (same : SameTaken c p a o) {b d : Buffers}
       long = m.long;
       group = λ i k hi hk.
           pattern_same same.call b'.spins i k hk
-          ∙ (m.group i k hi hk ∙ sym (final-same same.call b.spins same.choices l g g' i k greys hk (perms i hi)));
+          ∙ (m.group i k hi hk ∙ sym (final_same same.call b.spins same.choices l g g' i k greys hk (perms i hi)));
       others = λ i t hi out. m.others i t hi (λ k hk e. out k hk (e ∙ sym (same.call.systems k hk)));
     }
 
@@ -163,7 +163,7 @@ module _ {c a : Call} {p o : Choices} (same : SameTaken c p a o) {b d : Buffers}
         → Turns (over c a) o b.spins (written c (onto b d) b').members b'.spins
     turned_there g w = rw g (record {
       blue = w.blue;
-      joined = members-there (holds c b.spins) (holds (over c a) b.spins) w.blue g blue w.joined;
+      joined = members_there (holds c b.spins) (holds (over c a) b.spins) w.blue g blue w.joined;
       moved =
           moves_there w.blue b'.members b'.members (λ i hi e q. perms_grown v g (rw (grows_moves c.form g, q)) (label_of w.blue i))
           (λ _. refl) w.moved;
@@ -204,7 +204,7 @@ module _ {c a : Call} {p o : Choices} (same : SameTaken c p a o) {b d : Buffers}
       (subst (λ (z : Buffers). Answers (over c a) o z r (left c r z b')) (sym is_onto) (there r b' w))
     where
       is_onto : d ≡ onto b d
-      is_onto = buffers-equal d (onto b d) lent.spins refl refl refl refl refl refl refl
+      is_onto = buffers_equal d (onto b d) lent.spins refl refl refl refl refl refl refl
 
 -- ---- to agree is mutual
 module _ {c a : Call} (h : SameCall c a) where
@@ -267,10 +267,10 @@ written_itself c b b' w = go (by_form c.form)
 
     go : (labels_by c.form ≡ true) ⊎ (grows_by c.form ≡ true) → written c b b' ≡ b'
     go (inl l) =
-        buffers-equal (written c b b') b' refl (rw l refl) (greys l (takes_greys c) refl) (rw l refl) (rw l refl)
+        buffers_equal (written c b b') b' refl (rw l refl) (greys l (takes_greys c) refl) (rw l refl) (rw l refl)
         (rw (not_grows c.form l) (sym (w.all l).members_kept)) (rw l refl) (grey_found l (takes_greys c) refl)
     go (inr g) = let k = w.one g in
-        buffers-equal (written c b b') b' refl (rw g (sym k.labels_kept)) (rw g (sym k.grey_kept)) (rw g (sym k.counts_kept))
+        buffers_equal (written c b b') b' refl (rw g (sym k.labels_kept)) (rw g (sym k.grey_kept)) (rw g (sym k.counts_kept))
         (rw g (sym k.sizes_kept)) (rw g refl) (rw g (sym k.found_kept)) (rw g (sym k.grey_found_kept))
 
 left_itself : (c : Call) (p : Choices) (b : Buffers) (r : Answer) (b' : Buffers) → Answers c p b r b' → left c r b b' ≡ b'

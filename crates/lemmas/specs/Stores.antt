@@ -49,10 +49,10 @@ pub lt_of_ne : {x i : ℕ} → x < i + 1 → (x ≡ i → ⊥) → x < i
 lt_of_ne l ne = lt_of_le_of_ne (le_of_suc-le-suc (rw add-one at l)) ne
 
 -- a turn that stores nothing
-pub filled-skip :
+pub filled_skip :
     {A : Type 0} {d : A} {f : ℕ → A} {i : ℕ} {xs ys : List A}
     → Filled d f i xs ys → get_or xs i d ≡ f i → Filled d f (i + 1) xs ys
-filled-skip {A} {d} {f} {i} {xs} {ys} was e = record {
+filled_skip {A} {d} {f} {i} {xs} {ys} was e = record {
   long = was.long;
   done = below_more (λ k. get_or ys k d ≡ f k) i was.done (was.rest i (omega arith) ∙ e);
   rest = λ j l. was.rest j (omega arith);

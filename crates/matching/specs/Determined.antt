@@ -8,11 +8,11 @@ use Rattle.matching.specs.Fitting.{least_unique}
 use Rattle.matching.specs.Explain.{Explains}
 
 -- n words of m are known by their entries
-pub words-ext :
+pub words_ext :
     (n m : ℕ) (us vs : List ℕ) → length us ≡ n * m → length vs ≡ n * m
     → ((r k : ℕ) → r < n → k < m → word_at m us r k ≡ word_at m vs r k)
     → us ≡ vs
-words-ext n m us vs e f same = ext_get_or 0 us vs (e ∙ sym f) (λ a h. at a (rw e at h))
+words_ext n m us vs e f same = ext_get_or 0 us vs (e ∙ sym f) (λ a h. at a (rw e at h))
   where
     at : (a : ℕ) → a < n * m → get_or us a 0 ≡ get_or vs a 0
     at a h =
@@ -29,13 +29,13 @@ not_less :
     → Explains size gauge olds news labels pins rows r us → Explains size gauge olds news labels pins rows s vs → r < s → ⊥
 not_less p q h = p.none (omega (arith, h, q.most)) (q.fitted _ h)
 
-pub explain-determined :
+pub explain_determined :
     (size gauge : ℕ) (olds news labels pins rows : List ℕ) (r s : ℕ) (us vs : List ℕ)
     → length rows ≡ length olds * size
     → Explains size gauge olds news labels pins rows r us
     → Explains size gauge olds news labels pins rows s vs
     → SameRows r us s vs
-explain-determined size gauge olds news labels pins rows r s us vs long p q = record { number = number; rows = rows_same (dec_lt r (length olds)) }
+explain_determined size gauge olds news labels pins rows r s us vs long p q = record { number = number; rows = rows_same (dec_lt r (length olds)) }
   where
     number : r ≡ s
     number = go (dec_lt r s) (dec_lt s r)
@@ -49,5 +49,5 @@ explain-determined size gauge olds news labels pins rows r s us vs long p q = re
     rows_same (yes h) = p.kept h ∙ sym (q.kept (omega (arith, h, number)))
     rows_same (no h) =
         let all : r ≡ length olds = omega (arith, p.most) in
-        words-ext (length olds) size us vs (p.long ∙ long) (q.long ∙ long)
+        words_ext (length olds) size us vs (p.long ∙ long) (q.long ∙ long)
         (λ t k ht hk. least_unique (p.least all t ht) (q.least (sym number ∙ all) t ht) k hk)

@@ -108,7 +108,7 @@ meters_rules o g xs ts =
     ∷ rule 14 (Current (Ours o g.s) g xs ts)
     ∷ []
 
-pub owner-first :
+pub owner_first :
     (o : Team) (g : Lattice) (xs ts : List ℤ) (r : ℕ) → (r ≡ 0 → ⊥) → Verdict (owner_rules o g.s) r → Verdict (hand_over_rules o g xs ts) r
-owner-first o g xs ts zero e v = absurd (e refl)
-owner-first o g xs ts (suc r) e v = broken_first (owner_rules o g.s) (meters_rules o g xs ts) (suc r) v
+owner_first o g xs ts zero e v = absurd (e refl)
+owner_first o g xs ts (suc r) e v = broken_first (owner_rules o g.s) (meters_rules o g xs ts) (suc r) v

@@ -23,13 +23,13 @@ use Rattle.moves.specs.Leaves.{beside_of, changes}
 use Rattle.moves.specs.Labelling.{TaskAsks, SomeFree, Foretells, TaskLeaves}
 use Rattle.moves.specs.Choices.{rows_of, columns_narrow}
 use Rattle.moves.specs.Finish.{no_move, observed, spins_back}
-use Rattle.moves.specs.Given.{Given, Keys, given-asks, chosen-columns}
+use Rattle.moves.specs.Given.{Given, Keys, given_asks, chosen_columns}
 
-pub valid-with :
+pub valid_with :
     {c : Call} {p : Choices} {xs : List ℤ} {labels grey_labels counts sizes members found grey_found : List ℕ} → labels_by c.form ≡ true
     → Valid c p (buffers_of xs labels grey_labels counts sizes members found grey_found) → (others : List ℕ)
     → Valid c p (buffers_of xs labels grey_labels counts sizes others found grey_found)
-valid-with {c} f v others = let s = v.sound in let e = s.exact in record {
+valid_with {c} f v others = let s = v.sound in let e = s.exact in record {
   sound = record {
     ranged = s.ranged;
     houd = s.houd;
@@ -97,11 +97,11 @@ module _
     bonds_high = mul-le-mul tested.n_high tested.d_high
 
     -- ---- the label step
-    pub task-asks :
+    pub task_asks :
         {cols : List ℕ} → ColumnsOf t xs cols
         → TaskAsks t fwd pins couplings cuts cols (area 4096 t.n) (area 16384 (t.n * t.d)) (area 16384 (t.n * t.d)) (area 4096 t.n)
         (area 4096 t.n) labels₀ greyLabels₀ counts₀ sizes₀ found₀ greyFound₀
-    task-asks w = record {
+    task_asks w = record {
       label = record {
         rows = xs;
         tested = tested;
@@ -217,13 +217,13 @@ module _
 
           pub choose_asks : ChooseAsks t p.choices p.greys flags labels tally grey_labels greyTally (area 4096 t.n) cols
           choose_asks =
-              given-asks t fwd bwd pins couplings cuts p xs (given moving) keys d.acting d.columns free others others_free
+              given_asks t fwd bwd pins couplings cuts p xs (given moving) keys d.acting d.columns free others others_free
               (length-take-le t.n _ n_high)
 
           module _ {new : List ℕ} (w : ChooseLeaves t p.choices p.greys flags labels tally grey_labels greyTally cols new) where
             chosen : Columns t.n t.group.len (final c p xs labels grey_labels) new
             chosen =
-                chosen-columns t fwd bwd pins couplings cuts p xs (given moving) keys d.acting d.columns grey_labels
+                chosen_columns t fwd bwd pins couplings cuts p xs (given moving) keys d.acting d.columns grey_labels
                 (w pins free others_free)
 
             pub new_long : length new ≡ t.n

@@ -12,7 +12,7 @@ use Rattle.paper.specs.Site.Bonds.{holds, holds_grey}
 use Rattle.paper.specs.Component.Marks.{Flags}
 use Rattle.paper.specs.Answer.Move.{SeenAll}
 use Rattle.laws.specs.Unique.{numbered_unique, counts_unique, sizes_unique}
-use Rattle.laws.specs.Determined.{Same, buffers-equal, not_both, determined}
+use Rattle.laws.specs.Determined.{Same, buffers_equal, not_both, determined}
 use Rattle.columns.specs.Column.{shown, column_ext}
 use Rattle.columns.specs.Bits.{column_same}
 use Rattle.columns.specs.Rows.{Written}
@@ -79,7 +79,7 @@ module _
       answer = foretells_unique c xs a a' u.says u'.says;
       acting = flags_unique u.acting u'.acting;
       buffers = λ members.
-          buffers-equal (beside_of l g q s f h xs members) (beside_of l' g' q' s' f' h' xs members) refl blue.0 (grey (takes_greys c) refl).0
+          buffers_equal (beside_of l g q s f h xs members) (beside_of l' g' q' s' f' h' xs members) refl blue.0 (grey (takes_greys c) refl).0
           (counts_unique l q q' all.counts (rw blue.0 all'.counts)) (sizes_unique l s s' all.sizes (rw blue.0 all'.sizes))
           refl blue.1 (grey (takes_greys c) refl).1;
       sizes = λ some moving. tally_free_determined c.pins l tally tally' (u.freed some moving) (rw blue.0 (u'.freed some moving));
@@ -88,7 +88,7 @@ module _
     }
 
 -- by the rows by which the columns were tested
-pub label-task-determined :
+pub label_task_determined :
     (t : Task) (fwd bwd pins : List ℕ) (couplings : List ℤ) (cuts : List Float)
     (cols flags₀ holding grey tally₀ greyTally₀ labels grey_labels counts sizes found grey_found : List ℕ)
     (k : TaskAsks t fwd pins couplings cuts cols flags₀ holding grey tally₀ greyTally₀ labels grey_labels counts sizes found grey_found)
@@ -98,19 +98,19 @@ pub label-task-determined :
     (beside_of l' g' q' s' f' h') a'
     → SameTask (call_of t fwd bwd pins couplings cuts) k.label.rows a flags tally greyTally (beside_of l g q s f h) a' flags' tally' greyTally'
     (beside_of l' g' q' s' f' h')
-label-task-determined t fwd bwd pins couplings cuts cols _ _ _ _ _ _ _ _ _ _ _ k a a' flags tally greyTally l g q s f h flags' tally' greyTally'
+label_task_determined t fwd bwd pins couplings cuts cols _ _ _ _ _ _ _ _ _ _ _ k a a' flags tally greyTally l g q s f h flags' tally' greyTally'
     l' g' q' s' f' h' u u' =
     let w = k.label in
     task_same (u bwd w.rows w.tested w.columns) (u' bwd w.rows w.tested w.columns)
 
 -- ---- the choose step
-pub choose-task-determined :
+pub choose_task_determined :
     (t : Task) (choices greys flags labels tally grey_labels greyTally reached cols new new' : List ℕ)
     → ChooseAsks t choices greys flags labels tally grey_labels greyTally reached cols
     → ChooseLeaves t choices greys flags labels tally grey_labels greyTally cols new
     → ChooseLeaves t choices greys flags labels tally grey_labels greyTally cols new'
     → new ≡ new'
-choose-task-determined t choices greys flags labels tally grey_labels greyTally reached cols new new' k u u' =
+choose_task_determined t choices greys flags labels tally grey_labels greyTally reached cols new new' k u u' =
     becomes_determined _ cols new new' (u k.pins k.tallied (λ e. (k.greyable e).tallied)) (u' k.pins k.tallied (λ e. (k.greyable e).tallied))
 
 -- ---- the two as one

@@ -43,11 +43,11 @@ module _
           (answered.stays_answers t fwd bwd pins couplings cuts p k.labelled v (d bwd xs s w) e);
     }
 
-    pub goes-leaves :
+    pub goes_leaves :
         {new : List ℕ} → changes t.form a ≡ true
         → ChooseLeaves t p.choices p.greys flags labels' tally greyLabels' greyTally cols new
         → RunLeaves c p cols b a new b'
-    goes-leaves {new} e w =
+    goes_leaves {new} e w =
         let own = d bwd k.rows (ready c p (b k.rows []) k.valid.sound) k.columns in
         record {
           long = answered.new_long t fwd bwd pins couplings cuts p k.labelled k.valid own e w;

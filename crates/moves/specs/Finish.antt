@@ -17,12 +17,12 @@ use Rattle.paper.specs.Move.Moving.{flip_some, grey_bit, grey_at, reached, reach
 use Rattle.paper.specs.Refusal.Rules.{Spin}
 use Rattle.laws.specs.Patterns.{flip_spin}
 use Rattle.columns.specs.Column.{shown, column_of, shown_column, column_ext, Columns, Spinning}
-use Rattle.columns.specs.Gauge.{gauge_of, gauge-is}
-use Rattle.columns.specs.Laws.{columns-shown}
+use Rattle.columns.specs.Gauge.{gauge_of, gauge_is}
+use Rattle.columns.specs.Laws.{columns_shown}
 use Rattle.choose.specs.Chosen.{Becomes, greyed}
 use Rattle.moves.specs.Tested.{TestedFor}
 use Rattle.column_rules.specs.Acted.{choice_column}
-use Rattle.moves.specs.Moved.{Rows, chosen-column, after_spin}
+use Rattle.moves.specs.Moved.{Rows, chosen_column, after_spin}
 use Rattle.moves.specs.Steps.{chosen_at_lem, final_at}
 use Rattle.moves.specs.Choices.{reached_is}
 
@@ -68,7 +68,7 @@ module _
         (cols : List ℕ) (ys : List ℤ) → Columns c.lattice.n (size c) (final c p xs l g) cols
         → ((i k : ℕ) → i < c.lattice.n → k < size c → pattern c ys i k ≡ shown (get_or cols i 0) k)
         → (i k : ℕ) → i < c.lattice.n → k < size c → pattern c ys i k ≡ final c p xs l g i k
-    spins_back cols ys h w i k hi hk = w i k hi hk ∙ columns-shown h i k hi hk (final_spin i k hi hk)
+    spins_back cols ys h w i k hi hk = w i k hi hk ∙ columns_shown h i k hi hk (final_spin i k hi hk)
 
 -- from the spins alone: no neighbour table
 module _
@@ -117,8 +117,8 @@ module _
         ap (λ (b : Bool). cond b (to i y (get_or cols i 0)) (get_or cols i 0)) (reached_is c xs l flags acting i hi)
         ∙ (ap (λ (x : ℕ). cond (reached c xs l i) (to i y x) x) (columns.at i hi)
         ∙ (ap (λ (z : ℕ). cond (reached c xs l i) (to i z (column_of m (pattern c xs i))) (column_of m (pattern c xs i)))
-        (gauge-is t.mode m t.n t.reference (pattern c xs) columns reference)
-        ∙ chosen-column c p xs l spins reference rows i hi))
+        (gauge_is t.mode m t.n t.reference (pattern c xs) columns reference)
+        ∙ chosen_column c p xs l spins reference rows i hi))
 
     abbrev grey_number : ℕ → ℕ
     grey_number i = grey_at t.form p.greys (label_of g i)
@@ -141,7 +141,7 @@ module _
         go true q false = rw moving refl
         go true q true = rw moving (grey_column c p xs l spins two reference rows q (grey_number i) i hi)
 
-    pub final-columns :
+    pub final_columns :
         {new : List ℕ}
         → Becomes (final_at t pins flags l g p.choices p.greys cols) cols new → Columns t.n m (final c p xs l g) new
-    final-columns b = record { long = b.long ∙ columns.long; at = λ i hi. b.at i (rw columns.long hi) ∙ final_at_lem i hi }
+    final_columns b = record { long = b.long ∙ columns.long; at = λ i hi. b.at i (rw columns.long hi) ∙ final_at_lem i hi }

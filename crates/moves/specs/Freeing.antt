@@ -20,10 +20,10 @@ none_left : (held : Bool) (size : ℕ) → 0 < size → eqb (cond held 0 size) 0
 none_left true size h = refl
 none_left false size h = ne_eqb size 0 (λ q. omega arith)
 
-held-by-size :
+held_by_size :
     (form : Form) (seed : ℕ) {pins labels tally : List ℕ} → Freed pins labels tally → (one_cluster form ≡ true → SeedAsks seed labels tally)
     → (one_cluster form && eqb (get_or tally (label_of labels seed) 0) 0) ≡ (one_cluster form && has_one (is_one pins) labels (label_of labels seed))
-held-by-size form seed {pins} {labels} {tally} f asks = go (one_cluster form) refl
+held_by_size form seed {pins} {labels} {tally} f asks = go (one_cluster form) refl
   where
     go :
         (one : Bool) → one_cluster form ≡ one
@@ -68,16 +68,16 @@ module _
           }
 
       held_told : (one_cluster t.form && eqb (get_or new (label_of labels t.seed) 0) 0) ≡ held_seed t pins labels
-      held_told = held-by-size t.form t.seed free_sizes seed_asks
+      held_told = held_by_size t.form t.seed free_sizes seed_asks
 
       -- ---- where the form moves
-      pub free-moves :
+      pub free_moves :
           {some held : Bool} {r : Answer} {newLabels newTally newFound : List ℕ} → not some ≡ false → moves t.form ≡ true
           → GreysLeave (is_cmr t.mode) t fwd pins grey grey_labels grey_found newLabels newTally newFound
           → held ≡ (one_cluster t.form && eqb (get_or new (label_of labels t.seed) 0) 0)
           → r ≡ cond held Held Moved
           → FreeLeaves t some fwd pins grey labels grey_labels grey_found new newLabels newTally newFound r
-      free-moves {some} {held} {r} e moving g h a = rw (not-false some e) (record {
+      free_moves {some} {held} {r} e moving g h a = rw (not-false some e) (record {
         answer = a ∙ ap (λ (x : Bool). cond x Held Moved) (h ∙ held_told);
         freed = λ _ _. free_sizes;
         greys = rw moving g;
@@ -91,10 +91,10 @@ module _
       greys = record { labels = λ q. never q; freed = λ q. never q; kept = λ _. refl; found_kept = λ _. refl };
     })
 
-    pub free-rests :
+    pub free_rests :
         {some : Bool} → not some ≡ false → moves t.form ≡ false
         → FreeLeaves t some fwd pins grey labels grey_labels grey_found tally grey_labels greyTally grey_found Moved
-    free-rests {some} e resting = rw (not-false some e) (record {
+    free_rests {some} e resting = rw (not-false some e) (record {
       answer = rw (rests_none t.form resting) refl;
       freed = λ _ q. never (sym resting ∙ q);
       greys = rw resting (record { labels = λ q. never q; freed = λ q. never q; kept = λ _. refl; found_kept = λ _. refl });

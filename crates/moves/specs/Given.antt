@@ -14,7 +14,7 @@ use Rattle.columns.specs.Column.{Columns, Spinning}
 use Rattle.choose.specs.Chosen.{Becomes, Freed}
 use Rattle.moves.specs.Steps.{ChooseAsks, final_at}
 use Rattle.moves.specs.Choices.{places_of, rows_of, columns_narrow}
-use Rattle.moves.specs.Finish.{final-columns}
+use Rattle.moves.specs.Finish.{final_columns}
 
 -- a form that moves, and tested rows and choices
 pub record Given (c : Call) (p : Choices) (xs : List ℤ) : Type 0 where
@@ -51,11 +51,11 @@ module _
     greying e = rw (v.moving, e) refl
 
     -- what `choose_task` asks
-    pub given-asks :
+    pub given_asks :
         {g tally greyTally reached : List ℕ} → Freed pins l tally → (is_cmr t.mode ≡ true → Keys t.n g)
         → (is_cmr t.mode ≡ true → Freed pins g greyTally) → length reached ≡ t.n
         → ChooseAsks t p.choices p.greys flags l tally g greyTally reached cols
-    given-asks free others others_free reached_long = record {
+    given_asks free others others_free reached_long = record {
       choosable = record {
         few = omega (arith, columns.long, v.ranged.lattice.n_high);
         flags_long = acting.long ∙ sym columns.long;
@@ -86,9 +86,9 @@ module _
     }
 
     -- and what it leaves: the columns of the patterns after the move by these labels
-    pub chosen-columns :
+    pub chosen_columns :
         (g : List ℕ) {new : List ℕ} → Becomes (final_at t pins flags l g p.choices p.greys cols) cols new
         → Columns t.n t.group.len (final c p xs l g) new
-    chosen-columns g b =
-        final-columns t fwd bwd pins couplings cuts p xs l g v.spins v.ranged.cmr_two v.chosen.reference
+    chosen_columns g b =
+        final_columns t fwd bwd pins couplings cuts p xs l g v.spins v.ranged.cmr_two v.chosen.reference
         (λ _. rows_of c p l v.moving keys.below v.chosen.perms) v.moving acting columns b

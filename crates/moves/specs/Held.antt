@@ -18,7 +18,7 @@ use Rattle.paper.specs.Component.Marks.{Flags, Marks, marked}
 use Rattle.laws.specs.Local.{Agree, kind_ext}
 use Rattle.laws.specs.Unique.{labels_ext, counts_ext, sizes_ext}
 use Rattle.columns.specs.Column.{shown, Columns}
-use Rattle.columns.specs.Laws.{columns-shown}
+use Rattle.columns.specs.Laws.{columns_shown}
 use Rattle.bonds.specs.Laws.{jorg_ext}
 use Rattle.bonds.specs.Table.{both_acting, jorg_at, blue_at, grey_at, CmrOut}
 use Rattle.column_rules.specs.Sight.{Sights, flag_at, acts_flags, acts_tells}
@@ -37,31 +37,31 @@ cmr_drawn Cmr e = refl
 
 -- ---- hold: its four ways
 module _ {t : Task} {fwd : List ℕ} {couplings : List ℤ} {cuts : List Float} {flags cols holding grey : List ℕ} where
-  pub cmr-leaves :
+  pub cmr_leaves :
       {s : Sampler} → s ≡ sampler_of t.temperature → is_cmr t.mode ≡ true
       → CmrOut t.n t.d fwd couplings cuts s cols holding grey
       → HoldLeaves t fwd couplings cuts flags cols holding grey
-  cmr-leaves q e h = record {
+  cmr_leaves q e h = record {
     held = record { long = h.blue.long; at = λ i k hi hk. rw (e, ← q) (h.blue.at i k hi hk) };
     grey_held = λ _ _. rw (← q) h.grey;
     grey_long = h.grey.long;
   }
 
-  pub blue-leaves :
+  pub blue_leaves :
       {s : Sampler} → s ≡ sampler_of t.temperature → is_cmr t.mode ≡ true → moves t.form ≡ false → length grey ≡ t.n * t.d
       → Marks t.n t.d (blue_at t.d fwd couplings cuts s cols) holding
       → HoldLeaves t fwd couplings cuts flags cols holding grey
-  blue-leaves q e rests long h = record {
+  blue_leaves q e rests long h = record {
     held = record { long = h.long; at = λ i k hi hk. rw (e, ← q) (h.at i k hi hk) };
     grey_held = λ _ m. never (sym rests ∙ m);
     grey_long = long;
   }
 
-  pub drawn-leaves :
+  pub drawn_leaves :
       {s : Sampler} → s ≡ sampler_of t.temperature → is_cmr t.mode ≡ false → is_drawn t.mode ≡ true → length grey ≡ t.n * t.d
       → Marks t.n t.d (jorg_at t.d fwd couplings cuts t.group.len s flags cols) holding
       → HoldLeaves t fwd couplings cuts flags cols holding grey
-  drawn-leaves q e d long h = record {
+  drawn_leaves q e d long h = record {
     held = record { long = h.long; at = λ i k hi hk. rw (e, d) (drawn.at i k hi hk) };
     grey_held = λ w _. never (sym e ∙ w);
     grey_long = long;
@@ -70,11 +70,11 @@ module _ {t : Task} {fwd : List ℕ} {couplings : List ℤ} {cuts : List Float} 
       drawn : Marks t.n t.d (jorg_at t.d fwd couplings cuts t.group.len (sampler_of t.temperature) flags cols) holding
       drawn = rw q at h
 
-  pub plain-leaves :
+  pub plain_leaves :
       is_cmr t.mode ≡ false → is_drawn t.mode ≡ false → length grey ≡ t.n * t.d
       → Marks t.n t.d (both_acting t.d fwd flags) holding
       → HoldLeaves t fwd couplings cuts flags cols holding grey
-  plain-leaves e d long h = record {
+  plain_leaves e d long h = record {
     held = record { long = h.long; at = λ i k hi hk. rw (e, d) (h.at i k hi hk) };
     grey_held = λ w _. never (sym e ∙ w);
     grey_long = long;
@@ -90,20 +90,20 @@ module _
         cc (flag_at c.lattice.n (acts c xs) flags acting i hi, flag_at c.lattice.n (acts c xs) flags acting (ahead c i e) (r.ahead_lt i e hi he))
 
     shows : (i : ℕ) → i < c.lattice.n → Agree (size c) (shown (get_or cols i 0)) (pattern c xs i)
-    shows i hi k hk = columns-shown columns i k hi hk (r.spins i k hi hk)
+    shows i hi k hk = columns_shown columns i k hi hk (r.spins i k hi hk)
 
-    jorg-held :
+    jorg_held :
         (i e : ℕ) → i < c.lattice.n → e < c.lattice.d
         → jorg_holds (coupling_at c i e) (size c) (shown (get_or cols i 0)) (shown (get_or cols (ahead c i e) 0)) (sampler_of c.temperature) (cut_at c i e)
         ≡ jorg_holds (coupling_at c i e) (size c) (pattern c xs i) (pattern c xs (ahead c i e)) (sampler_of c.temperature) (cut_at c i e)
-    jorg-held i e hi he =
+    jorg_held i e hi he =
         jorg_ext (coupling_at c i e) (size c) _ _ (pattern c xs i) (pattern c xs (ahead c i e)) (sampler_of c.temperature) (cut_at c i e)
         (shows i hi) (shows (ahead c i e) (r.ahead_lt i e hi he))
 
-    kind-held :
+    kind_held :
         is_cmr c.mode ≡ true → (i e : ℕ) → i < c.lattice.n → e < c.lattice.d
         → kind_of (coupling_at c i e) (shown (get_or cols i 0)) (shown (get_or cols (ahead c i e) 0)) ≡ kind_at c xs i e
-    kind-held q i e hi he =
+    kind_held q i e hi he =
         kind_ext (coupling_at c i e) _ _ (pattern c xs i) (pattern c xs (ahead c i e)) (λ k hk. shows i hi k (omega (arith, r.two q)))
         (λ k hk. shows (ahead c i e) (r.ahead_lt i e hi he) k (omega (arith, r.two q)))
 
@@ -116,8 +116,8 @@ module _
     held_in Pair q i e hi he = both_held i e hi he
     held_in Perm q i e hi he = both_held i e hi he
     held_in Gperm q i e hi he = both_held i e hi he
-    held_in Jorg q i e hi he = cc (both_held i e hi he, jorg-held i e hi he)
-    held_in Cmr q i e hi he = ap (λ x. blue_holds x (sampler_of c.temperature) (cut_at c i e)) (kind-held (q refl) i e hi he)
+    held_in Jorg q i e hi he = cc (both_held i e hi he, jorg_held i e hi he)
+    held_in Cmr q i e hi he = ap (λ x. blue_holds x (sampler_of c.temperature) (cut_at c i e)) (kind_held (q refl) i e hi he)
 
     -- the table of `hold` marks the bonds that hold
     pub held_labels :
@@ -133,15 +133,15 @@ module _
         mark_at c.lattice.n c.lattice.d _ holding h i e hi he ∙ held_in c.mode (λ q. q) i e hi he) w
 
     -- and CMR's other table the grey ones
-    pub grey-marks :
+    pub grey_marks :
         (grey : List ℕ) → is_cmr c.mode ≡ true
         → Marks c.lattice.n c.lattice.d
         (grey_at c.lattice.d c.lattice.fwd c.lattice.couplings c.cuts (sampler_of c.temperature) cols) grey
         → Marks c.lattice.n c.lattice.d (holds_grey c xs) grey
     unfolding holds_grey
-    grey-marks grey q h = record {
+    grey_marks grey q h = record {
       long = h.long;
-      at = λ i e hi he. h.at i e hi he ∙ ap (λ x. bit (grey_holds x (sampler_of c.temperature) (cut_at c i e))) (kind-held q i e hi he);
+      at = λ i e hi he. h.at i e hi he ∙ ap (λ x. bit (grey_holds x (sampler_of c.temperature) (cut_at c i e))) (kind_held q i e hi he);
     }
 
 -- labels of a table that marks the grey bonds
@@ -159,10 +159,10 @@ grey_labels c xs grey l h w =
     }
 
 -- how many there are, stored in a list of one number
-pub stored-number :
+pub stored_number :
     {t : Graph} {holding : ℕ → ℕ → Bool} {l : List ℕ} {k : ℕ} (found : List ℕ) → length found ≡ 1 → Labels t holding l k
     → Numbered t holding l (set found 0 k)
-stored-number {t} {holding} {l} {k} found one w = record {
+stored_number {t} {holding} {l} {k} found one w = record {
   labels = rw (get_or-set_same found 0 k 0 (omega (arith, one))) w;
   one = length-set found 0 k ∙ one;
 }
@@ -189,8 +189,8 @@ module _
       columns = s.columns;
       acting = acting;
       some = acts_tells c xs r s.some;
-      labelled = stored-number found one (held_labels c xs tested flags cols acting s.columns holding labels h.held l.labels);
-      grey_held = λ e m. grey-marks c xs tested flags cols acting s.columns grey e (h.grey_held e m);
+      labelled = stored_number found one (held_labels c xs tested flags cols acting s.columns holding labels h.held l.labels);
+      grey_held = λ e m. grey_marks c xs tested flags cols acting s.columns grey e (h.grey_held e m);
       grey_long = h.grey_long;
       tallied = l.sized;
       counted = counts_ext labels marks o.counted;

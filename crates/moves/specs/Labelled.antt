@@ -115,10 +115,10 @@ module _
           members_kept = refl;
         }
 
-        pub task-leaves :
+        pub task_leaves :
             TaskLeaves c xs cols (beside_of labels₀ greyLabels₀ counts₀ sizes₀ found₀ greyFound₀) flags tally' greyTally
             (beside_of labels grey_labels counts sizes found grey_found) a
-        task-leaves = record {
+        task_leaves = record {
           columns = d.columns;
           acting = d.acting;
           says = says;

@@ -8,7 +8,7 @@ use Rattle.paper.specs.Refusal.Rules.{Spin, Permutes}
 use Rattle.laws.specs.Entries.{reached_moves}
 use Rattle.columns.specs.Column.{column_of, Spinning}
 use Rattle.columns.specs.Gauge.{gauge_of}
-use Rattle.column_rules.specs.Acted.{choice_column, acted, acted-spin}
+use Rattle.column_rules.specs.Acted.{choice_column, acted, acted_spin}
 
 -- the permutation of every label that a move can read
 abbrev pub Rows : Call → Choices → List ℕ → Type 0
@@ -32,14 +32,14 @@ module _
     rows_at i h e q = rows (reached_moves c xs l i e) q i h
 
     -- the site's new column, where it is reached and where not
-    pub chosen-column :
+    pub chosen_column :
         (i : ℕ) → i < c.lattice.n
         → cond (reached c xs l i)
         (choice_column c.mode c.form (size c) (gauge_of c.mode (size c) (column_of (size c) P)) p.choices (label_of l i)
         (column_of (size c) (pattern c xs i)))
         (column_of (size c) (pattern c xs i))
         ≡ column_of (size c) (after c p xs l i)
-    chosen-column i hi = go (reached c xs l i) refl
+    chosen_column i hi = go (reached c xs l i) refl
       where
         go :
             (t : Bool) → reached c xs l i ≡ t
@@ -55,5 +55,5 @@ module _
     after_spin i hi k hk = go (reached c xs l i) refl
       where
         go : (t : Bool) → reached c xs l i ≡ t → Spin (cond t (act_by c.mode c p P (label_of l i) (pattern c xs i) k) (pattern c xs i k))
-        go true q = acted-spin c.mode c p (label_of l i) P (pattern c xs i) gauge_at (λ k hk. spins i k hi hk) (rows_at i hi q) k hk
+        go true q = acted_spin c.mode c p (label_of l i) P (pattern c xs i) gauge_at (λ k hk. spins i k hi hk) (rows_at i hi q) k hk
         go false q = spins i k hi hk

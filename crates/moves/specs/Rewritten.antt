@@ -10,20 +10,20 @@ use Rattle.paper.specs.Panel.Input.{member, spin, pattern_of}
 use Rattle.paper.specs.Refusal.Rules.{Distinct}
 use Rattle.columns.specs.Column.{shown, Columns, Inside, Spinning}
 use Rattle.columns.specs.Rows.{Written}
-use Rattle.columns.specs.Laws.{columns-shown}
-use Rattle.columns.specs.Determined.{write-rows-determined}
+use Rattle.columns.specs.Laws.{columns_shown}
+use Rattle.columns.specs.Determined.{write_rows_determined}
 
 module _ {n : ℕ} {g : Group} {xs : List ℤ} {cols : List ℕ} (w : Columns n g.len (pattern_of n g xs) cols) (spins : Spinning n g xs) where
   pub own_written : Written n g.len g cols xs xs
   own_written = record {
     long = refl;
-    group = λ i k h l. sym (columns-shown w i k h l (spins i k h l));
+    group = λ i k h l. sym (columns_shown w i k h l (spins i k h l));
     others = λ i t h o. refl;
     empty = λ _. refl;
   }
 
   pub written_same : {ys : List ℤ} → Written n g.len g cols xs ys → ys ≡ xs
-  written_same {ys} o = write-rows-determined n g cols xs ys xs o own_written
+  written_same {ys} o = write_rows_determined n g cols xs ys xs o own_written
 
 module _ (n : ℕ) (g : Group) (new : List ℕ) (xs : List ℤ) where
   abbrev value : (t i : ℕ) → Placed g.len (member g) t ⊎ Unplaced g.len (member g) t → ℤ

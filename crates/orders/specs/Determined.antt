@@ -17,12 +17,12 @@ entry_determined r k e e' f g = f ∙ sym g
 pub entry_in_determined : (r k e e' : ℕ) → e ≡ row r k → e' ≡ row r k → e ≡ e'
 entry_in_determined = entry_determined
 
-pub row-of-determined :
+pub row_of_determined :
     (r : ℕ) (xs : List ℕ) (c c' : ℕ) (ys ys' : List ℕ) → RowAnswers r xs c ys → RowAnswers r xs c' ys' → (c ≡ c') × (ys ≡ ys')
-row-of-determined r xs zero zero ys ys' f g = (refl, f.is ∙ sym g.is)
-row-of-determined r xs zero (suc c') ys ys' f g = absurd (broken_not_kept (row_rules r xs) (suc c') g.broken f.valid)
-row-of-determined r xs (suc c) zero ys ys' f g = absurd (broken_not_kept (row_rules r xs) (suc c) f.broken g.valid)
-row-of-determined r xs (suc c) (suc c') ys ys' f g =
+row_of_determined r xs zero zero ys ys' f g = (refl, f.is ∙ sym g.is)
+row_of_determined r xs zero (suc c') ys ys' f g = absurd (broken_not_kept (row_rules r xs) (suc c') g.broken f.valid)
+row_of_determined r xs (suc c) zero ys ys' f g = absurd (broken_not_kept (row_rules r xs) (suc c) f.broken g.valid)
+row_of_determined r xs (suc c) (suc c') ys ys' f g =
     (broken_unique (row_rules r xs) (suc c) (suc c') f.broken g.broken, f.same ∙ sym g.same)
 
 pub number_of_determined : (xs : List ℕ) (a a' : Numbered) → NumberAnswers xs a → NumberAnswers xs a' → a ≡ a'

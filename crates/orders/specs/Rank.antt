@@ -23,10 +23,10 @@ unfolding rank
 rank_most p = omega (arith, later_most p 0, later_most p 1, later_most p 2, later_most p 3)
 
 -- of a permutation's entries below v, those before place i, the one there, and those behind it
-taken-apart :
+taken_apart :
     (p : ℕ → ℕ) → Permutes 5 p → (v i : ℕ) → v ≤ 5 → i < 5
     → under p v i + bit (ltb (p i) v) + count_where (λ j. ltb (p (i + 1 + j)) v) (4 - i) ≡ v
-taken-apart p h v i lv li =
+taken_apart p h v i lv li =
     let e : i + 1 + (4 - i) ≡ 5 = omega arith in
     omega (arith, under_all 5 p h v lv, count_suc (λ j. ltb (p j) v) i, rw e at (count_split (λ j. ltb (p j) v) (i + 1) (4 - i)))
 
@@ -36,8 +36,8 @@ module _ (p q : ℕ → ℕ) (hp : Permutes 5 p) (hq : Permutes 5 q) where
   same_later i l a =
       omega (
         arith,
-        taken-apart p hp (p i) i (omega (arith, hp.within i l)) l,
-        taken-apart q hq (q i) i (omega (arith, hq.within i l)) l,
+        taken_apart p hp (p i) i (omega (arith, hp.within i l)) l,
+        taken_apart q hq (q i) i (omega (arith, hq.within i l)) l,
         front,
         own,
         a i (omega arith),
@@ -53,8 +53,8 @@ module _ (p q : ℕ → ℕ) (hp : Permutes 5 p) (hq : Permutes 5 q) where
   less_later i l a b =
       omega (
         arith,
-        taken-apart p hp (q i) i (omega (arith, hq.within i l)) l,
-        taken-apart q hq (q i) i (omega (arith, hq.within i l)) l,
+        taken_apart p hp (q i) i (omega (arith, hq.within i l)) l,
+        taken_apart q hq (q i) i (omega (arith, hq.within i l)) l,
         front,
         own,
         here,

@@ -5,9 +5,9 @@ use Rattle.paper.specs.Panel.Input.{Call, Choices, Buffers}
 use Rattle.paper.specs.Answer.Totals.{KeepAnswers}
 use Rattle.laws.specs.KeepDetermined.{SameKept, keep_determined}
 
-pub overlap-step-determined :
+pub overlap_step_determined :
     (keeping : Bool) (c : Call) (p : Choices) (b : Buffers) (ts : List ℤ) (y z : Buffers) (us vs : List ℤ) (a a' : Answer)
     → KeepAnswers keeping c p b ts a y us
     → KeepAnswers keeping c p b ts a' z vs
     → SameKept a y us a' z vs
-overlap-step-determined = keep_determined
+overlap_step_determined = keep_determined

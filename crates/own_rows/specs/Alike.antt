@@ -32,18 +32,18 @@ flip_at m k true f g e h = e (partner m k) (partner_lt m k h)
 flip_at m k false f g e h = e k h
 
 -- a component's choice makes the same of two patterns that agree
-act-own :
+act_own :
     (m : Mode) (c : Call) (p : Choices) (r : ℕ) (P Q f g : Pattern)
     → (is_perm m ≡ true → Permutes (size c) (perm_of c p r))
     → (is_gperm m ≡ true → Agree (size c) P Q)
     → Agree (size c) f g
     → Agree (size c) (act_by m c p P r f) (act_by m (own_of c) p Q r g)
-act-own Houd c p r P Q f g h u e k l = cc (e k l)
-act-own Pair c p r P Q f g h u e k l = flip_at (size c) k (flip_of c p r) f g e l
-act-own Jorg c p r P Q f g h u e k l = flip_at (size c) k (flip_of c p r) f g e l
-act-own Perm c p r P Q f g h u e k l = e (perm_of c p r k) ((h refl).within k l)
-act-own Gperm c p r P Q f g h u e k l = let b = (h refl).within k l in cc (u refl k l, u refl (perm_of c p r k) b, e (perm_of c p r k) b)
-act-own Cmr c p r P Q f g h u e k l = cc (e k l)
+act_own Houd c p r P Q f g h u e k l = cc (e k l)
+act_own Pair c p r P Q f g h u e k l = flip_at (size c) k (flip_of c p r) f g e l
+act_own Jorg c p r P Q f g h u e k l = flip_at (size c) k (flip_of c p r) f g e l
+act_own Perm c p r P Q f g h u e k l = e (perm_of c p r k) ((h refl).within k l)
+act_own Gperm c p r P Q f g h u e k l = let b = (h refl).within k l in cc (u refl k l, u refl (perm_of c p r k) b, e (perm_of c p r k) b)
+act_own Cmr c p r P Q f g h u e k l = cc (e k l)
 
 module _ (c : Call) (xs rows : List ℤ) (a : OwnAlike c xs rows) where
   abbrev v : Call
@@ -115,17 +115,17 @@ module _ (c : Call) (xs rows : List ℤ) (a : OwnAlike c xs rows) where
   unfolding reached
   reached_own l i h = cc (acts_own i h)
 
-  pub final-own :
+  pub final_own :
       (p : Choices) (l g : List ℕ) (i k : ℕ)
       → i < c.lattice.n
       → k < size c
       → (reached c xs l i ≡ true → is_perm c.mode ≡ true → Permutes (size c) (perm_of c p (label_of l i)))
       → final c p xs l g i k ≡ final (own_of c) p rows l g i k
   unfolding final
-  final-own p l g i k hi hk perms = cc (after_own (reached c xs l i) refl, reached_own g i hi)
+  final_own p l g i k hi hk perms = cc (after_own (reached c xs l i) refl, reached_own g i hi)
     where
       after_own : (t : Bool) → reached c xs l i ≡ t → after c p xs l i k ≡ after v p rows l i k
       after_own true e =
           rw (← reached_own l i hi, e)
-          (act-own c.mode c p (label_of l i) P Q (pattern c xs i) (pattern v rows i) (perms e) same_reference (a.patterns i hi) k hk)
+          (act_own c.mode c p (label_of l i) P Q (pattern c xs i) (pattern v rows i) (perms e) same_reference (a.patterns i hi) k hk)
       after_own false e = rw (← reached_own l i hi, e) (a.patterns i hi k hk)

@@ -17,14 +17,14 @@ use Rattle.paper.specs.Refusal.Kept.{named, Valid, valid_of, valid_kept}
 use Rattle.paper.specs.Answer.Move.{SeenAll, SeenOne, Seen, member_bonds, SeedHeld, Turns, Answers, Accepted, Accepted.idle, Accepted.held, Accepted.moved}
 use Rattle.paper.specs.Answer.Totals.{total, TotalsAsked, kept_rules, kept_valid, kept_asked, asked_kept}
 use Rattle.laws.specs.Forms.{grows_one, grows_moves}
-use Rattle.laws.specs.Unique.{HoldAlike, GroupIs, label_lt, spins_equal, joined_ext, numbered_ext, members-ext, counts_ext, sizes_ext}
+use Rattle.laws.specs.Unique.{HoldAlike, GroupIs, label_lt, spins_equal, joined_ext, numbered_ext, members_ext, counts_ext, sizes_ext}
 use Rattle.laws.specs.Entries.{perm_of, reached_moves, perms_of, perms_grown}
 use Rattle.laws.specs.AnswersLocal.{with_spins}
 use Rattle.packing.specs.Bytes.{own_group}
 use Rattle.packing.specs.Gathered.{group_rows, length_group, own_of}
 use Rattle.packing.specs.Laws.{own_grouped}
-use Rattle.own_rows.specs.PutBack.{group_totals, length_totals, total_at, PutBack, own_sees, back-sees}
-use Rattle.own_rows.specs.Alike.{OwnAlike, acts_own, holds_own, grey_own, final-own}
+use Rattle.own_rows.specs.PutBack.{group_totals, length_totals, total_at, PutBack, own_sees, back_sees}
+use Rattle.own_rows.specs.Alike.{OwnAlike, acts_own, holds_own, grey_own, final_own}
 
 -- the buffers of the call on the group's own rows
 abbrev pub own_buffers : Call → Buffers → Buffers
@@ -132,10 +132,10 @@ module _ {c : Call} {p : Choices} {b : Buffers} (v : Valid c p b) where
     fit = record { cuts = v.fit.cuts; chosen = chosen_own; seeded = seeded_own };
   }
 
-  pub asked-own :
+  pub asked_own :
       (keeping : Bool) (ts : List ℤ) → TotalsAsked keeping c.lattice (group_names c.group) ts
       → TotalsAsked keeping (own_of c).lattice (group_names (own_group (size c))) (group_totals c ts)
-  asked-own keeping ts a = record {
+  asked_own keeping ts a = record {
     lengths = λ e. record { couplings = (a.lengths e).couplings; totals = length_totals c ts };
     couplings = a.couplings;
     small = λ e t h. at e t h.inside;
@@ -195,7 +195,7 @@ module _ {c : Call} {p : Choices} {b : Buffers} (v : Valid c p b) where
 
   one_there : {b' : Buffers} → grows_by c.form ≡ true → SeenOne o (own_buffers c b) b' → (ys : List ℤ) → SeenOne c b (with_spins b' ys)
   one_there {b'} g w ys = record {
-    members = λ t. members-ext (graph c) (member_bonds o rows) (member_bonds c xs) c.seed b'.members bonds (w.members (sym seed ∙ t));
+    members = λ t. members_ext (graph c) (member_bonds o rows) (member_bonds c xs) c.seed b'.members bonds (w.members (sym seed ∙ t));
     none = λ t. w.none (sym seed ∙ t);
     labels_kept = w.labels_kept;
     grey_kept = w.grey_kept;
@@ -225,14 +225,14 @@ module _ {c : Call} {p : Choices} {b : Buffers} (v : Valid c p b) where
   moves_there : (l g : List ℕ) {zs : List ℤ} → PermsAt l → Moves o p rows l g zs → (ys : List ℤ) → PutBack c xs zs ys → Moves c p xs l g ys
   moves_there l g perms w ys r = record {
     long = r.long;
-    group = λ i k hi hk. back-sees c few r i hi k hk ∙ (w.group i k hi hk ∙ sym (final-own c xs rows alike p l g i k hi hk (perms i hi)));
+    group = λ i k hi hk. back_sees c few r i hi k hk ∙ (w.group i k hi hk ∙ sym (final_own c xs rows alike p l g i k hi hk (perms i hi)));
     others = r.others;
   }
 
   turned_there : {m : List ℕ} {zs : List ℤ} → grows_by c.form ≡ true → Turns o p rows m zs → (ys : List ℤ) → PutBack c xs zs ys → Turns c p xs m ys
   turned_there {m} g w ys r = record {
     blue = w.blue;
-    joined = members-ext (graph c) (holds o rows) (holds c xs) c.seed w.blue blue w.joined;
+    joined = members_ext (graph c) (holds o rows) (holds c xs) c.seed w.blue blue w.joined;
     moved = moves_there w.blue m (λ i hi e q. perms_grown v g (rw (grows_moves c.form g, q)) (label_of w.blue i)) w.moved ys r;
   }
 
@@ -241,33 +241,33 @@ module _ {c : Call} {p : Choices} {b : Buffers} (v : Valid c p b) where
   stays {zs} {ys} still r = spins_equal c ys xs v.sound.ranged.lattice.n_low r.long back r.others
     where
       back : GroupIs c ys (pattern c xs)
-      back i k hi hk = back-sees c few r i hi k hk ∙ (ap (λ (z : List ℤ). pattern o z i k) still ∙ sym (own_sees c few xs i hi k hk))
+      back i k hi hk = back_sees c few r i hi k hk ∙ (ap (λ (z : List ℤ). pattern o z i k) still ∙ sym (own_sees c few xs i hi k hk))
 
 -- ---- together
 
 pub own_kept : (c : Call) (p : Choices) (b : Buffers) → Kept (rules c p b) → Kept (rules (own_of c) p (with_spins b (group_rows c b.spins)))
 own_kept c p b k = valid_kept (own_of c) p (own_buffers c b) (valid_own (valid_of c p b k))
 
-pub own-kept-totals :
+pub own_kept_totals :
     (keeping : Bool) (c : Call) (p : Choices) (b : Buffers) (ts : List ℤ) → Kept (kept_rules keeping c p b ts)
     → Kept (kept_rules keeping (own_of c) p (with_spins b (group_rows c b.spins)) (group_totals c ts))
-own-kept-totals keeping c p b ts k =
+own_kept_totals keeping c p b ts k =
     let v = kept_valid keeping c p b ts k in
-    asked_kept keeping (own_of c) p (own_buffers c b) (group_totals c ts) (valid_own v) (asked-own v keeping ts (kept_asked keeping c p b ts k))
+    asked_kept keeping (own_of c) p (own_buffers c b) (group_totals c ts) (valid_own v) (asked_own v keeping ts (kept_asked keeping c p b ts k))
 
-pub own-answers :
+pub own_answers :
     (c : Call) (p : Choices) (b : Buffers) → Kept (rules c p b)
     → (a : Answer) → Accepted a
     → (b' : Buffers) → Answers (own_of c) p (with_spins b (group_rows c b.spins)) a b'
     → (ys : List ℤ) → PutBack c b.spins b'.spins ys
     → Answers c p b a (with_spins b' ys)
-own-answers c p b k Idle idle b' w ys r = let v = valid_of c p b k in record {
+own_answers c p b k Idle idle b' w ys r = let v = valid_of c p b k in record {
   valid = k;
   none = λ i h. acts_same v i h ∙ w.none i h;
   still = stays v w.still r;
   seen = seen_there v w.seen ys;
 }
-own-answers c p b k Held held b' w ys r = let v = valid_of c p b k in record {
+own_answers c p b k Held held b' w ys r = let v = valid_of c p b k in record {
   valid = k;
   some = some_there v w.some;
   one = w.one;
@@ -275,7 +275,7 @@ own-answers c p b k Held held b' w ys r = let v = valid_of c p b k in record {
   still = stays v w.still r;
   seen = seen_there v w.seen ys;
 }
-own-answers c p b k Moved moved b' w ys r = let v = valid_of c p b k in record {
+own_answers c p b k Moved moved b' w ys r = let v = valid_of c p b k in record {
   valid = k;
   some = some_there v w.some;
   free = λ one h. w.free one (held_back v h);

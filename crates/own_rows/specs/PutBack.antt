@@ -39,23 +39,23 @@ pub record PutTotals (c : Call) (ts us' us : List ℤ) : Type 0 where
 pub own_sees : (c : Call) → size c ≤ 8 → (xs : List ℤ) (i : ℕ) → i < c.lattice.n → Agree (size c) (pattern c xs i) (pattern (own_of c) (group_rows c xs) i)
 own_sees c few xs i hi k hk = sym (own_pattern (size c) few c.lattice.n (group_rows c xs) i k hk ∙ group_at c xs i k hi hk)
 
-pub back-sees :
+pub back_sees :
     (c : Call) → size c ≤ 8 → {xs rows ys : List ℤ} → PutBack c xs rows ys
     → (i : ℕ) → i < c.lattice.n → Agree (size c) (pattern c ys i) (pattern (own_of c) rows i)
-back-sees c few {xs} {rows} r i hi k hk = r.group i k hi hk ∙ sym (own_pattern (size c) few c.lattice.n rows i k hk)
+back_sees c few {xs} {rows} r i hi k hk = r.group i k hi hk ∙ sym (own_pattern (size c) few c.lattice.n rows i k hk)
 
 -- ---- lists that agree on the group
 
 -- have the same rows
-pub own-rows-kept :
+pub own_rows_kept :
     (c : Call) (xs ys : List ℤ) → ((i : ℕ) → i < c.lattice.n → Agree (size c) (pattern c xs i) (pattern c ys i)) → group_rows c xs ≡ group_rows c ys
-own-rows-kept c xs ys same =
+own_rows_kept c xs ys same =
     rows_ext (size c) c.lattice.n (group_rows c xs) (group_rows c ys) (length_group c xs) (length_group c ys)
     (λ k i hk hi. group_at c xs i k hi hk ∙ (same i hi k hk ∙ sym (group_at c ys i k hi hk)))
 
-pub own-totals-kept :
+pub own_totals_kept :
     (c : Call) (ts us : List ℤ) → ((k : ℕ) → k < size c → total ts (system c k) ≡ total us (system c k)) → group_totals c ts ≡ group_totals c us
-own-totals-kept c ts us same =
+own_totals_kept c ts us same =
     ext_get_or (pos 0) (group_totals c ts) (group_totals c us) (length_totals c ts ∙ sym (length_totals c us)) (λ k h. at k (rw (length_totals c ts) at h))
   where
     at : (k : ℕ) → k < size c → get_or (group_totals c ts) k (pos 0) ≡ get_or (group_totals c us) k (pos 0)

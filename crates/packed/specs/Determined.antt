@@ -9,7 +9,7 @@ use Rattle.paper.specs.Answer.Totals.{KeepAnswers}
 use Rattle.laws.specs.AnswersLocal.{with_spins}
 use Rattle.laws.specs.KeepDetermined.{SameKept, keep_determined}
 use Rattle.packing.specs.Bytes.{rows_of}
-use Rattle.packing.specs.Laws.{length_rows, rows-injective}
+use Rattle.packing.specs.Laws.{length_rows, rows_injective}
 use Rattle.packed.specs.Lengths.{cancel}
 use Rattle.packed.specs.Packed.{lent_of, Bytes, PackedAnswers}
 
@@ -29,9 +29,9 @@ same_bytes m a xs ys zs some same = go a (λ w. some w)
 
     go : (a : Answer) → (Accepted a → 1 ≤ m) → Bytes a m xs ys → Bytes a m xs zs → ys ≡ zs
     go (Refused r) h p q = p ∙ sym q
-    go Idle h p q = rows-injective m ys zs p q (long (h idle)) same
-    go Held h p q = rows-injective m ys zs p q (long (h held)) same
-    go Moved h p q = rows-injective m ys zs p q (long (h moved)) same
+    go Idle h p q = rows_injective m ys zs p q (long (h idle)) same
+    go Held h p q = rows_injective m ys zs p q (long (h held)) same
+    go Moved h p q = rows_injective m ys zs p q (long (h moved)) same
 
 module _
     (keeping : Bool) (c : Call) (p : Choices) (xs ys zs l g q s e f h l₁ g₁ q₁ s₁ e₁ f₁ h₁ l₂ g₂ q₂ s₂ e₂ f₂ h₂ : List ℕ) (ts us vs : List ℤ) (a a' : Answer)

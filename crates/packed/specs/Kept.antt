@@ -20,9 +20,9 @@ module _
     (keeping : Bool) (c : Call) (p : Choices) (n : ℕ) (rows : List ℤ) (b : List ℤ → Buffers) (ts : List ℤ) (a : Answer) (ys : List ℕ)
     (b' : List ℤ → Buffers) (ts' : List ℤ) (long : length rows ≡ size c * n) (spins : Spins n (AllSystems (size c)) rows)
   where
-    pub through-packing :
+    pub through_packing :
         PackedAnswers keeping c p (bytes_of (size c) n rows) b ts a ys b' ts' → KeepAnswers keeping c p (b rows) ts a (b' (rows_of (size c) ys)) ts'
-    through-packing w =
+    through_packing w =
         subst (λ (us : List ℤ). KeepAnswers keeping c p (b us) ts a (b' (rows_of (size c) ys)) ts') (pack_unpack (size c) n rows long spins) w.rows
 
 -- ---- bytes that stay
@@ -48,9 +48,9 @@ module _
         ∙ column_back m n xs long low i hi)
 
     -- so that of a site whose component has a pinned site j stays, in every mode, form and answer
-    pub held-byte :
+    pub held_byte :
         (p : Choices) (b b' : Buffers) → b.spins ≡ rows_of m xs → b'.spins ≡ rows_of m ys → (j : ℕ) (hj : j < n) → pinned c j ≡ true
         → Joined (graph c) (holds c b.spins) i j → (a : Answer) → Answers c p b a b' → get_or ys i 0 ≡ get_or xs i 0
-    held-byte p b b' e e' j hj pin q a w = byte_stays (λ k h.
+    held_byte p b b' e e' j hj pin q a w = byte_stays (λ k h.
         ap (λ (us : List ℤ). pattern c us i k) (sym e')
         ∙ (held_still c p b b' i j hi hj pin q a w k h ∙ ap (λ (us : List ℤ). pattern c us i k) e))

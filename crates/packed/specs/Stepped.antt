@@ -13,17 +13,17 @@ use Rattle.packing.specs.Bytes.{Narrow}
 use Rattle.packed.specs.Packed.{Bytes, Through}
 
 -- tested input is not refused
-pub answered-bytes :
+pub answered_bytes :
     (c : Call) (p : Choices) (b b' : Buffers) (m : ℕ) (xs ys : List ℕ) → Valid c p b → Narrow m ys → (a : Answer) → Answers c p b a b' → Bytes a m xs ys
-answered-bytes c p b b' m xs ys v low (Refused r) w = absurd (broken_not_kept (rules c p b) _ w.why (valid_kept c p b v))
-answered-bytes c p b b' m xs ys v low Idle w = low
-answered-bytes c p b b' m xs ys v low Held w = low
-answered-bytes c p b b' m xs ys v low Moved w = low
+answered_bytes c p b b' m xs ys v low (Refused r) w = absurd (broken_not_kept (rules c p b) _ w.why (valid_kept c p b v))
+answered_bytes c p b b' m xs ys v low Idle w = low
+answered_bytes c p b b' m xs ys v low Held w = low
+answered_bytes c p b b' m xs ys v low Moved w = low
 
 -- bytes that were copied
-pub through-copy :
+pub through_copy :
     {m : ℕ} {Told : List ℤ → Answer → List ℤ → Type 0} {xs ys new : List ℕ} {a : Answer} → ys ≡ new → Through m Told xs a new → Through m Told xs a ys
-through-copy {m} {Told} {xs} {ys} {new} {a} e w = subst (λ (zs : List ℕ). Through m Told xs a zs) (sym e) w
+through_copy {m} {Told} {xs} {ys} {new} {a} e w = subst (λ (zs : List ℕ). Through m Told xs a zs) (sym e) w
 
 -- what a task on columns leaves has no bit too many
 pub low_of : {c : Call} {p : Choices} {xs new : List ℕ} {b b' : Beside} {a : Answer} → RunLeaves c p xs b a new b' → Narrow (size c) new

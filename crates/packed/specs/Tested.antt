@@ -162,10 +162,10 @@ module _ (m n top : ℕ) (columns : List ℕ) (long : length columns ≡ n) (som
   narrow_of : ((k : ℕ) → k < length columns → get_or columns k 0 ≤ top) → Narrow m columns
   narrow_of h i l = omega (arith, h i l, is, pow_pos m)
 
-  pub spins-tell :
+  pub spins_tell :
       (r : Bool) → Tells r ((k : ℕ) → k < length columns → get_or columns k 0 ≤ top) → Tells r (Spins n (AllSystems m) (rows_of m columns))
-  spins-tell true h = rows_spins m n columns long (narrow_of h)
-  spins-tell false h = λ s. h (λ k l. let q = spins_narrow m n columns long some s k l in omega (arith, q, is))
+  spins_tell true h = rows_spins m n columns long (narrow_of h)
+  spins_tell false h = λ s. h (λ k l. let q = spins_narrow m n columns long some s k l in omega (arith, q, is))
 
 -- ---- what bytes that are tested stand for
 pub bytes_long : (m n : ℕ) (xs : List ℕ) → 1 ≤ m → length (rows_of m xs) ≡ m * n → length xs ≡ n

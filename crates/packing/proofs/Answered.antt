@@ -33,9 +33,9 @@ top_is m few =
     ap (λ (x : ℕ). (2 ^ x - 1) / 2 ^ (8 - m)) e ∙ (ap (λ (x : ℕ). x / 2 ^ (8 - m)) (ones_split m (8 - m)) ∙ high (2 ^ m - 1) (8 - m) (ones_lt (8 - m)))
 
 -- no byte is above it just if none has a bit too many
-pub narrow-tells :
+pub narrow_tells :
     (r : Bool) (m top : ℕ) (xs : List ℕ) → top ≡ 2 ^ m - 1 → Tells r ((k : ℕ) → k < length xs → get_or xs k 0 ≤ top) → Tells r (Narrow m xs)
-narrow-tells r m top xs e t =
+narrow_tells r m top xs e t =
     (same (Narrow m xs) (λ h i l. lt_of_le_ones m (rw e at (h i l))) (λ h i l. rw e (le_ones m (h i l)))
     (said r ((k : ℕ) → k < length xs → get_or xs k 0 ≤ top) t)).says
 

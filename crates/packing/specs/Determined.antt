@@ -19,12 +19,12 @@ pub record Same {A : Type 0} (r s : ℕ) (y z : List A) : Type 0 where
   pub answer : r ≡ s
   pub buffer : y ≡ z
 
-pub answers-determined :
+pub answers_determined :
     {A : Type 0} (rules : List Rule) (new before : List A) (r s : ℕ) (y z : List A)
     → Answers rules new before r y
     → Answers rules new before s z
     → Same r s y z
-answers-determined rules new before r s y z p q = record { answer = same; buffer = go (ℕ_discrete r 0) }
+answers_determined rules new before r s y z p q = record { answer = same; buffer = go (ℕ_discrete r 0) }
   where
     same : r ≡ s
     same = verdict_unique rules r s p.verdict q.verdict
@@ -33,16 +33,16 @@ answers-determined rules new before r s y z p q = record { answer = same; buffer
     go (yes e) = p.written e ∙ sym (q.written (sym same ∙ e))
     go (no e) = p.kept e ∙ sym (q.kept (λ o. e (same ∙ o)))
 
-pub pack-determined :
+pub pack_determined :
     (n m : ℕ) (rows : List ℤ) (columns : List ℕ) (r s : ℕ) (y z : List ℕ)
     → PackAnswers n m rows columns r y
     → PackAnswers n m rows columns s z
     → Same r s y z
-pack-determined n m rows columns = answers-determined (pack_rules n m rows columns) (bytes_of m n rows) columns
+pack_determined n m rows columns = answers_determined (pack_rules n m rows columns) (bytes_of m n rows) columns
 
-pub unpack-determined :
+pub unpack_determined :
     (n m : ℕ) (columns : List ℕ) (rows : List ℤ) (r s : ℕ) (y z : List ℤ)
     → UnpackAnswers n m columns rows r y
     → UnpackAnswers n m columns rows s z
     → Same r s y z
-unpack-determined n m columns rows = answers-determined (unpack_rules n m columns rows) (rows_of m columns) rows
+unpack_determined n m columns rows = answers_determined (unpack_rules n m columns rows) (rows_of m columns) rows

@@ -13,7 +13,7 @@ use Rattle.paper.specs.Refusal.Rules.{Spin, AllSystems, Spins, Grouped}
 use Rattle.lattice.specs.Spinning.{AllSpins, all_rows}
 use Rattle.columns.specs.Column.{shown, shown_column, shown_spin, column_of, column_lt, column_ext, Columns, Inside}
 use Rattle.columns.specs.Bits.{column_same}
-use Rattle.columns.specs.Determined.{columns_unique, write-rows-determined}
+use Rattle.columns.specs.Determined.{columns_unique, write_rows_determined}
 use Rattle.columns.specs.Rows.{Written}
 use Rattle.packing.specs.Bytes.{seen, rows_of, bytes_of, Narrow, own_group}
 
@@ -107,9 +107,9 @@ module _ (m n : ℕ) (xs : List ℕ) (long : length xs ≡ n) where
         at i h = let q : i < n = rw (length_table n f) at h in table_at n f i q ∙ column_back i q
 
 -- so no two lists of bytes have the same rows
-pub rows-injective :
+pub rows_injective :
     (m : ℕ) (xs zs : List ℕ) → Narrow m xs → Narrow m zs → length xs ≡ length zs → rows_of m xs ≡ rows_of m zs → xs ≡ zs
-rows-injective m xs zs narrow low e same =
+rows_injective m xs zs narrow low e same =
     sym (unpack_pack m (length xs) xs refl narrow) ∙ (ap (bytes_of m (length xs)) same ∙ unpack_pack m (length xs) zs (sym e) low)
 
 -- ---- the bytes of rows
@@ -205,4 +205,4 @@ module _ (m : ℕ) (few : m ≤ 8) where
               ∙ sym (get_or-eq_default rows (pos 0) (omega arith))
 
       pub written_rows : (ys : List ℤ) → Written n m (own_group m) zs rows ys → ys ≡ rows_of m zs
-      written_rows ys w = write-rows-determined n (own_group m) zs rows ys (rows_of m zs) w rows_written
+      written_rows ys w = write_rows_determined n (own_group m) zs rows ys (rows_of m zs) w rows_written

@@ -13,9 +13,9 @@ use Rattle.moves.specs.Tested.{ready}
 use Rattle.moves.specs.Rewritten.{rewritten, is_written}
 use Rattle.moves.specs.Leaves.{RunAsks}
 use Rattle.perform.specs.Kept.{KeepsFor, between}
-use Rattle.grow.specs.Determined.{run-grow-totals-determined}
+use Rattle.grow.specs.Determined.{run_grow_totals_determined}
 
-pub run-form-determined :
+pub run_form_determined :
     (keeping : Bool) (c : Call) (p : Choices) (b y z : Buffers) (ts us vs : List ℤ) (a a' : Answer)
     → TotalsReady keeping c.lattice c.group ts
     → Answers c p b a y
@@ -23,12 +23,12 @@ pub run-form-determined :
     → Answers c p b a' z
     → TotalsAfter keeping c.lattice b.spins ts z.spins vs
     → SameKept a y us a' z vs
-run-form-determined keeping c p b y z ts us vs a a' r f h g k =
+run_form_determined keeping c p b y z ts us vs a a' r f h g k =
     let s : Same a y a' z = determined c p b y z a a' f g in
     record {
       answer = s.answer;
       buffers = s.buffers;
-      totals = run-grow-totals-determined keeping c.lattice c.group b.spins ts y.spins us vs r h (rw (sym s.buffers) at k);
+      totals = run_grow_totals_determined keeping c.lattice c.group b.spins ts y.spins us vs r h (rw (sym s.buffers) at k);
     }
 
 -- on columns: beside what `moves` says of the task, one content of the totals
@@ -45,10 +45,10 @@ module _
         between c p (buffers_of k.rows labels grey_labels counts sizes [] found grey_found) k.valid k.columns
         (is_written c.lattice.n c.group new k.rows s.n_low s.inside s.distinct)
 
-    pub run-labelled-determined :
+    pub run_labelled_determined :
         TotalsReady keeping c.lattice c.group ts
         → KeepsFor keeping c.lattice c.group cols new ts us
         → KeepsFor keeping c.lattice c.group cols new ts vs
         → us ≡ vs
-    run-labelled-determined r f h =
-        run-grow-totals-determined keeping c.lattice c.group k.rows ts ys us vs r (f.each k.rows ys apart) (h.each k.rows ys apart)
+    run_labelled_determined r f h =
+        run_grow_totals_determined keeping c.lattice c.group k.rows ts ys us vs r (f.each k.rows ys apart) (h.each k.rows ys apart)

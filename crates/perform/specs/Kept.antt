@@ -9,7 +9,7 @@ use Rattle.paper.specs.Refusal.Kept.{Valid}
 use Rattle.paper.specs.Answer.Totals.{TotalsReady, TotalsAfter}
 use Rattle.columns.specs.Column.{Columns, Spinning}
 use Rattle.columns.specs.Rows.{Written}
-use Rattle.columns.specs.Laws.{columns-shown}
+use Rattle.columns.specs.Laws.{columns_shown}
 use Rattle.moves.specs.Tested.{ready}
 use Rattle.moves.specs.Rewritten.{own_written}
 use Rattle.totals.specs.Contract.{Bringable, Between}
@@ -24,10 +24,10 @@ pub record KeepsFor (keeping : Bool) (g : Lattice) (group : Group) (cols new : L
   pub each : (xs ys : List ℤ) → Between g.n group cols new xs ys → TotalsAfter keeping g xs ts ys ts'
 
 -- rows whose columns did not change are written from them
-pub still-written :
+pub still_written :
     {n : ℕ} {g : Group} {xs : List ℤ} {cols new : List ℕ} → Columns n g.len (pattern_of n g xs) cols → Spinning n g xs → new ≡ cols
     → Written n g.len g new xs xs
-still-written w spins e = rw e (own_written w spins)
+still_written w spins e = rw e (own_written w spins)
 
 module _ (c : Call) (p : Choices) (b : Buffers) (v : Valid c p b) where
   -- the group's columns before the task and after it
@@ -36,7 +36,7 @@ module _ (c : Call) (p : Choices) (b : Buffers) (v : Valid c p b) where
       → Written c.lattice.n (size c) c.group new b.spins ys
       → Between c.lattice.n c.group cols new b.spins ys
   between w o = record {
-    before = λ i k li lk. sym (columns-shown w i k li lk ((ready c p b v.sound).spins i k li lk));
+    before = λ i k li lk. sym (columns_shown w i k li lk ((ready c p b v.sound).spins i k li lk));
     after = o.group;
     others = o.others;
   }

@@ -24,10 +24,10 @@ abbrev GroupSpins : Call → List ℤ → Type 0
 GroupSpins c xs = Spins c.lattice.n (Named c.lattice.s (group_names c.group)) xs
 
 -- moved by the lists l and g, with the permutations that l asks for
-moved-spins :
+moved_spins :
     (c : Call) (p : Choices) (b : Buffers) → Valid c p b → (l g : List ℕ) (ys : List ℤ) → (moves c.form ≡ true → Rows c p l)
     → Moves c p b.spins l g ys → GroupSpins c ys
-moved-spins c p b v l g ys perms m t i w hi =
+moved_spins c p b v l g ys perms m t i w hi =
     subst (λ (u : ℕ). Spin (spin c.lattice.n ys u i)) w.is
     (rw (m.group i w.place hi w.below)
     (final_spin c p b.spins l g (ready c p b v.sound) v.fit.chosen.reference perms i w.place hi w.below))
@@ -39,12 +39,12 @@ gone_spins c p b b' w = go (by_form c.form)
     v = valid_of c p b w.valid
 
     go : (labels_by c.form ≡ true) ⊎ (grows_by c.form ≡ true) → GroupSpins c b'.spins
-    go (inl f) = moved-spins c p b v b'.labels b'.grey_labels b'.spins perms (w.moved f)
+    go (inl f) = moved_spins c p b v b'.labels b'.grey_labels b'.spins perms (w.moved f)
       where
         perms : moves c.form ≡ true → Rows c p b'.labels
         perms e q i hi =
             perms_of v (rw (e, q)) (label_of b'.labels i) (label_lt (graph c) (holds c b.spins) b'.labels (w.seen.all f).labels.labels i hi)
-    go (inr f) = let m = w.turned f in moved-spins c p b v m.blue b'.members b'.spins perms m.moved
+    go (inr f) = let m = w.turned f in moved_spins c p b v m.blue b'.members b'.spins perms m.moved
       where
         perms : moves c.form ≡ true → Rows c p (w.turned f).blue
         perms e q i hi = perms_grown v f (rw (e, q)) (label_of (w.turned f).blue i)

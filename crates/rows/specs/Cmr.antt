@@ -87,10 +87,10 @@ rejudged form = cmr form (ring (pos 1 ∷ pos 1 ∷ pos 1 ∷ [])) (whole 4) (de
 abbrev rejudged_after : Buffers
 rejudged_after = buffers (+ ∷ + ∷ - ∷ - ∷ - ∷ - ∷ []) (0 ∷ 0 ∷ 1 ∷ []) (0 ∷ 0 ∷ 1 ∷ []) (0 ∷ 1 ∷ 1 ∷ 0 ∷ []) (2 ∷ 1 ∷ 0 ∷ 0 ∷ []) 2 2
 
-pub judged-before-sw :
+pub judged_before_sw :
     Answers (rejudged Sw) (choosing (1 ∷ 0 ∷ 0 ∷ []) (1 ∷ 0 ∷ 0 ∷ [])) (before3 (+ ∷ + ∷ - ∷ + ∷ + ∷ - ∷ [])) Moved rejudged_after
 unfolding every any holds holds_grey acts size_of is_first count_where has_one reached final table mul div lt le of_int round
-judged-before-sw =
+judged_before_sw =
     goes_by (rejudged Sw) (choosing (1 ∷ 0 ∷ 0 ∷ []) (1 ∷ 0 ∷ 0 ∷ [])) (before3 (+ ∷ + ∷ - ∷ + ∷ + ∷ - ∷ [])) rejudged_after
     (0 ∷ 0 ∷ 0 ∷ []) (0 ∷ 0 ∷ 0 ∷ []) refl (λ e. never (sym e)) refl
 

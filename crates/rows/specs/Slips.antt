@@ -36,31 +36,31 @@ abbrev before2 : List ℤ → Buffers
 before2 spins = buffers spins (9 ∷ 9 ∷ []) (9 ∷ 9 ∷ 9 ∷ []) (9 ∷ 9 ∷ 9 ∷ 9 ∷ []) 9
 
 -- "Following forward neighbours only, so a patch splits": site 2's bond leads back to site 0, and these two alone act
-pub patch-whole :
+pub patch_whole :
     Answers (plain Perm Sw ring (first 2)) (permuting (1 ∷ 0 ∷ 1 ∷ 0 ∷ 1 ∷ 0 ∷ [])) (before3 (+ ∷ + ∷ + ∷ - ∷ + ∷ - ∷ [])) Moved
     (buffers (- ∷ + ∷ - ∷ + ∷ + ∷ + ∷ []) (0 ∷ 1 ∷ 0 ∷ []) (0 ∷ 0 ∷ 1 ∷ 0 ∷ []) (2 ∷ 0 ∷ 0 ∷ 0 ∷ []) 2)
 unfolding every any holds acts differs size_of is_first count_where has_one reached final table
-patch-whole =
+patch_whole =
     goes_by (plain Perm Sw ring (first 2)) (permuting (1 ∷ 0 ∷ 1 ∷ 0 ∷ 1 ∷ 0 ∷ [])) (before3 (+ ∷ + ∷ + ∷ - ∷ + ∷ - ∷ []))
     (buffers (- ∷ + ∷ - ∷ + ∷ + ∷ + ∷ []) (0 ∷ 1 ∷ 0 ∷ []) (0 ∷ 0 ∷ 1 ∷ 0 ∷ []) (2 ∷ 0 ∷ 0 ∷ 0 ∷ []) 2)
     (0 ∷ 0 ∷ 0 ∷ []) [] refl (λ _. (refl, refl)) refl
 
 -- a component's choice is the one at its label: sites 1 and 2 read entry 1
-pub choice-at-label :
+pub choice_at_label :
     Answers (plain Perm Sw ring (first 2)) (permuting (0 ∷ 1 ∷ 1 ∷ 0 ∷ 0 ∷ 1 ∷ [])) (before3 (+ ∷ + ∷ + ∷ + ∷ - ∷ - ∷ [])) Moved
     (buffers (+ ∷ - ∷ - ∷ + ∷ + ∷ + ∷ []) (0 ∷ 1 ∷ 1 ∷ []) (0 ∷ 0 ∷ 1 ∷ 0 ∷ []) (2 ∷ 0 ∷ 0 ∷ 0 ∷ []) 2)
 unfolding every any holds acts differs size_of is_first count_where has_one reached final table
-choice-at-label =
+choice_at_label =
     goes_by (plain Perm Sw ring (first 2)) (permuting (0 ∷ 1 ∷ 1 ∷ 0 ∷ 0 ∷ 1 ∷ [])) (before3 (+ ∷ + ∷ + ∷ + ∷ - ∷ - ∷ []))
     (buffers (+ ∷ - ∷ - ∷ + ∷ + ∷ + ∷ []) (0 ∷ 1 ∷ 1 ∷ []) (0 ∷ 0 ∷ 1 ∷ 0 ∷ []) (2 ∷ 0 ∷ 0 ∷ 0 ∷ []) 2)
     (0 ∷ 1 ∷ 1 ∷ []) [] refl (λ _. (refl, refl)) refl
 
 -- numbers have no gap, and a component of sites that do not act has its own: sites 0 and 1 are the component 0 and site 2, which rests, is 1
-pub rest-numbered :
+pub rest_numbered :
     Answers (plain Perm Sw ring (first 2)) (permuting (1 ∷ 0 ∷ 0 ∷ 1 ∷ 0 ∷ 1 ∷ [])) (before3 (+ ∷ + ∷ + ∷ - ∷ - ∷ + ∷ [])) Moved
     (buffers (- ∷ - ∷ + ∷ + ∷ + ∷ + ∷ []) (0 ∷ 0 ∷ 1 ∷ []) (0 ∷ 0 ∷ 1 ∷ 0 ∷ []) (2 ∷ 0 ∷ 0 ∷ 0 ∷ []) 2)
 unfolding every any holds acts differs size_of is_first count_where has_one reached final table
-rest-numbered =
+rest_numbered =
     goes_by (plain Perm Sw ring (first 2)) (permuting (1 ∷ 0 ∷ 0 ∷ 1 ∷ 0 ∷ 1 ∷ [])) (before3 (+ ∷ + ∷ + ∷ - ∷ - ∷ + ∷ []))
     (buffers (- ∷ - ∷ + ∷ + ∷ + ∷ + ∷ []) (0 ∷ 0 ∷ 1 ∷ []) (0 ∷ 0 ∷ 1 ∷ 0 ∷ []) (2 ∷ 0 ∷ 0 ∷ 0 ∷ []) 2)
     (0 ∷ 0 ∷ 0 ∷ []) [] refl (λ _. (refl, refl)) refl

@@ -4,11 +4,11 @@ use Rattle.paper.specs.declared.SweepAnswer.{SweepAnswer}
 use Rattle.paper.specs.Panel.Input.{Buffers}
 use Rattle.paper.specs.Answer.Task.{Sweep}
 use Rattle.paper.specs.Answer.Totals.{SweepKeepAnswers}
-use Rattle.laws.specs.KeepDetermined.{SameSweepKept, sweep-keep-determined}
+use Rattle.laws.specs.KeepDetermined.{SameSweepKept, sweep_keep_determined}
 
-pub overlap-update-determined :
+pub overlap_update_determined :
     (keeping : Bool) (w : Sweep) (b : Buffers) (ts : List ℤ) (y z : Buffers) (us vs : List ℤ) (a a' : SweepAnswer)
     → SweepKeepAnswers keeping w b ts a y us
     → SweepKeepAnswers keeping w b ts a' z vs
     → SameSweepKept a y us a' z vs
-overlap-update-determined = sweep-keep-determined
+overlap_update_determined = sweep_keep_determined

@@ -17,7 +17,7 @@ use Rattle.laws.specs.Sanity.{others_kept}
 use Rattle.laws.specs.Local.{Agree}
 use Rattle.laws.specs.AnswersLocal.{with_spins, valid_there}
 use Rattle.laws.specs.SweepTasks.{task_valid}
-use Rattle.laws.specs.SweepAscending.{tasks-apart, done}
+use Rattle.laws.specs.SweepAscending.{tasks_apart, done}
 use Rattle.laws.specs.SweepCounts.{count_to, and_then, then_here, then_before, then_counts, skipped_counts}
 use Rattle.outcomes.specs.Adding.{moved_by_lem}
 
@@ -164,7 +164,7 @@ module _ (w : Sweep) (b : Buffers) (v : Kept (sweep_rules w b)) where
     -- a task that has not run meets its rows as they were before the sweep
     pub own_rows : (i : ℕ) → i < w.lattice.n → Agree w.members (pattern (task_call w K) b'.spins i) (pattern (task_call w K) b.spins i)
     own_rows i hi x hx =
-        h.others i (system (task_call w K) x) hi (λ k y l q hy e. let z = tasks-apart w b v K k x y below (omega arith) hx hy e in omega (arith, z))
+        h.others i (system (task_call w K) x) hi (λ k y l q hy e. let z = tasks_apart w b v K k x y below (omega arith) hx hy e in omega (arith, z))
 
     own_areas : areas w b' b'.spins K ≡ with_spins (areas w b b.spins K) b'.spins
     own_areas = respun w b b' b.spins b'.spins K (h.still K below (inr (omega arith)))
@@ -201,7 +201,7 @@ module _ (w : Sweep) (b : Buffers) (v : Kept (sweep_rules w b)) where
             answers = rw (respun w b' b'' b'.spins d.spins k (s.apart k (λ z. omega (arith, z)))) d.answers;
             rows =
                 λ i x hi hx. out i (system (task_call w k) x) hi
-                (λ y hy z. let r = tasks-apart w b v k K x y (omega arith) below hx hy z in omega (arith, r))
+                (λ y hy z. let r = tasks_apart w b v k K x y (omega arith) below hx hy z in omega (arith, r))
                 ∙ d.rows i x hi hx;
           }
 

@@ -7,11 +7,11 @@ use Rattle.paper.specs.Refusal.Rules.{order_names}
 use Rattle.paper.specs.Answer.Task.{Sweep}
 use Rattle.paper.specs.Answer.Sweep.{sweep_rules, SweepAnswers}
 use Rattle.paper.specs.Answer.Totals.{TotalsAsked, TotalsAfter}
-use Rattle.laws.specs.KeepDetermined.{SameSweepKept, sweep-keep-determined}
-use Rattle.sweep_tasks.specs.Updating.{asked_swept, swept-answers}
+use Rattle.laws.specs.KeepDetermined.{SameSweepKept, sweep_keep_determined}
+use Rattle.sweep_tasks.specs.Updating.{asked_swept, swept_answers}
 
 module _ (keeping : Bool) (w : Sweep) (b : Buffers) (ts : List ℤ) (y z : Buffers) (us vs : List ℤ) (a a' : SweepAnswer) where
-  pub run-tasks-determined :
+  pub run_tasks_determined :
       Kept (sweep_rules w b)
       → TotalsAsked keeping w.lattice (order_names w.order) ts
       → SweepAnswers w b a y
@@ -19,6 +19,6 @@ module _ (keeping : Bool) (w : Sweep) (b : Buffers) (ts : List ℤ) (y z : Buffe
       → SweepAnswers w b a' z
       → TotalsAfter keeping w.lattice b.spins ts z.spins vs
       → SameSweepKept a y us a' z vs
-  run-tasks-determined v q f p g r =
+  run_tasks_determined v q f p g r =
       let k = asked_swept keeping w b ts v q in
-      sweep-keep-determined keeping w b ts y z us vs a a' (swept-answers keeping w b ts k a y us f p) (swept-answers keeping w b ts k a' z vs g r)
+      sweep_keep_determined keeping w b ts y z us vs a a' (swept_answers keeping w b ts k a y us f p) (swept_answers keeping w b ts k a' z vs g r)

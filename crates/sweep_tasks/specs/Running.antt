@@ -15,7 +15,7 @@ use Rattle.paper.specs.Panel.Made.{lattice_of, call_of, choices_of, buffers_of}
 use Rattle.paper.specs.Answer.Totals.{TotalsReady, TotalsAfter}
 use Rattle.paper.specs.Answer.Made.{plan_of}
 use Rattle.laws.specs.Forms.{by_form, labels_else, grows_else}
-use Rattle.laws.specs.Determined.{buffers-equal}
+use Rattle.laws.specs.Determined.{buffers_equal}
 use Rattle.tasks.specs.Plan.{Bounding, task_at}
 use Rattle.tasks.specs.Parts.{back, lent_part, lent_length, back_length, back_own, back_other, back_same}
 use Rattle.perform.specs.Spinning.{length_after}
@@ -41,15 +41,15 @@ module _ {keeps : Keeps} {w : Sweep} {k : ℕ} {t : Task} {cs : List Float} {ps 
   abbrev lattice_with : Lattice
   lattice_with = lattice_of t.n t.d t.s w.lattice.fwd w.lattice.bwd w.lattice.couplings
 
-  pub ready-parts :
+  pub ready_parts :
       {ts : List ℤ} → TotalsReady (keeps_by keeps w.form) w.lattice (group_of w k) ts
       → TotalsReady (keeps_by t.keeps t.form) lattice_with t.group ts
-  ready-parts h = rw e.task h
+  ready_parts h = rw e.task h
 
-  pub totals-parts :
+  pub totals_parts :
       (xs ts ys us : List ℤ) → TotalsAfter (keeps_by t.keeps t.form) lattice_with xs ts ys us
       → TotalsAfter (keeps_by keeps w.form) w.lattice xs ts ys us
-  totals-parts xs ts ys us h = rw e.task at h
+  totals_parts xs ts ys us h = rw e.task at h
 
 -- ---- what the form does not write
 seen_unwritten : (c : Call) (b b' : Buffers) → Seen c b b' → Unwritten c b b'
@@ -102,7 +102,7 @@ module _
 
     pub areas_lent : areas w b b.spins k ≡ lent_areas
     areas_lent =
-        buffers-equal _ _ refl (sym (lent_part b.labels k n la lb hl)) (sym (lent_part b.grey_labels k n ga gb hg))
+        buffers_equal _ _ refl (sym (lent_part b.labels k n la lb hl)) (sym (lent_part b.grey_labels k n ga gb hg))
         (sym (lent_part b.counts k (n + 1) ca cb hc)) (sym (lent_part b.sizes k 4 za zb hz)) (sym (lent_part b.members k n ma mb hm))
         (sym (lent_part b.found k 1 fa fb hf)) (sym (lent_part b.grey_found k 1 va vb hv))
 
@@ -140,13 +140,13 @@ module _
 
         areas_put : areas w put xs k ≡ buffers_of xs ls gs cs zs ms fs vs
         areas_put =
-            buffers-equal _ _ refl (back_own b.labels k n la lb hl ls el) (back_own b.grey_labels k n ga gb hg gs eg)
+            buffers_equal _ _ refl (back_own b.labels k n la lb hl ls el) (back_own b.grey_labels k n ga gb hg gs eg)
             (back_own b.counts k (n + 1) ca cb hc cs ec) (back_own b.sizes k 4 za zb hz zs ez) (back_own b.members k n ma mb hm ms em)
             (back_own b.found k 1 fa fb hf fs ef) (back_own b.grey_found k 1 va vb hv vs ev)
 
         areas_apart : (j : ℕ) → j ≢ k → areas w put b.spins j ≡ areas w b b.spins j
         areas_apart j ne =
-            buffers-equal _ _ refl (back_other b.labels k n la lb hl ls el 0 j ne) (back_other b.grey_labels k n ga gb hg gs eg 0 j ne)
+            buffers_equal _ _ refl (back_other b.labels k n la lb hl ls el 0 j ne) (back_other b.grey_labels k n ga gb hg gs eg 0 j ne)
             (back_other b.counts k (n + 1) ca cb hc cs ec 0 j ne) (back_other b.sizes k 4 za zb hz zs ez 0 j ne)
             (back_other b.members k n ma mb hm ms em 0 j ne) (back_other b.found k 1 fa fb hf fs ef 0 j ne)
             (back_other b.grey_found k 1 va vb hv vs ev 0 j ne)

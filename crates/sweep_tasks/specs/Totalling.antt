@@ -74,10 +74,10 @@ module _
     own_named : (x : ℕ) → x < w.members → Named w.lattice.s (order_names w.order) (system (task_call w K) x)
     own_named x l = named_in w b v K below _ (record { place = x; below = l; is = refl; inside = own_system x l })
 
-    own-energy :
+    own_energy :
         (x : ℕ) → x < w.members
         → energy w.lattice b'.spins (system (task_call w K) x) ≡ energy w.lattice b.spins (system (task_call w K) x)
-    own-energy x l =
+    own_energy x l =
         energy_same w.lattice b.spins b'.spins (system (task_call w K) x) (sweep_valid_of w b v).inverse
         (λ i hi. own_rows w b v K ni nm nh b' below h.ran i hi x l)
 
@@ -85,7 +85,7 @@ module _
     own_total : keeping ≡ true → (x : ℕ) → x < w.members → total us (system (task_call w K) x) ≡ total ts (system (task_call w K) x)
     own_total e x l =
         (h.totals.brought e).each (system (task_call w K) x) (own_system x l)
-        ∙ (ap (λ (z : ℤ). total ts (system (task_call w K) x) +ℤ (z +ℤ neg_ℤ (energy w.lattice b.spins (system (task_call w K) x)))) (own-energy x l)
+        ∙ (ap (λ (z : ℤ). total ts (system (task_call w K) x) +ℤ (z +ℤ neg_ℤ (energy w.lattice b.spins (system (task_call w K) x)))) (own_energy x l)
         ∙ no_change (total ts (system (task_call w K) x)) (energy w.lattice b.spins (system (task_call w K) x)))
 
     pub task_ready : TotalsReady keeping w.lattice (group_of w K) us

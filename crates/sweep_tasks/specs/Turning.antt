@@ -33,10 +33,10 @@ pub record Turned (w : Sweep) (k : ℕ) (t : Outcomes) (b : Buffers) (t' : Outco
 pub turned_masked : (w : Sweep) (k : ℕ) (t : Outcomes) (b : Buffers) → masked w k ≡ true → Turned w k t b t b
 turned_masked w k t b e = record { further = λ b₀ v l h. ran_masked w b₀ v k t.idle t.moved t.held b l h e }
 
-pub turned-one :
+pub turned_one :
     (w : Sweep) (k : ℕ) (t : Outcomes) (b : Buffers) (a : Answer) (t' : Outcomes) (b' : Buffers) → masked w k ≡ false → Steps w k b a b' → Added t a t'
     → Turned w k t b t' b'
-turned-one w k t b a t' b' e s d = record {
+turned_one w k t b a t' b' e s d = record {
   further = λ b₀ v l h. rw (d.idle, d.moved, d.held) (ran_more w b₀ v k t.idle t.moved t.held b l h e a b' s);
 }
 

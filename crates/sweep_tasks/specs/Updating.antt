@@ -41,8 +41,8 @@ module _ (keeping : Bool) (w : Sweep) (b : Buffers) (ts : List ℤ) where
       let r = kept_both (task_rules w b (tasks w)) (totals_ask keeping w.lattice (order_names w.order) ts).last h.1.1 (a.small, tt) in
       (v.0, (v.1.0, (v.1.1.0, (a.lengths, (q.0, (q.1.0, (q.1.1.0, (q.1.1.1.0, (q.1.1.1.1.0, (a.couplings, (h.0, (h.1.0, r))))))))))))
 
-  pub swept-answers :
+  pub swept_answers :
       Kept (swept_rules keeping w b ts) → (a : SweepAnswer) (b' : Buffers) (us : List ℤ) → SweepAnswers w b a b'
       → TotalsAfter keeping w.lattice b.spins ts b'.spins us → SweepKeepAnswers keeping w b ts a b' us
-  swept-answers k (Fault r) b' us f t = absurd (broken_not_kept (sweep_rules w b) _ f.why (swept_kept k))
-  swept-answers k (Swept idle moved held) b' us f t = record { valid = k; answers = f; totals = t }
+  swept_answers k (Fault r) b' us f t = absurd (broken_not_kept (sweep_rules w b) _ f.why (swept_kept k))
+  swept_answers k (Swept idle moved held) b' us f t = record { valid = k; answers = f; totals = t }

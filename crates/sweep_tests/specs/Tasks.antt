@@ -63,11 +63,11 @@ module _ {q : Plan} {k : ℕ} {spins : List ℤ} {order : List ℕ} {cuts : List
       h.tested.spinning t i
       (record { place = at w.place; below = at_lt w.place w.below; is = sym (member_is w.place w.below) ∙ w.is; inside = w.inside })
 
-  pub task-tested :
+  pub task_tested :
       (temperatures : List Float) (references seeds : List ℕ)
       → Tested (task_at q order temperatures references seeds k) spins
       (part k (choice_bytes q.mode q.form q.n q.members) choices) (part k (entries q.form q.n) greys)
-  task-tested temperatures references seeds = record {
+  task_tested temperatures references seeds = record {
     n_low = ranged.lattice.n_low;
     n_high = ranged.lattice.n_high;
     size_low = ranged.size_low;
@@ -107,13 +107,13 @@ module _ {q : Plan} {k : ℕ} {spins : List ℤ} {order masks : List ℕ} {ts cu
   pub told_masked : masked_at q masks k ≡ true → TaskTold q k spins order masks ts cuts references seeds choices greys 0
   told_masked e = record { is = λ fwd bwd pins js. rw e tt }
 
-  pub told-parts :
+  pub told_parts :
       {t : Task} {cs : List Float} {ps gs : List ℕ} {r : ℕ} → masked_at q masks k ≡ false
       → t ≡ task_at q order ts references seeds k → cs ≡ part k (q.n * q.d) cuts
       → ps ≡ part k (choice_bytes q.mode q.form q.n q.members) choices → gs ≡ part k (entries q.form q.n) greys
       → EveryCall t cs (λ c. Verdict (choice_rules c (choices_of ps gs) spins) r)
       → TaskTold q k spins order masks ts cuts references seeds choices greys r
-  told-parts {t = t} e e₁ e₂ e₃ e₄ h = record { is = λ fwd bwd pins js. rw e (rw (e₁, e₂, e₃, e₄) at (h t.d t.s t.temperature fwd bwd pins js)) }
+  told_parts {t = t} e e₁ e₂ e₃ e₄ h = record { is = λ fwd bwd pins js. rw e (rw (e₁, e₂, e₃, e₄) at (h t.d t.s t.temperature fwd bwd pins js)) }
 
 -- ---- one task more
 more_kept : (w : Sweep) (b : Buffers) (K : ℕ) → Kept (task_rules w b K) → Kept (one_task w b.spins K) → Kept (task_rules w b (K + 1))
@@ -142,12 +142,12 @@ module _ {q : Plan} {spins : List ℤ} {order masks : List ℕ} {ts cuts : List 
         (h.is fwd bwd pins js labels grey_labels counts sizes members found grey_found) (rw e at (t.is fwd bwd pins js));
   }
 
-  pub told-broken :
+  pub told_broken :
       {K M r : ℕ} → K < M → TasksTold q K spins order masks ts cuts references seeds choices greys 0 → (r ≡ 0 → ⊥)
       → TaskTold q K spins order masks ts cuts references seeds choices greys r
       → TasksTold q M spins order masks ts cuts references seeds choices greys r
-  told-broken {K} {M} {r = zero} l h ne t = absurd (ne refl)
-  told-broken {K} {M} {r = suc r} l h ne t = record {
+  told_broken {K} {M} {r = zero} l h ne t = absurd (ne refl)
+  told_broken {K} {M} {r = suc r} l h ne t = record {
     is = λ fwd bwd pins js labels grey_labels counts sizes members found grey_found.
         more_broken (sweep_of q fwd bwd pins js order masks ts cuts references seeds choices greys)
         (buffers_of spins labels grey_labels counts sizes members found grey_found) K M (suc r) l

@@ -21,13 +21,13 @@ group_rows_ok_determined n s spins group = tells_determined _
 pub order_rows_ok_determined : (n s : ℕ) (spins : List ℤ) (order : List ℕ) → OneAnswer (Spins n (Named s (order_names order)) spins)
 order_rows_ok_determined n s spins order = tells_determined _
 
-pub group-totals-fit-determined :
+pub group_totals_fit_determined :
     (keeping : Bool) (totals : List ℤ) (group : Group) → OneAnswer (When keeping (SmallTotals (Named (length totals) (group_names group)) totals))
-group-totals-fit-determined keeping totals group = tells_determined _
+group_totals_fit_determined keeping totals group = tells_determined _
 
-pub order-totals-fit-determined :
+pub order_totals_fit_determined :
     (keeping : Bool) (totals : List ℤ) (order : List ℕ) → OneAnswer (When keeping (SmallTotals (Named (length totals) (order_names order)) totals))
-order-totals-fit-determined keeping totals order = tells_determined _
+order_totals_fit_determined keeping totals order = tells_determined _
 
 -- any two results that are this one are equal
 abbrev OneResult : {A : Type 0} → A → Type 0
@@ -46,12 +46,12 @@ module _ (team : ℕ) (owners : List ℕ) where
   pub read_group_determined : (s : ℕ) (group : Group) → OneResult (read_group (team_of team owners) s group)
   read_group_determined s group r r' p q = p ∙ sym q
 
-  pub read-order-determined :
+  pub read_order_determined :
       (s : ℕ) (order named : List ℕ) (r r' : ℕ) (y z : List ℕ)
       → OrderRead (team_of team owners) s order named r y
       → OrderRead (team_of team owners) s order named r' z
       → (r ≡ r') × (y ≡ z)
-  read-order-determined s order named r r' y z f g = (
+  read_order_determined s order named r r' y z f g = (
     same,
     filled_unique 0 entry r named y z f.written (subst (λ (m : ℕ). Filled 0 entry m named z) (sym same) g.written),
   )

@@ -56,10 +56,10 @@ pub record OrderRead (o : Team) (s : ℕ) (order named : List ℕ) (r : ℕ) (na
   pub written : Filled 0 (λ j. read o s (get_or order j 0)) r named named'
 
 -- as a list
-pub order-entries :
+pub order_entries :
     {o : Team} {s : ℕ} {order named : List ℕ} {r : ℕ} {named' : List ℕ} → length named ≡ 64 → OrderRead o s order named r named'
     → take r named' ≡ map (read o s) (take r order)
-order-entries {o} {s} {order} {named} {r} {named'} room h = ext_get_or 0 (take r named') (map (read o s) (take r order)) lengths same
+order_entries {o} {s} {order} {named} {r} {named'} room h = ext_get_or 0 (take r named') (map (read o s) (take r order)) lengths same
   where
     most : r ≤ length order
     most = rw h.count (length_most s (length order))

@@ -58,10 +58,10 @@ module _ (names : Names) (ts : List ℤ) where
   small_each h k hk hs = h (names.at k) (record { place = k; below = hk; is = refl; inside = hs })
 
 -- of as many totals as systems, where they are kept
-pub small-named :
+pub small_named :
     (keeping : Bool) (s : ℕ) (names : Names) (ts : List ℤ) → When keeping (length ts ≡ s) → (r : Bool)
     → Tells r (When keeping (SmallTotals (Named (length ts) names) ts)) → Tells r (When keeping (SmallTotals (Named s names) ts))
-small-named keeping s names ts long r t =
+small_named keeping s names ts long r t =
     (same (When keeping (SmallTotals (Named s names) ts))
     (λ h q. subst (λ (m : ℕ). SmallTotals (Named m names) ts) (long q) (h q))
     (λ h q. subst (λ (m : ℕ). SmallTotals (Named m names) ts) (sym (long q)) (h q))

@@ -20,9 +20,9 @@ use Rattle.laws.specs.Choices.{perms_taken, perms_bytes}
 use Rattle.laws.specs.Counting.{cmr_acts}
 use Rattle.columns.specs.Column.{shown, column_of, column_ext, Inside}
 use Rattle.columns.specs.Gauge.{gauge_of}
-use Rattle.column_rules.specs.Sight.{column-acts}
+use Rattle.column_rules.specs.Sight.{column_acts_lem}
 use Rattle.turn.specs.Turned.{bare, acted_to, turned_to, turned_column, OneCluster, Chooses}
-use Rattle.turn.specs.Laws.{act-any, grey_any, turned_column_lem}
+use Rattle.turn.specs.Laws.{act_any, grey_any, turned_column_lem}
 use Rattle.grow.specs.Formed.{one_cluster_lem, reached_grown, is_cmr_lem, none_flips, grown_greys, grown_perms, grown_entries}
 use Rattle.task_choose.specs.Asked.{Asks, sighted}
 use Rattle.task_choose.specs.Blocks.{Between}
@@ -168,7 +168,7 @@ module _ (t : Task) (xs : List ℤ) (pins choices greys : List ℕ) (grows : gro
       act_greys Cmr k = refl
 
       acted : (b : Bool) (k : ℕ) → cond b (act_by t.mode c p P (label_of takers i) f k) (f k) ≡ acted_to t choices grey P b f k
-      acted true k = act-any t choices one greys [] [] pins [] [] (label_of takers i) t.mode P f k ∙ act_greys t.mode k
+      acted true k = act_any t choices one greys [] [] pins [] [] (label_of takers i) t.mode P f k ∙ act_greys t.mode k
       acted false k = refl
 
       after_is : (k : ℕ) → after c p xs takers i k ≡ acted_to t choices grey P (acts c xs i && takes) f k
@@ -216,7 +216,7 @@ module _ (t : Task) (xs : List ℤ) (pins choices greys : List ℕ) (grows : gro
           ap (λ (x : ℕ). member_column t x xs choices grey (free && eqb (get_or takers i 0) 1) i) eg
           ∙ (ap (λ (b : Bool). member_column t (gauge_of t.mode m (column_in t xs t.reference)) xs choices grey (b && eqb (get_or takers i 0) 1) i) ef
           ∙ (ap (λ (b : Bool). turned_column t (gauge_of t.mode m (column_in t xs t.reference)) choices grey (b && takes) (column_in t xs i))
-          (column-acts (sighted c p xs a) below refl refl)
+          (column_acts_lem (sighted c p xs a) below refl refl)
           ∙ (turned_column_lem t choices grey chooses a.ranged.cmr_two P f (λ q k h. a.spins t.reference k (a.chosen.reference q) h)
           (λ k h. a.spins i k below h) (acts c xs i && takes)
           ∙ sym (column_ext m (final c p xs takers members i) _ (λ k h. final_is k)))))

@@ -32,17 +32,17 @@ module _ (c : Call) (p : Choices) (b : Buffers) (blue : List ℕ) (k : Kept (lab
     answers Held s = accepts Held s
     answers Moved s = accepts Moved s
 
-pub grown-answers :
+pub grown_answers :
     (c : Call) (p : Choices) (o : Outputs) (xs : List ℤ) (members blue members' blue' : List ℕ) (a : Answer) → grows_by c.form ≡ true
     → Kept (label_rules c p (with_outputs o xs members) blue) → GrownLeaves c xs blue a members' blue'
     → LabelAnswers c p (with_outputs o xs members) blue a (with_outputs o xs members') blue'
-grown-answers c p o xs members blue members' blue' a g k w =
+grown_answers c p o xs members blue members' blue' a g k w =
     answers c p (with_outputs o xs members) blue k (with_outputs o xs members') blue' refl (grown_seen o g w) w.blue_sites w.blue_left a w.says
 
-pub labelled-answers :
+pub labelled_answers :
     (c : Call) (p : Choices) (b b' : Buffers) (blue : List ℕ) (a : Answer) → labels_by c.form ≡ true → Kept (label_rules c p b blue)
     → b'.spins ≡ b.spins → Says c b.spins a → SeenAll c b b' → LabelAnswers c p b blue a b' blue
-labelled-answers c p b b' blue a l k still s w =
+labelled_answers c p b b' blue a l k still s w =
     answers c p b blue k b' blue still (labelled_seen l w) (λ e. never (none e)) (λ _. refl) a s
   where
     none : takes_blue c ≡ true → false ≡ true

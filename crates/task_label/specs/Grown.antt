@@ -57,10 +57,10 @@ grown_seen {c} o g w = record {
 }
 
 -- the marks of a cluster's list are its members
-pub listed-members :
+pub listed_members :
     {t : Graph} {holding : ℕ → ℕ → Bool} {seed : ℕ} {m l marks : List ℕ} {n len : ℕ} → n ≡ t.n → Cluster t holding seed m l len
     → MarksListed n l len marks → Members t holding seed marks
-listed-members {t} {holding} {seed} {m} {l} {marks} e c k = record {
+listed_members {t} {holding} {seed} {m} {l} {marks} e c k = record {
   long = k.long ∙ e;
   byte = λ i h. k.byte i;
   joined = λ i h q. let p = k.only i q in rw p.2 (cluster_joined c p.0 p.1);
@@ -108,18 +108,18 @@ module _ (c : Call) (xs : List ℤ) (members blue : List ℕ) (a : GrownAsks c x
     below = λ x h. rw e (cluster_site g.first x h);
   }
 
-  pub found-markable :
+  pub found_markable :
       (m l : List ℕ) (n count len : ℕ) → n ≡ c.lattice.n → (r : Answer) → Finds c xs m l r count len → Markable n l count
-  found-markable m l n count len e (Refused r) f = absurd f
-  found-markable m l n count len e Idle f = record { room = omega (arith, f.no_blue); below = λ x h. absurd (omega (arith, h, f.no_blue)) }
-  found-markable m l n count len e Held f = grew_markable e f.grew
-  found-markable m l n count len e Moved f = grew_markable e f.grew
+  found_markable m l n count len e (Refused r) f = absurd f
+  found_markable m l n count len e Idle f = record { room = omega (arith, f.no_blue); below = λ x h. absurd (omega (arith, h, f.no_blue)) }
+  found_markable m l n count len e Held f = grew_markable e f.grew
+  found_markable m l n count len e Moved f = grew_markable e f.grew
 
   -- what is found, in CMR with the blue sites marked, is what the step leaves
   module _ (m l marks : List ℕ) (count len : ℕ) where
-    idle-leaves :
+    idle_leaves :
         Finds c xs m l Idle count len → (takes_blue c ≡ false → marks ≡ blue) → GrownLeaves c xs blue Idle m marks
-    idle-leaves f s = record {
+    idle_leaves f s = record {
       says = none_acts f.off;
       members = λ e. never (sym f.off ∙ e);
       none = λ _. f.cleared;
@@ -127,32 +127,32 @@ module _ (c : Call) (xs : List ℤ) (members blue : List ℕ) (a : GrownAsks c x
       blue_left = s;
     }
 
-    held-leaves :
+    held_leaves :
         Finds c xs m l Held count len → When (takes_blue c) (MarksListed c.lattice.n l count marks) → (takes_blue c ≡ false → marks ≡ blue)
         → GrownLeaves c xs blue Held m marks
-    held-leaves f k s = record {
+    held_leaves f k s = record {
       says = record { some = some_acts f.on; one = grows_one c.form a.asks.grows; held = f.held };
       members = λ _. f.grew.cluster.members;
       none = λ e. never (sym e ∙ f.on);
-      blue_sites = λ e. listed-members refl f.grew.first (k e);
+      blue_sites = λ e. listed_members refl f.grew.first (k e);
       blue_left = s;
     }
 
-    free-leaves :
+    free_leaves :
         Finds c xs m l Moved count len → When (takes_blue c) (MarksListed c.lattice.n l count marks) → (takes_blue c ≡ false → marks ≡ blue)
         → GrownLeaves c xs blue Moved m marks
-    free-leaves f k s = record {
+    free_leaves f k s = record {
       says = record { some = some_acts f.on; free = λ _. f.free };
       members = λ _. f.grew.cluster.members;
       none = λ e. never (sym e ∙ f.on);
-      blue_sites = λ e. listed-members refl f.grew.first (k e);
+      blue_sites = λ e. listed_members refl f.grew.first (k e);
       blue_left = s;
     }
 
-    pub found-leaves :
+    pub found_leaves :
         (r : Answer) → Finds c xs m l r count len → When (takes_blue c) (MarksListed c.lattice.n l count marks) → (takes_blue c ≡ false → marks ≡ blue)
         → GrownLeaves c xs blue r m marks
-    found-leaves (Refused r) f k s = absurd f
-    found-leaves Idle f k s = idle-leaves f s
-    found-leaves Held f k s = held-leaves f k s
-    found-leaves Moved f k s = free-leaves f k s
+    found_leaves (Refused r) f k s = absurd f
+    found_leaves Idle f k s = idle_leaves f s
+    found_leaves Held f k s = held_leaves f k s
+    found_leaves Moved f k s = free_leaves f k s

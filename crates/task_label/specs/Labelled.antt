@@ -43,10 +43,10 @@ pub labelled_seen : {c : Call} {b b' : Buffers} → labels_by c.form ≡ true �
 labelled_seen {c} l s = record { all = λ _. s; one = λ g. forms_apart c.form l g }
 
 -- from what the label step of a task on columns leaves
-pub labelled-leaves :
+pub labelled_leaves :
     (t : Task) (fwd pins : List ℕ) (couplings : List ℤ) (cuts : List Float) (xs : List ℤ) {cols : List ℕ} {b b' : Beside} {flags tally greyTally : List ℕ}
     (a : Answer) → TaskFor t fwd pins couplings cuts cols b flags tally greyTally b' a → Tested t.mode t.n t.d fwd t.group xs
     → ColumnsOf t xs cols → LabelledLeaves t fwd pins couplings cuts xs b a b'
-labelled-leaves t fwd pins couplings cuts xs a f r w bwd =
+labelled_leaves t fwd pins couplings cuts xs a f r w bwd =
     let l = f bwd xs r w in
     record { says = says_so (call_of t fwd bwd pins couplings cuts) xs a l.says; seen = l.seen }

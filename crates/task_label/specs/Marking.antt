@@ -28,10 +28,10 @@ marks_none list c = record {
   only = λ i e. absurd (omega (arith, e, cleared_all c i));
 }
 
-pub marks-more :
+pub marks_more :
     {n : ℕ} {list : List ℕ} {len : ℕ} {marks : List ℕ} {i : ℕ} → MarksListed n list len marks → i < n → i ≡ get_or list len 0
     → MarksListed n list (len + 1) (set marks i 1)
-marks-more {n} {list} {len} {marks} {i} h il is = record {
+marks_more {n} {list} {len} {marks} {i} h il is = record {
   long = length-set marks i 1 ∙ h.long;
   byte = λ j. byte_at_lem j (after_set marks i 1 j inside);
   each = λ x l. each_at x l (after_set marks i 1 (get_or list x 0) inside);

@@ -13,12 +13,12 @@ use Rattle.paper.specs.Refusal.Kept.{valid_kept}
 use Rattle.paper.specs.Answer.Move.{Answers}
 use Rattle.paper.specs.Answer.Totals.{TotalLengths, TotalsAfter}
 use Rattle.laws.specs.AnswersLocal.{with_spins}
-use Rattle.laws.specs.Determined.{Same, buffers-equal, determined}
-use Rattle.laws.specs.MovesExist.{write, moves-exist}
+use Rattle.laws.specs.Determined.{Same, buffers_equal, determined}
+use Rattle.laws.specs.MovesExist.{write, moves_exist}
 use Rattle.laws.specs.Unique.{members_unique}
 use Rattle.packing.specs.Bytes.{own_group}
 use Rattle.packing.specs.Laws.{own_pattern, rows_ext}
-use Rattle.totals.specs.Determined.{brought-determined}
+use Rattle.totals.specs.Determined.{brought_determined}
 use Rattle.task_steps.specs.Label.{takes_blue, label_rules, LabelAccepts, LabelAnswers}
 use Rattle.task_steps.specs.Choose.{Found, first_of, second_of, has_column, choose_rules, ChooseAccepts, ChooseAnswers}
 use Rattle.task_steps.specs.Write.{Shape, Writing, write_rules, WriteAccepts, WriteAnswers}
@@ -63,7 +63,7 @@ module _ (c : Call) (p : Choices) (b : Buffers) (blue : List ℕ) where
       let s = (valid_by w).sound in
       record {
         rows = write c b.spins (final c p b.spins l g);
-        move = goes_by w (write c b.spins (final c p b.spins l g)) (moves-exist c p b.spins l g s.grouped s.exact.spins);
+        move = goes_by w (write c b.spins (final c p b.spins l g)) (moves_exist c p b.spins l g s.grouped s.exact.spins);
       }
 
   module _ (y z : Buffers) (u v : List ℕ) where
@@ -79,7 +79,7 @@ module _ (c : Call) (p : Choices) (b : Buffers) (blue : List ℕ) where
     accepted_same a a' f g w h = record {
       answer = s.answer;
       buffers =
-          buffers-equal y z (w.still ∙ sym h.still) (ap (λ (x : Buffers). x.labels) e) (ap (λ (x : Buffers). x.grey_labels) e)
+          buffers_equal y z (w.still ∙ sym h.still) (ap (λ (x : Buffers). x.labels) e) (ap (λ (x : Buffers). x.grey_labels) e)
           (ap (λ (x : Buffers). x.counts) e) (ap (λ (x : Buffers). x.sizes) e) (ap (λ (x : Buffers). x.members) e) (ap (λ (x : Buffers). x.found) e)
           (ap (λ (x : Buffers). x.grey_found) e);
       blue = blue_same a a' w h;
@@ -146,7 +146,7 @@ pub record SameWritten (r : ℕ) (ys us : List ℤ) (r' : ℕ) (zs vs : List ℤ
 
 totals_same : (keeping : Bool) (g : Lattice) (xs ts ys us vs : List ℤ) → When keeping (TotalLengths g ts) → TotalsAfter keeping g xs ts ys us
     → TotalsAfter keeping g xs ts ys vs → us ≡ vs
-totals_same true g xs ts ys us vs long w h = brought-determined g xs ts ys us vs (long refl).totals (w.brought refl) (h.brought refl)
+totals_same true g xs ts ys us vs long w h = brought_determined g xs ts ys us vs (long refl).totals (w.brought refl) (h.brought refl)
 totals_same false g xs ts ys us vs long w h = w.left refl ∙ sym (h.left refl)
 
 module _

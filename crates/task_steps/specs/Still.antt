@@ -15,7 +15,7 @@ use Rattle.paper.specs.Component.Sizes.{label_of}
 use Rattle.paper.specs.Move.Moving.{reached_by, has_one, held, reached, final}
 use Rattle.laws.specs.Forms.{by_form}
 use Rattle.laws.specs.Holding.{one_has, held_labels, held_members}
-use Rattle.laws.specs.HeldStill.{grey-held-too}
+use Rattle.laws.specs.HeldStill.{grey_held_too}
 use Rattle.task_steps.specs.Label.{SaysHeld, LabelAccepts}
 use Rattle.task_steps.specs.Choose.{Found, first_of, second_of, has_column}
 use Rattle.task_steps.specs.Found.{left_by, valid_by, first_plain, first_labelled, second_grown, second_labelled, joined_grey, labels_by_lem, grey_labels_by}
@@ -113,7 +113,7 @@ module _ {c : Call} {p : Choices} {b b₁ : Buffers} {blue blue₁ : List ℕ} {
         go (inl l) =
             rw (second_labelled c f l)
             (seed_held c xs b₁.grey_labels i l h.one
-            (grey-held-too c xs (cmr_by e) b₁.labels b₁.grey_labels (labels_by_lem w l) (grey_labels_by w l e) c.seed inside (labels_held l)))
+            (grey_held_too c xs (cmr_by e) b₁.labels b₁.grey_labels (labels_by_lem w l) (grey_labels_by w l e) c.seed inside (labels_held l)))
         go (inr g) = rw (second_grown c f g) (grown_held c xs b₁.members i g (grey_held g e))
 
   -- of one that is not held, no member

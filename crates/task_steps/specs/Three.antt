@@ -33,10 +33,10 @@ use Rattle.task_steps.specs.Found.{left_by, valid_by, first_labelled, second_gro
 use Rattle.task_steps.specs.Still.{idle_kept, held_kept, out_kept}
 
 -- ---- a call on its own rows: no row is another system's
-pub others-none :
+pub others_none :
     (c : Call) (xs ys : List ℤ) → c.lattice.s ≡ size c → c.group ≡ own_group (size c) → size c ≤ 8 → length xs ≡ c.lattice.s * c.lattice.n
     → length ys ≡ length xs → OthersOf c xs ys
-others-none c xs ys own group few sized long i t hi out =
+others_none c xs ys own group few sized long i t hi out =
     let far : length xs ≤ t * c.lattice.n + i = omega (arith, rw own at sized, mul-le-mul_right c.lattice.n past) in
     get_or-eq_default ys (pos 0) (omega arith) ∙ sym (get_or-eq_default xs (pos 0) far)
   where
@@ -134,7 +134,7 @@ module _
     new = final c p xs (first_of c f) (second_of c f)
 
     others : OthersOf c xs ys
-    others = others-none c xs ys own group (valid_by w).sound.ranged.size_high (valid_by w).sound.exact.spins h.long
+    others = others_none c xs ys own group (valid_by w).sound.ranged.size_high (valid_by w).sound.exact.spins h.long
 
     -- where a site has a column
     shows : (i k : ℕ) → i < c.lattice.n → k < size c → has_column c.form b₁.members i ≡ true → shown (get_or area₁ i 0) k ≡ new i k
@@ -172,7 +172,7 @@ module _
     keeps_by : Answers c p b a (with_spins b₁ ys) → KeepAccepts keeping c p b ts a (with_spins b₁ ys) us
     keeps_by r = record { valid = kept_by; answers = r; totals = h.totals }
 
-pub three-steps :
+pub three_steps :
     (keeping : Bool) (c : Call) (p : Choices) (b b₁ : Buffers) (blue blue₁ area area₁ : List ℕ) (ts us ys : List ℤ) (a : Answer)
     → c.lattice.s ≡ size c
     → c.group ≡ own_group (size c)
@@ -181,13 +181,13 @@ pub three-steps :
     → ChooseAnswers (bare_call c) p b.spins (left_by b₁ blue₁) area 0 area₁
     → WriteAnswers keeping (shape_of c) (writing_of b.spins b₁.members area₁ ts) 0 ys us
     → KeepAnswers keeping c p b ts a (with_spins b₁ ys) us
-three-steps keeping c p b b₁ blue blue₁ area area₁ ts us ys Idle own group idle w q h = keeps_by own group w q h (record {
+three_steps keeping c p b b₁ blue blue₁ area area₁ ts us ys Idle own group idle w q h = keeps_by own group w q h (record {
   valid = valid_kept c p b (valid_by w);
   none = w.says;
   still = still_by own group w q h (idle_kept w w.says);
   seen = seen_with ys w.seen;
 })
-three-steps keeping c p b b₁ blue blue₁ area area₁ ts us ys Held own group held w q h = keeps_by own group w q h (record {
+three_steps keeping c p b b₁ blue blue₁ area area₁ ts us ys Held own group held w q h = keeps_by own group w q h (record {
   valid = valid_kept c p b (valid_by w);
   some = w.says.some;
   one = w.says.one;
@@ -195,5 +195,5 @@ three-steps keeping c p b b₁ blue blue₁ area area₁ ts us ys Held own group
   still = still_by own group w q h (λ i _. held_kept w w.says i);
   seen = seen_with ys w.seen;
 })
-three-steps keeping c p b b₁ blue blue₁ area area₁ ts us ys Moved own group moved w q h =
+three_steps keeping c p b b₁ blue blue₁ area area₁ ts us ys Moved own group moved w q h =
     keeps_by own group w q h (goes_by w ys (rows_by own group w q h (λ i hi e. out_kept w w.says.some i hi e)))

@@ -54,9 +54,9 @@ pub record Looked (marks : List ℕ) (from to i : ℕ) (found : Bool) : Type 0 w
 pub look_start : {from to : ℕ} (marks : List ℕ) → from ≤ to → Looked marks from to from false
 look_start marks h = record { low = omega arith; high = h; tells = λ w. omega (arith, w.low, w.high) }
 
-pub look-more :
+pub look_more :
     {marks : List ℕ} {from to i : ℕ} {a b : Bool} → Looked marks from to i a → i < to → Test b (get_or marks i 0 ≡ 1) → Looked marks from to (i + 1) (a || b)
-look-more {marks} {from} {to} {i} {a} was l t = record {
+look_more {marks} {from} {to} {i} {a} was l t = record {
   low = omega (arith, was.low);
   high = omega (arith, l);
   tells = (same (MarkAmong marks from (i + 1)) there back (either (said a _ was.tells) t)).says;
@@ -102,9 +102,9 @@ none_collected marks list = record {
 }
 
 -- past a block without a mark
-pub collected-past :
+pub collected_past :
     {marks list : List ℕ} {from to k : ℕ} → Collected marks from list k → from ≤ to → (MarkAmong marks from to → ⊥) → Collected marks to list k
-collected-past {marks} {list} {from} {to} {k} h le none = record {
+collected_past {marks} {list} {from} {to} {k} h le none = record {
   short = omega (arith, h.short);
   below = λ a l. omega (arith, h.below a l);
   each = h.each;
@@ -182,10 +182,10 @@ module _ {marks list : List ℕ} {i k : ℕ} (h : Collected marks i list k) (roo
   collected_more true e q = rw q (marked (eqb-true _ _ e))
   collected_more false e q = rw (q, add-zero k) (unmarked (eqb-false _ _ e))
 
-pub collects-more :
+pub collects_more :
     {marks before list : List ℕ} {i k : ℕ} → Collects marks i before list k → k < length list → (b : Bool) → eqb (get_or marks i 0) 1 ≡ b → {more : ℕ}
     → more ≡ bit b → Collects marks (i + 1) before (set list k i) (k + more)
-collects-more {marks} {before} {list} {i} {k} h room b e q = record {
+collects_more {marks} {before} {list} {i} {k} h room b e q = record {
   same_long = length-set list k i ∙ h.same_long;
   got = collected_more h.got room b e q;
 }

@@ -118,9 +118,9 @@ module _ (form : Form) (n m top : ℕ) (members area : List ℕ) (long : length 
       (said r _ h)).says
 
   -- the members have
-  pub marked-tell :
+  pub marked_tell :
       (r : Bool) → grows_by form ≡ true → Tells r ((k : ℕ) → k < length area → get_or members k 0 ≡ 1 → get_or area k 0 ≤ top) → Tells r Narrowed
-  marked-tell r on h =
+  marked_tell r on h =
       (same Narrowed
       (λ f i l c. omega (arith, f i (omega (arith, l, long)) (eqb-true _ _ (rw on at c)), is, pow_pos m))
       (λ f k l e. omega (arith, f k (omega (arith, l, long)) (rw (on, eq-eqb _ _ e) refl), is))

@@ -15,7 +15,7 @@ use Rattle.paper.specs.Refusal.Rules.{Sizes, Grouped}
 use Rattle.paper.specs.Answer.Totals.{TotalsAfter}
 use Rattle.columns.specs.Column.{shown, Columns, Inside, Spinning}
 use Rattle.columns.specs.Rows.{Written}
-use Rattle.columns.specs.Laws.{columns-shown}
+use Rattle.columns.specs.Laws.{columns_shown}
 use Rattle.packing.specs.Bytes.{own_group, own_task}
 use Rattle.packing.specs.Laws.{own_grouped}
 use Rattle.totals.specs.Contract.{lattice_for, Bringable, Between, BringsAll}
@@ -89,17 +89,17 @@ module _ (t : Task) (fwd bwd : List ℕ) (js xs : List ℤ) (members area : List
 pub record Ahead (keeping : Bool) (g : Lattice) (group : Group) (area : List ℕ) (xs ts us : List ℤ) : Type 0 where
   pub each : (ys : List ℤ) → Written g.n group.len group area xs ys → TotalsAfter keeping g xs ts ys us
 
-pub ahead-kept :
+pub ahead_kept :
     {keeping : Bool} {g : Lattice} {group : Group} {cols area : List ℕ} {xs ts us : List ℤ} → keeping ≡ true
     → Columns g.n group.len (pattern_of g.n group xs) cols → Spinning g.n group xs
     → BringsAll g group cols area ts us → Ahead keeping g group area xs ts us
-ahead-kept {keeping} {g} {group} {cols} {area} {xs} on packed spins b = record {
+ahead_kept {keeping} {g} {group} {cols} {area} {xs} on packed spins b = record {
   each = λ ys w. record { brought = λ _. b.each xs ys (between ys w); left = λ off. never (sym off ∙ on) };
 }
   where
     between : (ys : List ℤ) → Written g.n group.len group area xs ys → Between g.n group cols area xs ys
     between ys w = record {
-      before = λ i k il kl. sym (columns-shown packed i k il kl (spins i k il kl));
+      before = λ i k il kl. sym (columns_shown packed i k il kl (spins i k il kl));
       after = w.group;
       others = w.others;
     }

@@ -19,15 +19,15 @@ bounds_determined len k m x y p q =
     ap (λ (a : ℕ). span a x.end) (one_value p.starts q.starts) ∙ ap (λ (e : ℕ). span y.start e) (one_value p.ends q.ends)
 
 -- two slices that are the same part have the same elements
-pub task-choices-determined :
+pub task_choices_determined :
     (q : Plan) (choices : List ℕ) (k : ℕ) (x y : List ℕ) → x ≡ part k (choice_bytes q.mode q.form q.n q.members) choices
     → y ≡ part k (choice_bytes q.mode q.form q.n q.members) choices → x ≡ y
-task-choices-determined q choices k x y = one_value
+task_choices_determined q choices k x y = one_value
 
-pub task-greys-determined :
+pub task_greys_determined :
     (q : Plan) (greys : List ℕ) (k : ℕ) (x y : List ℕ) → x ≡ part k (entries q.form q.n) greys → y ≡ part k (entries q.form q.n) greys
     → x ≡ y
-task-greys-determined q greys k x y = one_value
+task_greys_determined q greys k x y = one_value
 
 pub task_cuts_determined : (q : Plan) (cuts : List Float) (k : ℕ) (x y : List Float) → x ≡ part k (q.n * q.d) cuts → y ≡ part k (q.n * q.d) cuts → x ≡ y
 task_cuts_determined q cuts k x y = one_value
@@ -38,9 +38,9 @@ word_at_determined xs k x y = one_value
 pub task_count_determined : (q : Plan) (x y : ℕ) → x ≡ tasks_of q → y ≡ tasks_of q → x ≡ y
 task_count_determined q x y = one_value
 
-pub task-temperature-determined :
+pub task_temperature_determined :
     (q : Plan) (ts : List Float) (k : ℕ) (x y : Float) → x ≡ get_or ts (k / (q.r / q.members)) nan → y ≡ get_or ts (k / (q.r / q.members)) nan → x ≡ y
-task-temperature-determined q ts k x y = one_value
+task_temperature_determined q ts k x y = one_value
 
 pub masked_determined : (q : Plan) (masks : List ℕ) (k : ℕ) (x y : Bool) → x ≡ masked_at q masks k → y ≡ masked_at q masks k → x ≡ y
 masked_determined q masks k x y = one_value
@@ -48,7 +48,7 @@ masked_determined q masks k x y = one_value
 pub task_group_determined : (q : Plan) (order : List ℕ) (k : ℕ) (x y : Group) → x ≡ group_at q order k → y ≡ group_at q order k → x ≡ y
 task_group_determined q order k x y = one_value
 
-pub task-of-determined :
+pub task_of_determined :
     (q : Plan) (order : List ℕ) (ts : List Float) (references seeds : List ℕ) (k : ℕ) (x y : Task)
     → x ≡ task_at q order ts references seeds k → y ≡ task_at q order ts references seeds k → x ≡ y
-task-of-determined q order ts references seeds k x y = one_value
+task_of_determined q order ts references seeds k x y = one_value

@@ -15,9 +15,9 @@ use Rattle.paper.specs.Panel.Takes.{one_cluster}
 use Rattle.paper.specs.Site.Acting.{test_by, acts}
 use Rattle.paper.specs.Refusal.Rules.{Seeded}
 use Rattle.columns.specs.Column.{shown}
-use Rattle.columns.specs.Gauge.{gauge_of, gauge-is}
+use Rattle.columns.specs.Gauge.{gauge_of, gauge_is}
 use Rattle.column_rules.specs.Laws.{SomeSite}
-use Rattle.column_rules.specs.Sight.{acts_at, column-acts, some_site, some_acts}
+use Rattle.column_rules.specs.Sight.{acts_at, column_acts_lem, some_site, some_acts}
 use Rattle.tests.specs.Choices.{EveryCut, EveryRows}
 
 module _ (t : Task) (xs : List ℤ) where
@@ -35,14 +35,14 @@ module _ (t : Task) (xs : List ℤ) where
   seed_acts l e cuts d s temperature fwd bwd pins couplings = record { below = λ _. l; acting = λ _ _. e }
 
   -- it does not: then no site may
-  pub seed-rests :
+  pub seed_rests :
       (r : Bool) → one_cluster t.form ≡ true → t.seed < t.n
       → acts_at t.mode t.n t.group t.reference xs t.seed ≡ false
       → Tells r (SomeSite t.n (acts_at t.mode t.n t.group t.reference xs))
       → EveryCut t (λ c. Tells (not r) (Seeded c xs))
   unfolding acts
-  seed-rests true w l e some cuts d s temperature fwd bwd pins couplings = λ s. never (sym e ∙ s.acting w (some_acts _ xs some))
-  seed-rests false w l e some cuts d s temperature fwd bwd pins couplings = record { below = λ _. l; acting = λ _ o. absurd (some (some_site _ xs o)) }
+  seed_rests true w l e some cuts d s temperature fwd bwd pins couplings = λ s. never (sym e ∙ s.acting w (some_acts _ xs some))
+  seed_rests false w l e some cuts d s temperature fwd bwd pins couplings = record { below = λ _. l; acting = λ _ o. absurd (some (some_site _ xs o)) }
 
 -- what the seed's column shows, seen through the gauge, is whether the seed acts on the rows
 pub seed_seen : (t : Task) (cols : List ℕ) (g : ℕ) (r : Bool) → t.seed < t.n → g ≡ gauge_of t.mode t.group.len (get_or cols t.reference 0)
@@ -50,5 +50,5 @@ pub seed_seen : (t : Task) (cols : List ℕ) (g : ℕ) (r : Bool) → t.seed < t
     → EveryRows t cols (λ xs. acts_at t.mode t.n t.group t.reference xs t.seed ≡ r)
 seed_seen t cols g r l eg er xs p w =
     sym (er
-    ∙ column-acts p l (w.at t.seed l)
-    (eg ∙ gauge-is t.mode t.group.len t.n t.reference (pattern_of t.n t.group xs) w p.reference))
+    ∙ column_acts_lem p l (w.at t.seed l)
+    (eg ∙ gauge_is t.mode t.group.len t.n t.reference (pattern_of t.n t.group xs) w p.reference))

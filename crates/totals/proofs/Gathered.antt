@@ -18,21 +18,21 @@ module _ {n : ℕ} {members : List ℕ} {rows : ℕ → ℕ} where
     done = λ old new s x d. absurd (none x d);
   }
 
-  pub gathered-as :
+  pub gathered_as :
       {Done Some : ℕ → Type 0} {olds news olds' news' : List ℕ}
       → Gathered n members rows Done olds news olds' news' → ((x : ℕ) → Some x → Done x) → Gathered n members rows Some olds news olds' news'
-  gathered-as g f = record {
+  gathered_as g f = record {
     olds_long = g.olds_long;
     news_long = g.news_long;
     kept = g.kept;
     done = λ old new s x d. g.done old new s x (f x d);
   }
 
-  pub gathered-both :
+  pub gathered_both :
       {Done More : ℕ → Type 0} {o w o₁ w₁ o₂ w₂ : List ℕ}
       → Gathered n members rows Done o w o₁ w₁ → Gathered n members rows More o₁ w₁ o₂ w₂
       → Gathered n members rows (λ x. Done x ⊎ More x) o w o₂ w₂
-  gathered-both {Done} {More} {o} {w} {o₁} {w₁} {o₂} {w₂} a b =
+  gathered_both {Done} {More} {o} {w} {o₁} {w₁} {o₂} {w₂} a b =
       record {
         olds_long = b.olds_long ∙ a.olds_long;
         news_long = b.news_long ∙ a.news_long;
@@ -56,10 +56,10 @@ module _ {n : ℕ} {members : List ℕ} {rows : ℕ → ℕ} where
     done = λ old new s x e. rw e (s.within j l m);
   }
 
-  pub gathered-row :
+  pub gathered_row :
       {olds news : List ℕ} (j c : ℕ) → j < n → j < length olds → j < length news → get_or members j 0 ≢ 1 → c ≡ rows j
       → Gathered n members rows (λ x. x ≡ j) olds news (set olds j c) (set news j c)
-  gathered-row {olds} {news} j c l lo lw m e =
+  gathered_row {olds} {news} j c l lo lw m e =
       record {
         olds_long = length-set olds j c;
         news_long = length-set news j c;
@@ -90,15 +90,15 @@ module _ {d : ℕ} {fwd bwd : List ℕ} {i : ℕ} where
   near_none x (from e l q) = omega arith
 
   -- one direction more
-  pub near-more :
+  pub near_more :
       {m a b : ℕ} → a ≡ get_or fwd (i * d + m) 0 → b ≡ get_or bwd (i * d + m) 0
       → (x : ℕ) → Near d fwd bwd i (m + 1) x → (Near d fwd bwd i m x ⊎ (x ≡ a)) ⊎ (x ≡ b)
-  near-more {m} {a} {b} p q x (to e l r) = at (ℕ_discrete e m)
+  near_more {m} {a} {b} p q x (to e l r) = at (ℕ_discrete e m)
     where
       at : Dec (e ≡ m) → (Near d fwd bwd i m x ⊎ (x ≡ a)) ⊎ (x ≡ b)
       at (yes h) = inl (inr (r ∙ (ap (λ (y : ℕ). get_or fwd (i * d + y) 0) h ∙ sym p)))
       at (no h) = inl (inl (to e (omega arith) r))
-  near-more {m} {a} {b} p q x (from e l r) = at (ℕ_discrete e m)
+  near_more {m} {a} {b} p q x (from e l r) = at (ℕ_discrete e m)
     where
       at : Dec (e ≡ m) → (Near d fwd bwd i m x ⊎ (x ≡ a)) ⊎ (x ≡ b)
       at (yes h) = inr (r ∙ (ap (λ (y : ℕ). get_or bwd (i * d + y) 0) h ∙ sym q))

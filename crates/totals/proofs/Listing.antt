@@ -12,7 +12,7 @@ use lib.IntN.{ℤ, pos, ◌+ℤ◌}
 use Rattle.lemmas.specs.Sums.{sum, sum_ext}
 use Rattle.paper.specs.declared.Group.{Group}
 use Rattle.paper.specs.Panel.Input.{Lattice, member, spin, pattern_of}
-use Rattle.laws.specs.Permuted.{sum-listed}
+use Rattle.laws.specs.Permuted.{sum_listed}
 use Rattle.columns.specs.Column.{shown, shown_column}
 use Rattle.totals.specs.Gain.{Change, change_of, at_site, bond_gain, gain, back_gain, site_gain, Sums}
 use Rattle.totals.specs.Law.{Shows, change_in}
@@ -21,11 +21,11 @@ use Rattle.totals.specs.Listed.{columns_by, Right, Source, Near, to, from, NearS
 use Rattle.totals.proofs.Brings.{spin_of}
 
 -- the columns that are right at a site and next to it make the same changes there
-site-agrees :
+site_agrees :
     (g : Lattice) (old new : ℕ → ℕ) (olds news : List ℕ) (k i : ℕ) → Right old new olds news i
     → ((x : ℕ) → Near g.d g.fwd g.bwd i g.d x → Right old new olds news x)
     → site_gain (change_of g.d g.fwd g.bwd g.couplings olds news) k i ≡ site_gain (change_in g old new) k i
-site-agrees g old new olds news k i r near =
+site_agrees g old new olds news k i r near =
     λ x. cond (eqb (r.before x) (r.after x)) (pos 0)
     (sum_ext g.d (λ e. gain w k i e +ℤ back_gain w k i e) (λ e. gain v k i e +ℤ back_gain v k i e) turn x)
   where
@@ -77,12 +77,12 @@ module _ {g : Lattice} {group : Group} {ys totals : List ℤ} (h : Bringable g g
   still : (k i : ℕ) → get_or members i 0 ≢ 1 → site_gain (change_in g old_of new_of) k i ≡ pos 0
   still k i o = rw (eq-eqb (old_of i) (new_of i) (seen_row members rows olds i o ∙ sym (seen_row members rows news i o)))
 
-  pub listed-sums :
+  pub listed_sums :
       {olds' news' : List ℕ} {sums : List ℤ}
       → Gathered g.n members rows (NearSome g.d g.fwd g.bwd list m) olds news olds' news'
       → Sums group.len (λ k. sum m (λ a. site_gain (change_of g.d g.fwd g.bwd g.couplings olds' news') k (at_site list a))) sums
       → Sums group.len (λ k. sum g.n (site_gain (change_in g old_of new_of) k)) sums
-  listed-sums {olds'} {news'} got s = record { long = s.long; each = λ k l. s.each k l ∙ (sum_ext m _ _ (agrees k) ∙ all k) }
+  listed_sums {olds'} {news'} got s = record { long = s.long; each = λ k l. s.each k l ∙ (sum_ext m _ _ (agrees k) ∙ all k) }
     where
       src : Source g.n members rows old_of new_of olds news
       src = source members rows g.n olds news
@@ -90,13 +90,13 @@ module _ {g : Lattice} {group : Group} {ys totals : List ℤ} (h : Bringable g g
       agrees : (k a : ℕ) → a < m
           → site_gain (change_of g.d g.fwd g.bwd g.couplings olds' news') k (at_site list a) ≡ site_gain (change_in g old_of new_of) k (at_site list a)
       agrees k a l =
-          site-agrees g old_of new_of olds' news' k (at_site list a)
+          site_agrees g old_of new_of olds' news' k (at_site list a)
           (got.kept old_of new_of src (at_site list a) (src.within (at_site list a) (t.sites.below a l) (t.marked a l)))
           (λ x d. got.done old_of new_of src x (a, l, d))
 
       all : (k : ℕ) → sum m (λ a. site_gain (change_in g old_of new_of) k (at_site list a)) ≡ sum g.n (site_gain (change_in g old_of new_of) k)
       all k =
-          sum-listed m g.n (at_site list) (site_gain (change_in g old_of new_of) k) t.sites.below t.distinct
+          sum_listed m g.n (at_site list) (site_gain (change_in g old_of new_of) k) t.sites.below t.distinct
           (λ v l u. still k v (λ e. let r = t.listed v l e in u r.0 r.1 r.2))
 
   -- a column of the rows shows them

@@ -23,9 +23,9 @@ pub added_none : {m : ℕ} {xs : List ℤ} (f : ℕ → ℕ → ℤ) → Added m
 unfolding sum
 added_none f = record { long = refl; each = λ k l. sym (+ℤ_idr _) }
 
-pub added-both :
+pub added_both :
     {m : ℕ} {f g : ℕ → ℤ} {xs ys zs : List ℤ} → Added m f xs ys → Added m g ys zs → Added m (λ k. f k +ℤ g k) xs zs
-added-both {m} {f} {g} {xs} {ys} {zs} a b = record {
+added_both {m} {f} {g} {xs} {ys} {zs} a b = record {
   long = b.long ∙ a.long;
   each = λ k l. b.each k l ∙ (ap (λ (z : ℤ). z +ℤ g k) (a.each k l) ∙ +ℤ_assoc (get_or xs k (pos 0)) (f k) (g k));
 }
@@ -35,7 +35,7 @@ added_as {m} {f} {g} {xs} {ys} a e = record { long = a.long; each = λ k l. a.ea
 
 pub added_more :
     {m e : ℕ} {xs ys zs : List ℤ} (f : ℕ → ℕ → ℤ) → Added m (λ k. sum e (f k)) xs ys → Added m (λ k. f k e) ys zs → Added m (λ k. sum (e + 1) (f k)) xs zs
-added_more {e = e} f a b = added_as (added-both a b) (λ k l. sym (sum_more (f k) e))
+added_more {e = e} f a b = added_as (added_both a b) (λ k l. sym (sum_more (f k) e))
 
 -- ---- sums that start from noughts
 

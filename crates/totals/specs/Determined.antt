@@ -15,16 +15,16 @@ use Rattle.totals.specs.Contract.{Bringable, Spun, Between, BringsAll}
 use Rattle.totals.specs.Listed.{Unturned, BringsListed}
 
 -- totals brought to the same spins are the same
-pub brought-determined :
+pub brought_determined :
     (g : Lattice) (xs totals ys a b : List ℤ) → length totals ≡ g.s → Brought g xs totals ys a → Brought g xs totals ys b → a ≡ b
-brought-determined g xs totals ys a b e p q =
+brought_determined g xs totals ys a b e p q =
     ext_get_or (pos 0) a b (p.long ∙ sym q.long)
     (λ t l. p.each t (omega (arith, p.long, e)) ∙ sym (q.each t (omega (arith, p.long, e))))
 
 -- behind the last row two lists of one length have nothing
-past-rows :
+past_rows :
     (g : Lattice) (xs ys : List ℤ) → length xs ≡ length ys → length ys ≡ g.s * g.n → (t i : ℕ) → (t < g.s → ⊥) → spin g.n xs t i ≡ spin g.n ys t i
-past-rows g xs ys e long t i o =
+past_rows g xs ys e long t i o =
     let b : g.s ≤ t = omega arith in
     let l : length ys ≤ t * g.n + i = omega (arith, long, mul-le-mul_right g.n b) in
     get_or-eq_default xs (pos 0) (omega (arith, e)) ∙ sym (get_or-eq_default ys (pos 0) l)
@@ -69,11 +69,11 @@ module _ (g : Lattice) (group : Group) where
         same i t li u (yes lt) =
             let p = place group.len (member group) t in
             (at news t i lt li ∙ zero_at news i t u p) ∙ sym (at olds t i lt li ∙ zero_at olds i t u p)
-        same i t li u (no o) = past-rows g (rows_of news) (rows_of olds) (rows_long news ∙ sym (rows_long olds)) (rows_long olds) t i o
+        same i t li u (no o) = past_rows g (rows_of news) (rows_of olds) (rows_long news ∙ sym (rows_long olds)) (rows_long olds) t i o
 
     pub bring_all_determined : (a b : List ℤ) → BringsAll g group olds news totals a → BringsAll g group olds news totals b → a ≡ b
     bring_all_determined a b p q =
-        brought-determined g (rows_of olds) totals (rows_of news) a b h.totals_long (p.each (rows_of olds) (rows_of news) between)
+        brought_determined g (rows_of olds) totals (rows_of news) a b h.totals_long (p.each (rows_of olds) (rows_of news) between)
         (q.each (rows_of olds) (rows_of news) between)
 
 module _ (g : Lattice) (group : Group) (ys : List ℤ) (members olds : List ℕ) (totals : List ℤ) (h : Bringable g group totals) (spun : Spun g group ys) where
@@ -108,13 +108,13 @@ module _ (g : Lattice) (group : Group) (ys : List ℤ) (members olds : List ℕ)
     where
       at_row : Dec (t < g.s) → spin g.n ys t i ≡ spin g.n xs t i
       at_row (yes lt) = sym (had t i lt li ∙ e lt)
-      at_row (no o) = sym (past-rows g xs ys xs_long spun.long t i o)
+      at_row (no o) = sym (past_rows g xs ys xs_long spun.long t i o)
 
   unturned : Unturned g.n group members olds xs ys
   unturned = record {
     before = λ i k li e lk. had (member group k) i (h.grouped.below k lk) li
         ∙ before_is i k lk (place group.len (member group) (member group k)) (moved i) (eq-eqb (get_or members i 0) 1 e);
-    sites = λ i t li o. same t i li (λ lt. site-is t i (place group.len (member group) t) (moved i) (ne_eqb (get_or members i 0) 1 o));
+    sites = λ i t li o. same t i li (λ lt. site_is t i (place group.len (member group) t) (moved i) (ne_eqb (get_or members i 0) 1 o));
     systems = λ i t li u. same t i li (λ lt. system_is t i u (place group.len (member group) t) (moved i));
   }
     where
@@ -125,12 +125,12 @@ module _ (g : Lattice) (group : Group) (ys : List ℤ) (members olds : List ℕ)
       before_is i k lk (inl r) false e = never e
       before_is i k lk (inr u) b e = absurd (u k lk refl)
 
-      site-is :
+      site_is :
           (t i : ℕ) (r : Placed group.len (member group) t ⊎ Unplaced group.len (member group) t) (b : Bool) → b ≡ false
           → was t i r b ≡ spin g.n ys t i
-      site-is t i (inl r) true e = never (sym e)
-      site-is t i (inl r) false e = refl
-      site-is t i (inr u) b e = refl
+      site_is t i (inl r) true e = never (sym e)
+      site_is t i (inl r) false e = refl
+      site_is t i (inr u) b e = refl
 
       system_is :
           (t i : ℕ) → Unplaced group.len (member group) t → (r : Placed group.len (member group) t ⊎ Unplaced group.len (member group) t) (b : Bool)
@@ -139,4 +139,4 @@ module _ (g : Lattice) (group : Group) (ys : List ℤ) (members olds : List ℕ)
       system_is t i u (inr v) b = refl
 
   pub bring_listed_determined : (a b : List ℤ) → BringsListed g group ys members olds totals a → BringsListed g group ys members olds totals b → a ≡ b
-  bring_listed_determined a b p q = brought-determined g xs totals ys a b h.totals_long (p.each xs unturned) (q.each xs unturned)
+  bring_listed_determined a b p q = brought_determined g xs totals ys a b h.totals_long (p.each xs unturned) (q.each xs unturned)

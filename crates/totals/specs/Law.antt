@@ -25,9 +25,9 @@ twofold_add n d f g =
     ∙ sum_add n (λ i. sum d (λ e. f i e)) (λ i. sum d (λ e. g i e))
 
 -- the bonds of each direction taken by the site that they lead to
-twofold-turned :
+twofold_turned :
     (n d : ℕ) (p : ℕ → ℕ → ℕ) (f : ℕ → ℕ → ℤ) → ((e : ℕ) → e < d → Permutes n (λ i. p i e)) → twofold n d f ≡ twofold n d (λ i e. f (p i e) e)
-twofold-turned n d p f h =
+twofold_turned n d p f h =
     sum_swap n d f
     ∙ (sum_ext d (λ e. sum n (λ i. f i e)) (λ e. sum n (λ i. f (p i e) e)) (λ e le. sym (sum_permuted n (λ i. p i e) (λ i. f i e) (h e le)))
     ∙ sym (sum_swap n d (λ i e. f (p i e) e)))
@@ -99,7 +99,7 @@ module _ (n : ℕ) (w : Change) (k : ℕ) (tables : Inverse n w.d w.fwd w.bwd) w
   counted_once =
       twofold_ext n w.d (gain w k) (λ i e. here i e +ℤ there i e) (λ i e li le. once i e)
       ∙ (twofold_add n w.d here there
-      ∙ (ap (λ (z : ℤ). twofold n w.d here +ℤ z) (twofold-turned n w.d (behind w) there turns)
+      ∙ (ap (λ (z : ℤ). twofold n w.d here +ℤ z) (twofold_turned n w.d (behind w) there turns)
       ∙ (sym (twofold_add n w.d here (λ i e. there (behind w i e) e))
       ∙ (twofold_ext n w.d (λ i e. here i e +ℤ there (behind w i e) e) (λ i e. cond (still i) (pos 0) (gain w k i e +ℤ back_gain w k i e)) back
       ∙ sum_ext n (λ i. sum w.d (λ e. cond (still i) (pos 0) (gain w k i e +ℤ back_gain w k i e))) (site_gain w k)

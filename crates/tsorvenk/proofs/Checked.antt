@@ -41,11 +41,11 @@ one = refl
 abbrev pub called : Mode → Float → ℕ → ℕ → ℕ → ℕ → List ℕ → List ℕ → List ℕ → Call
 called m x n d k q fwd bwd pins = asked_by (task_of m Observe Nothing n d k (own_group k) x q 0) fwd bwd pins
 
-pub same-called :
+pub same_called :
     {m m' : Mode} {x x' : Float} {n d k q r : ℕ} {fwd bwd pins rows fault rows' fault' : List ℕ} {xs ys : List ℤ} → m ≡ m' → x ≡ x'
     → CheckAnswers (called m x n d k q fwd bwd pins) xs ys rows fault r rows' fault'
     → CheckAnswers (called m' x' n d k q fwd bwd pins) xs ys rows fault r rows' fault'
-same-called {m} {m'} {x} {x'} {n} {d} {k} {q} {r} {fwd} {bwd} {pins} {rows} {fault} {rows'} {fault'} {xs} {ys} em ex w =
+same_called {m} {m'} {x} {x'} {n} {d} {k} {q} {r} {fwd} {bwd} {pins} {rows} {fault} {rows'} {fault'} {xs} {ys} em ex w =
     subst (λ (c : Call). CheckAnswers c xs ys rows fault r rows' fault') (λ i. called (em i) (ex i) n d k q fwd bwd pins) w
 
 module _ (c : Call) (xs ys : List ℤ) (rows fault : List ℕ) where

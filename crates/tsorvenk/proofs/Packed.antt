@@ -20,7 +20,7 @@ module _ {mode form coding keeps : ℕ} {xs : List ℕ} {b : List ℤ → Buffer
   }
 
   module _ {x q : Bool} {c c' : Call} {p p' : Choices} {ys : List ℕ} {b' : List ℤ → Buffers} {ts' : List ℤ} {k : ℕ} where
-    pub packed-known :
+    pub packed_known :
         (a : Answer)
         → k ≡ number_of a
         → x ≡ numbers_by (coding_of coding) c'.mode c'.form
@@ -30,7 +30,7 @@ module _ {mode form coding keeps : ℕ} {xs : List ℕ} {b : List ℤ → Buffer
         → Coded mode form coding keeps
         → PackedCoded x q c p xs b ts a ys b' ts'
         → PackedStepAnswers mode form coding keeps c' p' xs b ts k ys b' ts'
-    packed-known a ek ex eq ec ep d h = record {
+    packed_known a ek ex eq ec ep d h = record {
       known = λ _. record { answer = a; allowed = rw (ex, eq, ec, ep) at h; number = ek };
       unknown = λ none. absurd (none d);
     }

@@ -64,9 +64,9 @@ module _ {n d s systems t r members : ℕ} {fwd bwd pins : List ℕ} {couplings 
       sweep_of (plan_for (em i) (ef i) k n d s systems t r members) fwd bwd pins couplings order masks temperatures cuts references seeds
       (taken_of (em i) flips perms) greys
 
-pub uncoded-sweep :
+pub uncoded_sweep :
     {mode form coding keeps : ℕ} {w : Sweep} {l : WithOutcomes} → (Coded mode form coding keeps → ⊥) → SweepNumbers mode form coding keeps w l 1 l
-uncoded-sweep none = record { known = λ k. absurd (none k); unknown = λ _. record { number = refl; kept = refl } }
+uncoded_sweep none = record { known = λ k. absurd (none k); unknown = λ _. record { number = refl; kept = refl } }
 
 module _ {mode form coding keeps : ℕ} (w w' : Sweep) (b : Buffers) (ts : List ℤ) (os : List ℕ) (r : ℕ) (x : Bool) where
   pub roomless_sweep : (k : Keeps) → Coded mode form coding keeps → x ≡ numbers_by (coding_of coding) w'.mode w'.form → w ≡ w'
@@ -80,7 +80,7 @@ module _ {mode form coding keeps : ℕ} (w w' : Sweep) (b : Buffers) (ts : List 
     unknown = λ none. absurd (none d);
   }
 
-  pub coded-sweep :
+  pub coded_sweep :
       (q : Bool) (a : SweepAnswer) (b' : Buffers) (ts' : List ℤ) (os' : List ℕ)
       → Coded mode form coding keeps
       → x ≡ numbers_by (coding_of coding) w'.mode w'.form
@@ -90,7 +90,7 @@ module _ {mode form coding keeps : ℕ} (w w' : Sweep) (b : Buffers) (ts : List 
       → SweepCodedAnswers x q w b ts a b' ts'
       → Told a os r os'
       → SweepNumbers mode form coding keeps w' (with_outcomes b ts os) r (with_outcomes b' ts' os')
-  coded-sweep q a b' ts' os' d ex eq e l h k = record {
+  coded_sweep q a b' ts' os' d ex eq e l h k = record {
     known = λ _. record {
       roomed = λ _. record { answer = a; allowed = record { answers = rw (ex, eq, e) at h; counts = k.counts }; number = k.number };
       roomless = λ n. absurd (n l);

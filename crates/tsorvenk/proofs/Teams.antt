@@ -19,7 +19,7 @@ use Rattle.paper.specs.Answer.Task.{Sweep}
 use Rattle.paper.specs.Answer.Sweep.{SweepRanged}
 use Rattle.paper.specs.Answer.Totals.{SweepKeepAnswers}
 use Rattle.paper.specs.Answer.Team.{Team, owner_rules, Owned, own_count, read, read_sweep}
-use Rattle.systems.specs.Owners.{read_length, length_fits, OrderRead, order-entries}
+use Rattle.systems.specs.Owners.{read_length, length_fits, OrderRead, order_entries}
 use Rattle.coded.specs.Long.{second}
 use Rattle.coded.specs.Sweep.{SweepCodedAnswers, spelled_sweep}
 use Rattle.tsorvenk.specs.Sweep.{WithOutcomes, Fits, outcome_rules, Uncounted, OutcomeAnswers, SweepNumbers}
@@ -100,9 +100,9 @@ module _ (w : Sweep) (xs ys : List ℕ) where
         go (inl v) = inl ((λ h. v.0 (fits_with x ys xs h)), v.1)
         go (inr v) = inr (fits_with x xs ys v.0, v.1)
 
-    outcome-alike :
+    outcome_alike :
         (x keeping : Bool) (l l' : WithOutcomes) (r : ℕ) → OutcomeAnswers x keeping (with_order xs w) l r l' → OutcomeAnswers x keeping (with_order ys w) l r l'
-    outcome-alike x keeping l l' r h = record {
+    outcome_alike x keeping l l' r h = record {
       roomed = λ e. let q = h.roomed e in record {
         answer = q.answer;
         allowed = record {
@@ -118,7 +118,7 @@ module _ (w : Sweep) (xs ys : List ℕ) where
         {mode form coding keeps : ℕ} (l l' : WithOutcomes) (r : ℕ)
         → SweepNumbers mode form coding keeps (with_order xs w) l r l'
         → SweepNumbers mode form coding keeps (with_order ys w) l r l'
-    order_alike l l' r h = record { known = λ k. outcome-alike _ _ l l' r (h.known k); unknown = h.unknown }
+    order_alike l l' r h = record { known = λ k. outcome_alike _ _ l l' r (h.known k); unknown = h.unknown }
 
 -- ---- an order that is too long is not read
 module _ (w : Sweep) (f : ℕ → ℕ) (order : List ℕ) where
@@ -177,15 +177,15 @@ with_systems m w = record {
   greys = w.greys;
 }
 
-pub order-inside :
+pub order_inside :
     {o : Team} {s : ℕ} {order named : List ℕ} {r : ℕ} {named' : List ℕ} → length named ≡ 64 → OrderRead o s order named r named' → r ≤ length named'
-order-inside {s = s} {order} room h = rw (h.written.long, room, h.count) (length_fits s (length order))
+order_inside {s = s} {order} room h = rw (h.written.long, room, h.count) (length_fits s (length order))
 
 module _ (o : Team) (w : Sweep) (mode form coding keeps : ℕ) (l l' : WithOutcomes) (r : ℕ) where
   abbrev Numbers : Sweep → Type 0
   Numbers v = SweepNumbers mode form coding keeps v l r l'
 
-  pub sweep-read :
+  pub sweep_read :
       (systems len : ℕ) (named named' : List ℕ)
       → Kept (owner_rules o w.lattice.s)
       → systems ≡ own_count o (length o.owners)
@@ -193,8 +193,8 @@ module _ (o : Team) (w : Sweep) (mode form coding keeps : ℕ) (l l' : WithOutco
       → OrderRead o w.lattice.s w.order named len named'
       → Numbers (with_order (take len named') (with_systems systems w))
       → Numbers (read_sweep o w)
-  sweep-read systems len named named' k count room h n =
+  sweep_read systems len named named' k count room h n =
       read_alike (with_systems (own_count o w.lattice.s) w) (read o w.lattice.s) w.order l l' r
       (subst (λ (m : ℕ). Numbers (with_order (map (read o w.lattice.s) (take m w.order)) (with_systems (own_count o w.lattice.s) w))) h.count
-      (subst (λ (xs : List ℕ). Numbers (with_order xs (with_systems (own_count o w.lattice.s) w))) (order-entries room h)
+      (subst (λ (xs : List ℕ). Numbers (with_order xs (with_systems (own_count o w.lattice.s) w))) (order_entries room h)
       (subst (λ (m : ℕ). Numbers (with_order (take len named') (with_systems m w))) (count ∙ ap (own_count o) k.0) n)))

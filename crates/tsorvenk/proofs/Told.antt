@@ -34,10 +34,10 @@ one_set (y ∷ []) x l = refl
 one_set (y ∷ z ∷ xs) x l = absurd (omega arith)
 
 -- ---- a step
-pub unknown-code :
+pub unknown_code :
     {mode form coding keeps : ℕ} {c : Call} {p : Choices} {l : WithTotals} → (Coded mode form coding keeps → ⊥)
     → StepAnswers mode form coding keeps c p l 1 l
-unknown-code none = record { known = λ k. absurd (none k); unknown = λ _. record { number = refl; kept = refl } }
+unknown_code none = record { known = λ k. absurd (none k); unknown = λ _. record { number = refl; kept = refl } }
 
 abbrev call_by : Lattice → List ℕ → Float → List Float → ℕ → ℕ → Mode → Form → Group → Call
 call_by t pins temperature cuts reference seed m f g = record {
@@ -63,10 +63,10 @@ module _ {t : Lattice} {pins : List ℕ} {x x' : Float} {cuts : List Float} {q s
   same_call_at em ef ex = λ i. call_by t pins (ex i) cuts q s (em i) (ef i) g
 
 -- and the choices of that mode
-pub same-choices :
+pub same_choices :
     {m m' : Mode} {choices greys : List ℕ} (flips perms : List ℕ) → choices ≡ taken_of m flips perms → m ≡ m'
     → choices_of choices greys ≡ choices_of (taken_of m' flips perms) greys
-same-choices {greys = greys} flips perms e em = λ i. choices_of ((e ∙ ap (λ (z : Mode). taken_of z flips perms) em) i) greys
+same_choices {greys = greys} flips perms e em = λ i. choices_of ((e ∙ ap (λ (z : Mode). taken_of z flips perms) em) i) greys
 
 -- and what is kept
 pub same_keeping : {k k' : Keeps} {f f' : Form} → k ≡ k' → f ≡ f' → keeps_by k f ≡ keeps_by k' f'
@@ -77,7 +77,7 @@ pub same_coding : {k k' : Coding} {m m' : Mode} {f f' : Form} → k ≡ k' → m
 same_coding ek em ef = λ i. numbers_by (ek i) (em i) (ef i)
 
 module _ {mode form coding keeps : ℕ} {x q : Bool} {c c' : Call} {p p' : Choices} {b b' : Buffers} {ts ts' : List ℤ} {k : ℕ} where
-  pub known-code :
+  pub known_code :
       (a : Answer)
       → k ≡ number_of a
       → x ≡ numbers_by (coding_of coding) c'.mode c'.form
@@ -87,7 +87,7 @@ module _ {mode form coding keeps : ℕ} {x q : Bool} {c c' : Call} {p p' : Choic
       → Coded mode form coding keeps
       → CodedAnswers x q c p b ts a b' ts'
       → StepAnswers mode form coding keeps c' p' (with_totals b ts) k (with_totals b' ts')
-  known-code a ek ex eq ec ep d h = record {
+  known_code a ek ex eq ec ep d h = record {
     known = λ _. record { answer = a; allowed = rw (ex, eq, ec, ep) at h; number = ek };
     unknown = λ none. absurd (none d);
   }

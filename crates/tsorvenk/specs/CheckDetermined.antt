@@ -6,7 +6,7 @@ use Rattle.paper.specs.Refusal.Rule.{Kept, broken_unique, broken_not_kept}
 use Rattle.vendor.specs.declared.Checked.{Checked}
 use Rattle.vendor.specs.declared.Checked.TheVariants.{Refused, No, Yes}
 use Rattle.vendor.specs.Vendor.{values, vendor_rules}
-use Rattle.vendor.specs.Determined.{SameChecked, check-vendor-determined}
+use Rattle.vendor.specs.Determined.{SameChecked, check_vendor_determined}
 use Rattle.tsorvenk.specs.Number.{values_to}
 use Rattle.tsorvenk.specs.Checking.{checked_number, check_rules, Checks, CheckedAs, CheckAnswers}
 
@@ -27,7 +27,7 @@ module _ (c : Call) (xs ys : List ℤ) (rows fault us fs vs gs : List ℕ) where
 
   both : (a b : Checked) → Checks c xs ys rows fault a us fs → Checks c xs ys rows fault b vs gs → SameTold a us fs b vs gs
   both a b w v =
-      let s : SameChecked a us b vs = check-vendor-determined c xs ys rows a b us vs w.answers v.answers in
+      let s : SameChecked a us b vs = check_vendor_determined c xs ys rows a b us vs w.answers v.answers in
       record {
         answer = s.answer;
         rows = s.rows;
@@ -50,8 +50,8 @@ module _ (c : Call) (xs ys : List ℤ) (rows fault us fs vs gs : List ℕ) where
   told Yes (No s) w v = both Yes (No s) w v
   told Yes Yes w v = both Yes Yes w v
 
-  pub tsorvenk-check-vendor-determined :
+  pub tsorvenk_check_vendor_determined :
       (r s : ℕ) → CheckAnswers c xs ys rows fault r us fs → CheckAnswers c xs ys rows fault s vs gs → SameCheck r us fs s vs gs
-  tsorvenk-check-vendor-determined r s w v =
+  tsorvenk_check_vendor_determined r s w v =
       let t = told w.answer v.answer w.allowed v.allowed in
       record { number = w.number ∙ (ap checked_number t.answer ∙ sym v.number); rows = t.rows; fault = t.fault }

@@ -31,14 +31,14 @@ use Rattle.edges.specs.Answer.{Net, net_of, ReadAnswers, listing_values}
 use Rattle.edges.specs.Determined.{read_edges_determined, write_edges_determined}
 use Rattle.orders.specs.declared.Numbered.{Numbered}
 use Rattle.orders.specs.Answers.{values, RowAnswers}
-use Rattle.orders.specs.Determined.{row-of-determined, number_of_determined}
+use Rattle.orders.specs.Determined.{row_of_determined, number_of_determined}
 use Rattle.coded.specs.Takes.{numbers_by}
-use Rattle.laws.specs.Owners.{owned-both}
-use Rattle.coded.specs.Determined.{overlap-step-by-determined, overlap-update-by-determined}
+use Rattle.laws.specs.Owners.{owned_both}
+use Rattle.coded.specs.Determined.{overlap_step_by_determined, overlap_update_by_determined}
 use Rattle.coded.specs.Determined.{packed_step_by_determined}
 use Rattle.packing.specs.Answer.{PackAnswers, UnpackAnswers}
 use Rattle.packing.specs.Determined as Packed
-use Rattle.packing.specs.Determined.{pack-determined, unpack-determined}
+use Rattle.packing.specs.Determined.{pack_determined, unpack_determined}
 use Rattle.packed.specs.Packed.{lent_of}
 use Rattle.tsorvenk.specs.Packed.{PackedStepAnswers}
 use Rattle.tsorvenk.specs.Number.{Coded, coding_of, keeps_of, number_of, coded, Returned, values_to}
@@ -61,18 +61,18 @@ module _ {A B : Type 0} {numberBy : A → ℕ} {P Q : A → Type 0} {r r' : ℕ}
   same_returned : (f : Returned numberBy P r) (g : Returned numberBy Q r') → Same f.answer g.answer y z → Same r r' y z
   same_returned f g s = record { answer = f.number ∙ (ap numberBy s.answer ∙ sym g.number); buffers = s.buffers }
 
-step-determined :
+step_determined :
     (mode form coding keeps : ℕ) (c : Call) (p : Choices) (l y z : WithTotals) (r r' : ℕ)
     → StepAnswers mode form coding keeps c p l r y
     → StepAnswers mode form coding keeps c p l r' z
     → Same r r' y z
-step-determined mode form coding keeps c p l y z r r' f g = go (coded mode form coding keeps)
+step_determined mode form coding keeps c p l y z r r' f g = go (coded mode form coding keeps)
   where
     go : Dec (Coded mode form coding keeps) → Same r r' y z
     go (yes k) =
         let u = f.known k in
         let v = g.known k in
-        let s = overlap-step-by-determined (numbers_by (coding_of coding) c.mode c.form) (keeps_by (keeps_of keeps) c.form) c p l.buffers
+        let s = overlap_step_by_determined (numbers_by (coding_of coding) c.mode c.form) (keeps_by (keeps_of keeps) c.form) c p l.buffers
         l.totals y.buffers z.buffers y.totals z.totals u.answer v.answer u.allowed v.allowed in
         same_returned u v (record { answer = s.answer; buffers = λ i. with_totals (s.buffers i) (s.totals i) })
     go (no k) = record {
@@ -81,15 +81,15 @@ step-determined mode form coding keeps c p l y z r r' f g = go (coded mode form 
     }
 
 -- on bytes
-pub tsorvenk-pack-determined :
+pub tsorvenk_pack_determined :
     (n m : ℕ) (rows : List ℤ) (columns : List ℕ) (r r' : ℕ) (y z : List ℕ)
     → PackAnswers n m rows columns r y → PackAnswers n m rows columns r' z → Packed.Same r r' y z
-tsorvenk-pack-determined = pack-determined
+tsorvenk_pack_determined = pack_determined
 
-pub tsorvenk-unpack-determined :
+pub tsorvenk_unpack_determined :
     (n m : ℕ) (columns : List ℕ) (rows : List ℤ) (r r' : ℕ) (y z : List ℤ)
     → UnpackAnswers n m columns rows r y → UnpackAnswers n m columns rows r' z → Packed.Same r r' y z
-tsorvenk-unpack-determined = unpack-determined
+tsorvenk_unpack_determined = unpack_determined
 
 pub record SamePackedNumber (r : ℕ) (ys : List ℕ) (b : Buffers) (us : List ℤ) (r' : ℕ) (zs : List ℕ) (b' : Buffers) (vs : List ℤ) : Type 0 where
   pub number : r ≡ r'
@@ -131,9 +131,9 @@ module _
               totals = o.totals_kept ∙ sym i.totals_kept;
             }
 
-pub tsorvenk-hand-over-determined :
+pub tsorvenk_hand_over_determined :
     (o : Team) (g : Lattice) (xs ts : List ℤ) (r r' : ℕ) → Verdict (hand_over_rules o g xs ts) r → Verdict (hand_over_rules o g xs ts) r' → r ≡ r'
-tsorvenk-hand-over-determined o g xs ts = verdict_unique (hand_over_rules o g xs ts)
+tsorvenk_hand_over_determined o g xs ts = verdict_unique (hand_over_rules o g xs ts)
 
 module _ (t : Lattice) (xs : List ℤ) (k : ℕ) (es y z : List ℤ) where
   -- what a written energy shows
@@ -169,7 +169,7 @@ module _ (coded keeping : Bool) (w : Sweep) (l y z : WithOutcomes) where
   counted_same a a' f g = record { answer = same.answer; buffers = λ j. with_outcomes (same.buffers j) (same.totals j) (counts j) }
     where
       same : SameSweepKept a y.buffers y.totals a' z.buffers z.totals
-      same = overlap-update-by-determined coded keeping w l.buffers l.totals y.buffers z.buffers y.totals z.totals a a'
+      same = overlap_update_by_determined coded keeping w l.buffers l.totals y.buffers z.buffers y.totals z.totals a a'
           f.answers g.answers
 
       counts : y.outcomes ≡ z.outcomes
@@ -206,30 +206,30 @@ sweep_determined mode form coding keeps w l y z r r' f g = go (coded mode form c
 -- ---- a team's calls: an owner test refuses, and everything is as it was lent, or the call is one of the others
 module _ (o : Team) (s : ℕ) {A : Type 0} (l y z : A) (r r' : ℕ) {P Q : Type 0} (both : P → Q → Same r r' y z) where
   owned_same : Owned o s r (y ≡ l) P → Owned o s r' (z ≡ l) Q → Same r r' y z
-  owned_same = owned-both (λ _. both) (λ k some e e' q q'. record { answer = e ∙ sym e'; buffers = q ∙ sym q' })
+  owned_same = owned_both (λ _. both) (λ k some e e' q q'. record { answer = e ∙ sym e'; buffers = q ∙ sym q' })
 
-pub tsorvenk-step-determined :
+pub tsorvenk_step_determined :
     (o : Team) (mode form coding keeps : ℕ) (c : Call) (p : Choices) (l y z : WithTotals) (r r' : ℕ)
     → Owned o c.lattice.s r (y ≡ l) (StepAnswers mode form coding keeps (read_call o c) p l r y)
     → Owned o c.lattice.s r' (z ≡ l) (StepAnswers mode form coding keeps (read_call o c) p l r' z)
     → Same r r' y z
-tsorvenk-step-determined o mode form coding keeps c p l y z r r' =
-    owned_same o c.lattice.s l y z r r' (step-determined mode form coding keeps (read_call o c) p l y z r r')
+tsorvenk_step_determined o mode form coding keeps c p l y z r r' =
+    owned_same o c.lattice.s l y z r r' (step_determined mode form coding keeps (read_call o c) p l y z r r')
 
-pub tsorvenk-sweep-determined :
+pub tsorvenk_sweep_determined :
     (o : Team) (mode form coding keeps : ℕ) (w : Sweep) (l y z : WithOutcomes) (r r' : ℕ)
     → Owned o w.lattice.s r (y ≡ l) (SweepNumbers mode form coding keeps (read_sweep o w) l r y)
     → Owned o w.lattice.s r' (z ≡ l) (SweepNumbers mode form coding keeps (read_sweep o w) l r' z)
     → Same r r' y z
-tsorvenk-sweep-determined o mode form coding keeps w l y z r r' =
+tsorvenk_sweep_determined o mode form coding keeps w l y z r r' =
     owned_same o w.lattice.s l y z r r' (sweep_determined mode form coding keeps (read_sweep o w) l y z r r')
 
-pub tsorvenk-energy-determined :
+pub tsorvenk_energy_determined :
     (o : Team) (g : Lattice) (xs : List ℤ) (t : ℕ) (es y z : List ℤ) (r r' : ℕ)
     → Owned o g.s r (y ≡ es) (EnergyAnswers g xs (read o g.s t) es r y)
     → Owned o g.s r' (z ≡ es) (EnergyAnswers g xs (read o g.s t) es r' z)
     → Same r r' y z
-tsorvenk-energy-determined o g xs t es y z r r' = owned_same o g.s es y z r r' (energy_determined g xs (read o g.s t) es y z r r')
+tsorvenk_energy_determined o g xs t es y z r r' = owned_same o g.s es y z r r' (energy_determined g xs (read o g.s t) es y z r r')
 
 -- ---- frames
 pub tsorvenk_frames_determined : (text : List ℕ) (l y z : Framed) (r r' : ℕ) → FramesNumbers text l r y → FramesNumbers text l r' z → Same r r' y z
@@ -261,13 +261,13 @@ pub record SameDrawn (r r' : ℕ) (ws ws' ys zs : List ℕ) : Type 0 where
   pub buffer : ys ≡ zs
 
 module _ (ws xs : List ℕ) (r r' : ℕ) (us vs ys zs : List ℕ) where
-  draws-determined :
+  draws_determined :
       (Allowed : Source → List ℕ → Left → List ℕ → Type 0)
       → ((x y : Left) → Allowed (source_of ws) xs x ys → Allowed (source_of ws) xs y zs → Draw.Same x y ys zs)
       → Draws Allowed ws xs r us ys
       → Draws Allowed ws xs r' vs zs
       → SameDrawn r r' us vs ys zs
-  draws-determined Allowed one p q = go (ℕ_discrete (length ws) 4)
+  draws_determined Allowed one p q = go (ℕ_discrete (length ws) 4)
     where
       go : Dec (length ws ≡ 4) → SameDrawn r r' us vs ys zs
       go (yes e) =
@@ -285,45 +285,45 @@ module _ (ws xs : List ℕ) (r r' : ℕ) (us vs ys zs : List ℕ) where
           record { number = f.number ∙ sym g.number; words = f.words ∙ sym g.words; buffer = f.kept ∙ sym g.kept }
 
   pub tsorvenk_word_determined : Draws WordDrawn ws xs r us ys → Draws WordDrawn ws xs r' vs zs → SameDrawn r r' us vs ys zs
-  tsorvenk_word_determined = draws-determined WordDrawn (λ x y. Draw.one_word_determined (source_of ws) xs x y ys zs)
+  tsorvenk_word_determined = draws_determined WordDrawn (λ x y. Draw.one_word_determined (source_of ws) xs x y ys zs)
 
   pub tsorvenk_coin_determined : Draws CoinDrawn ws xs r us ys → Draws CoinDrawn ws xs r' vs zs → SameDrawn r r' us vs ys zs
-  tsorvenk_coin_determined = draws-determined CoinDrawn (λ x y. Draw.one_coin_determined (source_of ws) xs x y ys zs)
+  tsorvenk_coin_determined = draws_determined CoinDrawn (λ x y. Draw.one_coin_determined (source_of ws) xs x y ys zs)
 
   pub tsorvenk_below_determined : (m : ℕ) → Draws (BelowDrawn m) ws xs r us ys → Draws (BelowDrawn m) ws xs r' vs zs → SameDrawn r r' us vs ys zs
-  tsorvenk_below_determined m = draws-determined (BelowDrawn m) (λ x y. Draw.one_below_determined (source_of ws) xs x y ys zs m)
+  tsorvenk_below_determined m = draws_determined (BelowDrawn m) (λ x y. Draw.one_below_determined (source_of ws) xs x y ys zs m)
 
   pub tsorvenk_permutation_determined : (m : ℕ) → Draws (PermutationDrawn m) ws xs r us ys → Draws (PermutationDrawn m) ws xs r' vs zs
       → SameDrawn r r' us vs ys zs
-  tsorvenk_permutation_determined m = draws-determined (PermutationDrawn m) (λ x y. Draw.one_permutation_determined (source_of ws) xs x y ys zs m)
+  tsorvenk_permutation_determined m = draws_determined (PermutationDrawn m) (λ x y. Draw.one_permutation_determined (source_of ws) xs x y ys zs m)
 
   pub tsorvenk_fill_flips_determined : Draws FlipsFilled ws xs r us ys → Draws FlipsFilled ws xs r' vs zs → SameDrawn r r' us vs ys zs
-  tsorvenk_fill_flips_determined = draws-determined FlipsFilled (λ x y. Draw.fill_flips_determined (source_of ws) xs x y ys zs)
+  tsorvenk_fill_flips_determined = draws_determined FlipsFilled (λ x y. Draw.fill_flips_determined (source_of ws) xs x y ys zs)
 
   pub tsorvenk_fill_below_determined : (m : ℕ) → Draws (BelowFilled m) ws xs r us ys → Draws (BelowFilled m) ws xs r' vs zs → SameDrawn r r' us vs ys zs
-  tsorvenk_fill_below_determined m = draws-determined (BelowFilled m) (λ x y. Draw.fill_below_determined (source_of ws) xs x y ys zs m)
+  tsorvenk_fill_below_determined m = draws_determined (BelowFilled m) (λ x y. Draw.fill_below_determined (source_of ws) xs x y ys zs m)
 
   pub tsorvenk_fill_bytes_below_determined : (m : ℕ) → Draws (BytesFilled m) ws xs r us ys → Draws (BytesFilled m) ws xs r' vs zs
       → SameDrawn r r' us vs ys zs
-  tsorvenk_fill_bytes_below_determined m = draws-determined (BytesFilled m) (λ x y. Draw.fill_bytes_below_determined (source_of ws) xs x y ys zs m)
+  tsorvenk_fill_bytes_below_determined m = draws_determined (BytesFilled m) (λ x y. Draw.fill_bytes_below_determined (source_of ws) xs x y ys zs m)
 
   pub tsorvenk_fill_permutations_determined : (m : ℕ) → Draws (PermutationsFilled m) ws xs r us ys → Draws (PermutationsFilled m) ws xs r' vs zs
       → SameDrawn r r' us vs ys zs
-  tsorvenk_fill_permutations_determined m = draws-determined (PermutationsFilled m) (λ x y. Draw.fill_permutations_determined (source_of ws) xs x y ys zs m)
+  tsorvenk_fill_permutations_determined m = draws_determined (PermutationsFilled m) (λ x y. Draw.fill_permutations_determined (source_of ws) xs x y ys zs m)
 
   pub tsorvenk_wolff_permutation_determined : (m : ℕ) → Draws (WolffFilled m) ws xs r us ys → Draws (WolffFilled m) ws xs r' vs zs
       → SameDrawn r r' us vs ys zs
-  tsorvenk_wolff_permutation_determined m = draws-determined (WolffFilled m) (λ x y. Draw.wolff_permutations_determined (source_of ws) xs x y ys zs m)
+  tsorvenk_wolff_permutation_determined m = draws_determined (WolffFilled m) (λ x y. Draw.wolff_permutations_determined (source_of ws) xs x y ys zs m)
 
   pub tsorvenk_wolff_grey_determined : Draws GreysFilled ws xs r us ys → Draws GreysFilled ws xs r' vs zs → SameDrawn r r' us vs ys zs
-  tsorvenk_wolff_grey_determined = draws-determined GreysFilled (λ x y. Draw.wolff_greys_determined (source_of ws) xs x y ys zs)
+  tsorvenk_wolff_grey_determined = draws_determined GreysFilled (λ x y. Draw.wolff_greys_determined (source_of ws) xs x y ys zs)
 
   pub tsorvenk_fill_numbers_determined : Draws NumbersFilled ws xs r us ys → Draws NumbersFilled ws xs r' vs zs → SameDrawn r r' us vs ys zs
-  tsorvenk_fill_numbers_determined = draws-determined NumbersFilled (λ x y. Draw.fill_numbers_determined (source_of ws) xs x y ys zs)
+  tsorvenk_fill_numbers_determined = draws_determined NumbersFilled (λ x y. Draw.fill_numbers_determined (source_of ws) xs x y ys zs)
 
   pub tsorvenk_wolff_numbers_determined : Draws WolffNumbersFilled ws xs r us ys → Draws WolffNumbersFilled ws xs r' vs zs
       → SameDrawn r r' us vs ys zs
-  tsorvenk_wolff_numbers_determined = draws-determined WolffNumbersFilled (λ x y. Draw.wolff_numbers_determined (source_of ws) xs x y ys zs)
+  tsorvenk_wolff_numbers_determined = draws_determined WolffNumbersFilled (λ x y. Draw.wolff_numbers_determined (source_of ws) xs x y ys zs)
 
 -- ---- edge lists
 pub tsorvenk_read_edges_determined : (n d : ℕ) (fwd bwd text : List ℕ) (js y z : List ℤ) (r r' : ℕ) → ReadAnswers (net_of n d fwd bwd) text js r y
@@ -357,7 +357,7 @@ module _ (n d : ℕ) (fwd bwd : List ℕ) (js : List ℤ) (l y z : Lists) where
 
 -- ---- permutations of five and their numbers
 pub tsorvenk_row_of_determined : (v : ℕ) (xs y z : List ℕ) (r r' : ℕ) → RowAnswers v xs r y → RowAnswers v xs r' z → Same r r' y z
-tsorvenk_row_of_determined v xs y z r r' f g = let s = row-of-determined v xs r r' y z f g in record { answer = s.0; buffers = s.1 }
+tsorvenk_row_of_determined v xs y z r r' f g = let s = row_of_determined v xs r r' y z f g in record { answer = s.0; buffers = s.1 }
 
 pub tsorvenk_number_of_determined : (row vs y z : List ℕ) (r r' : ℕ) → RowNumbers row vs r y → RowNumbers row vs r' z → Same r r' y z
 tsorvenk_number_of_determined row vs y z r r' f g = go (ℕ_discrete (length vs) 1)

@@ -6,7 +6,7 @@ use Rattle.paper.specs.Panel.Input.{Call, Choices}
 use Rattle.paper.specs.Panel.Takes.{keeps_by}
 use Rattle.paper.specs.Refusal.Rule.{Kept, broken_not_kept}
 use Rattle.paper.specs.Answer.Team.{Team, owner_rules, Owned, Ours, read_call}
-use Rattle.laws.specs.Owners.{owned-both}
+use Rattle.laws.specs.Owners.{owned_both}
 use Rattle.laws.specs.SameView.{SameView}
 use Rattle.laws.specs.NamedOnly.{SeenAlike}
 use Rattle.laws.specs.Isolated.{isolated}
@@ -73,8 +73,8 @@ module _
               let v = g.unknown k in
               kept_alike (u.number ∙ sym v.number) u.kept v.kept
 
-    pub step-isolated :
+    pub step_isolated :
         Owned o c.lattice.s r (y ≡ l) (StepAnswers mode form coding keeps (read_call o c) p l r y)
         → Owned o c.lattice.s r' (z ≡ d) (StepAnswers mode form coding keeps (read_call o c) p d r' z)
         → Alike
-    step-isolated = owned-both told (λ k some e e' q q'. kept_alike (e ∙ sym e') q q')
+    step_isolated = owned_both told (λ k some e e' q q'. kept_alike (e ∙ sym e') q q')

@@ -65,15 +65,15 @@ module _ (coded keeping : Bool) (c : Call) (p : Choices) (b : Buffers) (ts : Lis
 abbrev pub answer_of : ℕ → Answer
 answer_of r = cond (eqb r 0) Moved (cond (eqb r 64) Idle (cond (eqb r 66) Held (Refused r)))
 
-pub step-told :
+pub step_told :
     (coded keeping : Bool) (c : Call) (p : Choices) (b : Buffers) (ts : List ℤ) (b' : Buffers) (ts' : List ℤ) (a : Answer)
     → CodedAnswers coded keeping c p b ts a b' ts' → answer_of (number_of a) ≡ a
-step-told coded keeping c p b ts b' ts' (Refused r) h =
+step_told coded keeping c p b ts b' ts' (Refused r) h =
     let l = step_listed coded keeping c p b ts b' ts' r h in
     rw (ne_eqb r 0 (λ e. omega arith), ne_eqb r 64 (λ e. omega arith), ne_eqb r 66 (λ e. omega arith))
-step-told coded keeping c p b ts b' ts' Idle h = refl
-step-told coded keeping c p b ts b' ts' Held h = refl
-step-told coded keeping c p b ts b' ts' Moved h = refl
+step_told coded keeping c p b ts b' ts' Idle h = refl
+step_told coded keeping c p b ts b' ts' Held h = refl
+step_told coded keeping c p b ts b' ts' Moved h = refl
 
 -- ---- the meter
 pub energy_listed : (t : Lattice) (xs : List ℤ) (k : ℕ) (es es' : List ℤ) (r : ℕ) → EnergyRefuses t xs k es r es' → Listed r
@@ -83,9 +83,9 @@ energy_listed t xs k es es' r h = broken_listed (energy_rules t xs k es) r all h
     all = search (listed, arith)
 
 -- ---- a vendor's check
-pub check-listed :
+pub check_listed :
     (c : Call) (xs ys : List ℤ) (rows fault rows' fault' : List ℕ) (r : ℕ) → CheckRefuses c xs ys rows fault r rows' fault' → Listed r
-check-listed c xs ys rows fault rows' fault' r h = broken_listed (check_rules c xs ys rows fault) r all h.why
+check_listed c xs ys rows fault rows' fault' r h = broken_listed (check_rules c xs ys rows fault) r all h.why
   where
     all : AllListed (check_rules c xs ys rows fault)
     all = search (listed, arith)

@@ -8,10 +8,10 @@ use Rattle.paper.specs.Refusal.Rule.{Kept, broken_unique}
 use Rattle.paper.specs.Answer.Number.{sweep_values, sweep_number}
 use Rattle.paper.specs.Answer.Task.{Sweep}
 use Rattle.paper.specs.Answer.Team.{Team, owner_rules, Owned, Ours, read_sweep}
-use Rattle.laws.specs.Owners.{owned-both}
+use Rattle.laws.specs.Owners.{owned_both}
 use Rattle.laws.specs.SameView.{SameView}
 use Rattle.laws.specs.NamedOnly.{SeenAlike}
-use Rattle.laws.specs.Isolated.{sweep-isolated}
+use Rattle.laws.specs.Isolated.{sweep_isolated}
 use Rattle.coded.specs.Takes.{numbers_by}
 use Rattle.coded.specs.Answer.{Five}
 use Rattle.coded.specs.Sweep.{spelled_sweep, SweepCodedAnswers}
@@ -59,31 +59,31 @@ module _
         where
           go : Dec (Five spelling w.members) → Seen a a'
           go (yes k) =
-              sweep-isolated o keeping (spelled_sweep spelling w) l.buffers d.buffers l.totals d.totals a a' y.buffers z.buffers y.totals
+              sweep_isolated o keeping (spelled_sweep spelling w) l.buffers d.buffers l.totals d.totals a a' y.buffers z.buffers y.totals
               z.totals view (owned_by h (f.five k)) (owned_by h (g.five k))
           go (no k) =
               let u = f.other k in
               let v = g.other k in
               record { answer = u.number ∙ sym v.number; view = rw (u.kept, u.totals_kept, v.kept, v.totals_kept) view }
 
-      counted-alike :
+      counted_alike :
           (a a' : SweepAnswer) → Counted spelling keeping (read_sweep o w) l a y → Counted spelling keeping (read_sweep o w) d a' z
           → r ≡ sweep_number a → r' ≡ sweep_number a' → Alike
-      counted-alike a a' f g e e' = let s = coded_alike a a' f.answers g.answers in record {
+      counted_alike a a' f g e e' = let s = coded_alike a a' f.answers g.answers in record {
         number = e ∙ (ap sweep_number s.answer ∙ sym e');
         view = s.view;
         outcomes = g.counts ∙ ((λ i. values_to (sweep_values (sym s.answer i)) (same i)) ∙ sym f.counts);
       }
 
-      outcomes-alike :
+      outcomes_alike :
           OutcomeAnswers spelling keeping (read_sweep o w) l r y → OutcomeAnswers spelling keeping (read_sweep o w) d r' z → Alike
-      outcomes-alike f g = go (ℕ_discrete (length l.outcomes) 3)
+      outcomes_alike f g = go (ℕ_discrete (length l.outcomes) 3)
         where
           go : Dec (length l.outcomes ≡ 3) → Alike
           go (yes e) =
               let u = f.roomed e in
               let v = g.roomed (ap length same ∙ e) in
-              counted-alike u.answer v.answer u.allowed v.allowed u.number v.number
+              counted_alike u.answer v.answer u.allowed v.allowed u.number v.number
           go (no e) =
               let u = f.roomless e in
               let v = g.roomless (λ q. e (sym (ap length same) ∙ q)) in
@@ -93,14 +93,14 @@ module _
       told f g = go (coded mode form coding keeps)
         where
           go : Dec (Coded mode form coding keeps) → Alike
-          go (yes k) = outcomes-alike (f.known k) (g.known k)
+          go (yes k) = outcomes_alike (f.known k) (g.known k)
           go (no k) =
               let u = f.unknown k in
               let v = g.unknown k in
               kept_alike (u.number ∙ sym v.number) u.kept v.kept
 
-    pub sweep-isolated-by :
+    pub sweep_isolated_by :
         Owned o w.lattice.s r (y ≡ l) (SweepNumbers mode form coding keeps (read_sweep o w) l r y)
         → Owned o w.lattice.s r' (z ≡ d) (SweepNumbers mode form coding keeps (read_sweep o w) d r' z)
         → Alike
-    sweep-isolated-by = owned-both told (λ k some e e' q q'. kept_alike (e ∙ sym e') q q')
+    sweep_isolated_by = owned_both told (λ k some e e' q q'. kept_alike (e ∙ sym e') q q')

@@ -9,7 +9,7 @@ use Rattle.paper.specs.declared.Task.{Task}
 use Rattle.paper.specs.Panel.Takes.{is_perm, is_cmr}
 use Rattle.columns.specs.Column.{shown, column_of, column_ext}
 use Rattle.column_rules.specs.Tables.{flip_entry}
-use Rattle.column_rules.specs.Acted.{choice_column, flip-choice, perm-choice, cmr-narrow}
+use Rattle.column_rules.specs.Acted.{choice_column, flip_choice, perm_choice, cmr_narrow}
 use Rattle.turn.specs.Turned.{OneCluster, acted_column}
 use Rattle.turn.specs.Laws.{first_place}
 
@@ -22,12 +22,12 @@ module _ (t : Task) (gauge : ℕ) (choices : List ℕ) (one : OneCluster t.form 
       → bit_xor x gauge ≡ choice_column t.mode t.form m gauge choices 0 column
   permuted q e =
       ap (λ (z : ℕ). bit_xor z gauge) (e ∙ column_ext m _ _ (λ k h. ap (shown (bit_xor column gauge)) (sym (first_place t choices one k))))
-      ∙ perm-choice t.mode t.form m gauge choices 0 column q
+      ∙ perm_choice t.mode t.form m gauge choices 0 column q
 
   pub flipped : {x : ℕ} → is_perm t.mode ≡ false → x ≡ flip_entry t.mode m column → x ≡ choice_column t.mode t.form m gauge choices 0 column
   flipped q e =
-      e ∙ (sym (ap (λ (b : Bool). cond b (flip_entry t.mode m column) column) (one.flips 0)) ∙ flip-choice t.mode t.form m gauge choices 0 column q)
+      e ∙ (sym (ap (λ (b : Bool). cond b (flip_entry t.mode m column) column) (one.flips 0)) ∙ flip_choice t.mode t.form m gauge choices 0 column q)
 
   pub acted_narrow : is_cmr t.mode ≡ true → column < 2 ^ m → (b : Bool) → acted_column t gauge choices b column < 2 ^ m
-  acted_narrow q h true = cmr-narrow t.mode t.form m gauge choices 0 column q h
+  acted_narrow q h true = cmr_narrow t.mode t.form m gauge choices 0 column q h
   acted_narrow q h false = h

@@ -8,31 +8,31 @@ use Rattle.paper.specs.declared.Task.{Task}
 use Rattle.paper.specs.Panel.Input.{member, spin}
 use Rattle.turn.specs.Turned.{turned_column, ColumnsTurned, ListWritten}
 
-pub turned-column-determined :
+pub turned_column_determined :
     (t : Task) (gauge : ℕ) (choices greys : List ℕ) (acts : Bool) (column r r' : ℕ)
     → r ≡ turned_column t gauge choices greys acts column
     → r' ≡ turned_column t gauge choices greys acts column
     → r ≡ r'
-turned-column-determined t gauge choices greys acts column r r' e e' = e ∙ sym e'
+turned_column_determined t gauge choices greys acts column r r' e e' = e ∙ sym e'
 
-pub turn-columns-determined :
+pub turn_columns_determined :
     (t : Task) (gauge : ℕ) (choices greys list cols : List ℕ) (blue len : ℕ) (news ys zs : List ℕ)
     → ColumnsTurned t gauge choices greys list cols blue len news ys
     → ColumnsTurned t gauge choices greys list cols blue len news zs
     → ys ≡ zs
-turn-columns-determined t gauge choices greys list cols blue len news ys zs w v =
+turn_columns_determined t gauge choices greys list cols blue len news ys zs w v =
     ext_get_or 0 ys zs (w.long ∙ sym v.long) (λ i h. at i (place len (λ x. get_or list x 0) i))
   where
     at : (i : ℕ) → Placed len (λ x. get_or list x 0) i ⊎ Unplaced len (λ x. get_or list x 0) i → get_or ys i 0 ≡ get_or zs i 0
     at i (inl p) = rw p.2 (w.listed p.0 p.1 ∙ sym (v.listed p.0 p.1))
     at i (inr p) = w.others i p ∙ sym (v.others i p)
 
-pub write-listed-determined :
+pub write_listed_determined :
     (n : ℕ) (g : Group) (list : List ℕ) (len : ℕ) (news : List ℕ) (xs ys zs : List ℤ)
     → ListWritten n g list len news xs ys
     → ListWritten n g list len news xs zs
     → ys ≡ zs
-write-listed-determined n g list len news xs ys zs w v = go (ℕ_discrete n 0)
+write_listed_determined n g list len news xs ys zs w v = go (ℕ_discrete n 0)
   where
     at :
         (s i : ℕ) → i < n → Placed g.len (member g) s ⊎ Unplaced g.len (member g) s

@@ -13,7 +13,7 @@ use Rattle.paper.specs.Refusal.Rules.{Permutes, When}
 use Rattle.laws.specs.Patterns.{Spinning, flip_spin}
 use Rattle.columns.specs.Column.{shown, column_of, shown_column, shown_spin, column_lt, column_ext}
 use Rattle.columns.specs.Gauge.{gauge_of}
-use Rattle.column_rules.specs.Acted.{acted, acted-spin}
+use Rattle.column_rules.specs.Acted.{acted, acted_spin}
 use Rattle.choose.specs.Chosen.{greyed}
 use Rattle.turn.specs.Turned.{bare, acted_to, turned_to, acted_column, turned_column, OneCluster, Chooses}
 use Rattle.turn.specs.Turned.{Choosable, Turnable, ColumnsTurned, ListWritten, Turned}
@@ -37,15 +37,15 @@ module _ (t : Task) (choices : List ℕ) (one : OneCluster t.form choices) where
     same_place : (k : ℕ) → perm_at t.form t.group.len choices r k ≡ perm_at t.form t.group.len choices 0 k
     same_place k = rw (one.first r, one.first 0)
 
-    pub act-any :
+    pub act_any :
         (m : Mode) (P f : Pattern) (k : ℕ)
         → act_by m (call_of t fwd bwd pins js cuts) (choices_of choices greys) P r f k ≡ act_by m (bare t) (choices_of choices greys) P 0 f k
-    act-any Houd P f k = ap (λ (b : Bool). cond (b && ltb k (2 * (t.group.len / 2))) (neg_ℤ (f k)) (f k)) same_flip
-    act-any Pair P f k = ap (λ (b : Bool). f (cond b (partner t.group.len k) k)) same_flip
-    act-any Jorg P f k = ap (λ (b : Bool). f (cond b (partner t.group.len k) k)) same_flip
-    act-any Perm P f k = ap f (same_place k)
-    act-any Gperm P f k = ap (λ (x : ℕ). P k *ℤ P x *ℤ f x) (same_place k)
-    act-any Cmr P f k = ap (λ (b : Bool). cond b (neg_ℤ (f k)) (f k)) same_flip
+    act_any Houd P f k = ap (λ (b : Bool). cond (b && ltb k (2 * (t.group.len / 2))) (neg_ℤ (f k)) (f k)) same_flip
+    act_any Pair P f k = ap (λ (b : Bool). f (cond b (partner t.group.len k) k)) same_flip
+    act_any Jorg P f k = ap (λ (b : Bool). f (cond b (partner t.group.len k) k)) same_flip
+    act_any Perm P f k = ap f (same_place k)
+    act_any Gperm P f k = ap (λ (x : ℕ). P k *ℤ P x *ℤ f x) (same_place k)
+    act_any Cmr P f k = ap (λ (b : Bool). cond b (neg_ℤ (f k)) (f k)) same_flip
 
     pub grey_any : grey_at t.form greys r ≡ grey_at t.form greys 0
     grey_any = rw (one.first r, one.first 0)
@@ -62,7 +62,7 @@ module _
     perm e = first_perm t choices c.one (c.perm e)
 
     acted_spins : (b : Bool) → Spinning m (acted_to t choices greys P b f)
-    acted_spins true k h = acted-spin t.mode (bare t) (choices_of choices greys) 0 P f reference spins perm k h
+    acted_spins true k h = acted_spin t.mode (bare t) (choices_of choices greys) 0 P f reference spins perm k h
     acted_spins false k h = spins k h
 
     acted_column_lem : (b : Bool) → acted_column t (gauge_of t.mode m (column_of m P)) choices b (column_of m f) ≡ column_of m (acted_to t choices greys P b f)
@@ -89,10 +89,10 @@ module _
         → turned_column t (gauge_of t.mode m (column_of m P)) choices greys b (column_of m f) ≡ column_of m (turned_to t choices greys P b f)
     turned_column_lem b = rw (acted_column_lem b) (grey_column (is_cmr t.mode) (grey_at t.form greys 0) (acted_to t choices greys P b f) two (acted_spins b))
 
-    pub turned-shown :
+    pub turned_shown :
         (b : Bool) (k : ℕ) → k < m
         → shown (turned_column t (gauge_of t.mode m (column_of m P)) choices greys b (column_of m f)) k ≡ turned_to t choices greys P b f k
-    turned-shown b k h =
+    turned_shown b k h =
         rw (turned_column_lem b)
         (shown_column m (turned_to t choices greys P b f) k h
         (grey_spin (is_cmr t.mode) (grey_at t.form greys 0) (acted_to t choices greys P b f) (acted_spins b) k h))
@@ -120,11 +120,11 @@ module _ {t : Task} {xs : List ℤ} {choices greys list cols : List ℕ} {len : 
   }
 
   -- the rows that the columns were read from become those after the move
-  pub written-turned :
+  pub written_turned :
       {gauge blue : ℕ} {news news' : List ℕ} {ys : List ℤ} → gauge ≡ gauge_of t.mode t.group.len (column_of t.group.len (at t.reference))
       → ColumnsTurned t gauge choices greys list cols blue len news news' → ListWritten t.n t.group list len news' xs ys
       → Turned t choices greys list blue len xs ys
-  written-turned {gauge} {blue} {news} {news'} {ys} seen c w = record {
+  written_turned {gauge} {blue} {news} {news'} {ys} seen c w = record {
     long = w.long;
     listed = λ x k h l. w.listed x k h l ∙ (ap (λ (z : ℕ). shown z k) (column x h) ∙ shows x k h l);
     spins = λ x k h l. rw (w.listed x k h l) (shown_spin (get_or news' (site x) 0) k);
@@ -146,5 +146,5 @@ module _ {t : Task} {xs : List ℤ} {choices greys list cols : List ℕ} {len : 
           (column_of t.group.len (at (site x)))) k
           ≡ turned_to t choices greys (at t.reference) (ltb x blue) (at (site x)) k
       shows x k h l =
-          turned-shown t choices greys a.chooses a.two (at t.reference) (at (site x))
+          turned_shown t choices greys a.chooses a.two (at t.reference) (at (site x))
           (λ q j g. a.panel.spins t.reference j (a.panel.reference q) g) (λ j g. a.panel.spins (site x) j (a.sites x h) g) (ltb x blue) k l

@@ -17,7 +17,7 @@ use Rattle.paper.specs.Answer.Move.{Answers}
 use Rattle.laws.specs.KeepsPlain.{keeps_none}
 use Rattle.laws.specs.Observed.{observed_still}
 use Rattle.packing.specs.Bytes.{rows_of, Narrow, own_group}
-use Rattle.packing.specs.Laws.{own_grouped, length_rows, rows_long, rows_spins, rows-injective}
+use Rattle.packing.specs.Laws.{own_grouped, length_rows, rows_long, rows_spins, rows_injective}
 use Rattle.packed.specs.Lengths.{cancel}
 use Rattle.packed.specs.Packed.{lent_of, Bytes, PackedAnswers}
 use Rattle.vendor.specs.Vendor.{asked_by}
@@ -132,7 +132,7 @@ module _ (t : Task) (columns fwd bwd pins l counts sizes found : List ℕ) (w : 
       same_rows : (a : Answer) → Answers c p b a b' → Narrow m columns' → columns' ≡ columns
       same_rows a v low =
           let same : rows_of m columns' ≡ rows_of m columns = observed_still c p refl b b' a v in
-          rows-injective m columns' columns low w.narrow
+          rows_injective m columns' columns low w.narrow
           (cancel m (length columns') (length columns) (omega (arith, w.ranged.size_low))
           (sym (length_rows m columns') ∙ (ap length same ∙ length_rows m columns)))
           same

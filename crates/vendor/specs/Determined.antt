@@ -10,7 +10,7 @@ use Rattle.vendor.specs.declared.Checked.{Checked}
 use Rattle.vendor.specs.declared.Checked.TheVariants.{Refused, No, Yes}
 use Rattle.vendor.specs.Vendor.{vendor_rules, Denies, Accepts, VendorAnswers}
 use Rattle.vendor.specs.Components.{row_same}
-use Rattle.matching.specs.Determined.{words-ext}
+use Rattle.matching.specs.Determined.{words_ext}
 
 pub record SameChecked (a : Checked) (us : List ℕ) (b : Checked) (vs : List ℕ) : Type 0 where
   pub answer : a ≡ b
@@ -41,7 +41,7 @@ module _ (c : Call) (xs ys : List ℤ) (rows : List ℕ) where
 
   rows_same : (us vs : List ℕ) → Accepts c xs ys rows us → Accepts c xs ys rows vs → us ≡ vs
   rows_same us vs f g =
-      words-ext c.lattice.n (size c) us vs (f.long ∙ lent) (g.long ∙ lent)
+      words_ext c.lattice.n (size c) us vs (f.long ∙ lent) (g.long ∙ lent)
       (λ r k h. row_same c xs f.labels r f.numbered.long ys us vs (f.written r h) (rw same (g.written r h)) k)
     where
       lent : length rows ≡ c.lattice.n * size c
@@ -50,23 +50,23 @@ module _ (c : Call) (xs ys : List ℤ) (rows : List ℕ) where
       same : f.labels ≡ g.labels
       same = labels_unique (graph c) (holds c xs) f.labels g.labels f.numbered g.numbered
 
-pub check-vendor-determined :
+pub check_vendor_determined :
     (c : Call) (xs ys : List ℤ) (rows : List ℕ) (a b : Checked) (us vs : List ℕ)
     → VendorAnswers c xs ys rows a us
     → VendorAnswers c xs ys rows b vs
     → SameChecked a us b vs
-check-vendor-determined c xs ys rows (Refused k) (Refused m) us vs f g = record {
+check_vendor_determined c xs ys rows (Refused k) (Refused m) us vs f g = record {
   answer = ap Refused (broken_unique (vendor_rules c xs ys rows) k m f.why g.why);
   rows = f.kept ∙ sym g.kept;
 }
-check-vendor-determined c xs ys rows (Refused k) (No s) us vs f g = absurd (broken_not_kept (vendor_rules c xs ys rows) k f.why g.valid)
-check-vendor-determined c xs ys rows (Refused k) Yes us vs f g = absurd (broken_not_kept (vendor_rules c xs ys rows) k f.why g.valid)
-check-vendor-determined c xs ys rows (No r) (Refused m) us vs f g = absurd (broken_not_kept (vendor_rules c xs ys rows) m g.why f.valid)
-check-vendor-determined c xs ys rows (No r) (No s) us vs f g = record {
+check_vendor_determined c xs ys rows (Refused k) (No s) us vs f g = absurd (broken_not_kept (vendor_rules c xs ys rows) k f.why g.valid)
+check_vendor_determined c xs ys rows (Refused k) Yes us vs f g = absurd (broken_not_kept (vendor_rules c xs ys rows) k f.why g.valid)
+check_vendor_determined c xs ys rows (No r) (Refused m) us vs f g = absurd (broken_not_kept (vendor_rules c xs ys rows) m g.why f.valid)
+check_vendor_determined c xs ys rows (No r) (No s) us vs f g = record {
   answer = ap No (fault_same c xs ys rows r s us vs f g);
   rows = f.kept ∙ sym g.kept;
 }
-check-vendor-determined c xs ys rows (No r) Yes us vs f g = absurd (not_both c xs ys rows r us vs f g)
-check-vendor-determined c xs ys rows Yes (Refused m) us vs f g = absurd (broken_not_kept (vendor_rules c xs ys rows) m g.why f.valid)
-check-vendor-determined c xs ys rows Yes (No s) us vs f g = absurd (not_both c xs ys rows s vs us g f)
-check-vendor-determined c xs ys rows Yes Yes us vs f g = record { answer = refl; rows = rows_same c xs ys rows us vs f g }
+check_vendor_determined c xs ys rows (No r) Yes us vs f g = absurd (not_both c xs ys rows r us vs f g)
+check_vendor_determined c xs ys rows Yes (Refused m) us vs f g = absurd (broken_not_kept (vendor_rules c xs ys rows) m g.why f.valid)
+check_vendor_determined c xs ys rows Yes (No s) us vs f g = absurd (not_both c xs ys rows s vs us g f)
+check_vendor_determined c xs ys rows Yes Yes us vs f g = record { answer = refl; rows = rows_same c xs ys rows us vs f g }

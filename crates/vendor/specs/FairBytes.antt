@@ -11,7 +11,7 @@ use Rattle.paper.specs.Move.Moving.{has_one}
 use Rattle.paper.specs.Refusal.Rules.{When, Spin, Permutes}
 use Rattle.laws.specs.Holding.{one_is, one_has}
 use Rattle.columns.specs.Column.{bit_of, is_up, column_of, bit_code, Columns}
-use Rattle.columns.specs.Gauge.{gauge_of, gauge-column, gauge-is}
+use Rattle.columns.specs.Gauge.{gauge_of, gauge_column, gauge_is}
 use Rattle.orders.specs.Words.{word_at, Before}
 use Rattle.matching.specs.Fitting.{Test, Fits, Fitted, Least, Square, same, identity_first}
 use Rattle.matching.specs.Explain.{allowed}
@@ -19,7 +19,7 @@ use Rattle.vendor.specs.Vendor.{Explains, Smallest, ActsIn, Unchanged, Fair, Row
 use Rattle.vendor.specs.Components.{acts_or_not}
 use Rattle.vendor.specs.OwnFair.{identity, turned_same}
 use Rattle.matching.specs.Allowed.{Comes, allowed_is, is_allowed, allowed_square}
-use Rattle.vendor.specs.Gauged.{up_same, gauge_spin, gauge-same, turned_seen, seen_turned, idle_same, least_same, before_agree}
+use Rattle.vendor.specs.Gauged.{up_same, gauge_spin, gauge_same, turned_seen, seen_turned, idle_same, least_same, before_agree}
 
 -- the spins before and after, and the byte of each site
 pub record Paired (c : Call) (xs ys : List ℤ) (olds news : List ℕ) : Type 0 where
@@ -58,8 +58,8 @@ module _ {c : Call} {xs ys : List ℤ} {olds news : List ℕ} (b : Paired c xs y
     where
       byte_is : byte cols i ≡ column_of (size c) (seen zs i)
       byte_is =
-          rw (w.at i hi, gauge-is c.mode (size c) c.lattice.n c.reference (pattern c xs) b.olds_are b.reference)
-          (gauge-column c.mode (size c) P (pattern c zs i) spinning (λ k h. s i k hi h))
+          rw (w.at i hi, gauge_is c.mode (size c) c.lattice.n c.reference (pattern c xs) b.olds_are b.reference)
+          (gauge_column c.mode (size c) P (pattern c zs i) spinning (λ k h. s i k hi h))
 
       bit_is : (k : ℕ) → k < size c → bit_of (byte cols i) k ≡ is_up (seen zs i k)
       bit_is k h = rw byte_is (bit_code (size c) (λ j. is_up (seen zs i j)) k h)
@@ -85,7 +85,7 @@ module _ {c : Call} {xs ys : List ℤ} {olds news : List ℕ} (b : Paired c xs y
   -- a place that is seen as it was is unchanged
   seen_same : (i k : ℕ) → i < c.lattice.n → k < size c → seen ys i k ≡ seen xs i k → pattern c ys i k ≡ pattern c xs i k
   seen_same i k hi hk e =
-      gauge-same c.mode P (pattern c ys i) (pattern c xs i) k (λ g. spinning g k hk) (b.after i k hi hk) (b.before i k hi hk) e
+      gauge_same c.mode P (pattern c ys i) (pattern c xs i) k (λ g. spinning g k hk) (b.after i k hi hk) (b.before i k hi hk) e
 
   -- ---- one component, by labels of all sites
   module _ (l : List ℕ) (long : length l ≡ c.lattice.n) (r : ℕ) where

@@ -31,26 +31,26 @@ gauge_spin Jorg P f k sp sf = sf
 gauge_spin Cmr P f k sp sf = sf
 
 -- what is seen alike is alike
-pub gauge-same :
+pub gauge_same :
     (m : Mode) (P f g : Pattern) (k : ℕ) → (is_gperm m ≡ true → Spin (P k)) → Spin (f k) → Spin (g k) → gauge m P f k ≡ gauge m P g k → f k ≡ g k
-gauge-same Houd P f g k sp sf sg e = e
-gauge-same Pair P f g k sp sf sg e = e
-gauge-same Perm P f g k sp sf sg e = e
-gauge-same Gperm P f g k sp sf sg e = sym (ungauge (P k) (f k) (sp refl) sf) ∙ (ap (λ (x : ℤ). P k *ℤ x) e ∙ ungauge (P k) (g k) (sp refl) sg)
-gauge-same Jorg P f g k sp sf sg e = e
-gauge-same Cmr P f g k sp sf sg e = e
+gauge_same Houd P f g k sp sf sg e = e
+gauge_same Pair P f g k sp sf sg e = e
+gauge_same Perm P f g k sp sf sg e = e
+gauge_same Gperm P f g k sp sf sg e = sym (ungauge (P k) (f k) (sp refl) sf) ∙ (ap (λ (x : ℤ). P k *ℤ x) e ∙ ungauge (P k) (g k) (sp refl) sg)
+gauge_same Jorg P f g k sp sf sg e = e
+gauge_same Cmr P f g k sp sf sg e = e
 
 -- ---- the place k of a pattern that the permutation q turns, where P has spins at k and at q k, and f at q k
 module _ (P f : Pattern) (q : ℕ → ℕ) (k : ℕ) where
-  turned-gauge :
+  turned_gauge :
       (m : Mode) → is_perm m ≡ true → (is_gperm m ≡ true → Spin (P k)) → (is_gperm m ≡ true → Spin (P (q k))) → Spin (f (q k))
       → gauge m P (turned_by m P q f) k ≡ gauge m P f (q k)
-  turned-gauge Houd e s t u = never e
-  turned-gauge Pair e s t u = never e
-  turned-gauge Perm e s t u = refl
-  turned-gauge Gperm e s t u = gauge_cancel (P k) (P (q k)) (f (q k)) (s refl) (t refl) u
-  turned-gauge Jorg e s t u = never e
-  turned-gauge Cmr e s t u = never e
+  turned_gauge Houd e s t u = never e
+  turned_gauge Pair e s t u = never e
+  turned_gauge Perm e s t u = refl
+  turned_gauge Gperm e s t u = gauge_cancel (P k) (P (q k)) (f (q k)) (s refl) (t refl) u
+  turned_gauge Jorg e s t u = never e
+  turned_gauge Cmr e s t u = never e
 
   turned_spin : (m : Mode) → (is_gperm m ≡ true → Spin (P k)) → (is_gperm m ≡ true → Spin (P (q k))) → Spin (f (q k)) → Spin (turned_by m P q f k)
   turned_spin Houd s t u = u
@@ -64,10 +64,10 @@ module _ (P f : Pattern) (q : ℕ → ℕ) (k : ℕ) where
       (m : Mode) (e : is_perm m ≡ true) (s : is_gperm m ≡ true → Spin (P k)) (t : is_gperm m ≡ true → Spin (P (q k))) (u : Spin (f (q k))) (g : Pattern)
     where
       pub turned_seen : g k ≡ turned_by m P q f k → gauge m P g k ≡ gauge m P f (q k)
-      turned_seen w = gauge_ext m P P g (turned_by m P q f) k (λ _. refl) w ∙ turned-gauge m e s t u
+      turned_seen w = gauge_ext m P P g (turned_by m P q f) k (λ _. refl) w ∙ turned_gauge m e s t u
 
       pub seen_turned : Spin (g k) → gauge m P g k ≡ gauge m P f (q k) → g k ≡ turned_by m P q f k
-      seen_turned v w = gauge-same m P g (turned_by m P q f) k s v (turned_spin m s t u) (w ∙ sym (turned-gauge m e s t u))
+      seen_turned v w = gauge_same m P g (turned_by m P q f) k s v (turned_spin m s t u) (w ∙ sym (turned_gauge m e s t u))
 
 -- a pattern that does not act is seen alike at all places
 pub idle_same : (m : Mode) → is_perm m ≡ true → (n : ℕ) (P f : Pattern) → acts_by m n P f ≡ false → (j k : ℕ) → j < n → k < n → gauge m P f j ≡ gauge m P f k

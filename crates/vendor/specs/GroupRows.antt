@@ -42,10 +42,10 @@ alone c temperature seed = record {
 }
 
 -- is what such a task asks
-pub asked-alone :
+pub asked_alone :
     (t : Task) (c : Call) → SameMove t c
     → asked_by t c.lattice.fwd c.lattice.bwd c.pins ≡ alone c t.temperature t.seed
-asked-alone t c e = rw (e.mode, e.n, e.d, e.size, e.reference) refl
+asked_alone t c e = rw (e.mode, e.n, e.d, e.size, e.reference) refl
 
 module _ (c : Call) (temperature : Float) (seed : ℕ) where
   abbrev v : Call

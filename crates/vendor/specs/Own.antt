@@ -20,19 +20,19 @@ use Rattle.vendor.specs.declared.Checked.{Checked}
 use Rattle.vendor.specs.declared.Checked.TheVariants.{Refused, No, Yes}
 use Rattle.vendor.specs.Vendor.{asked_by, turned_by, Explained, Unchanged, Fair, Lent, vendor_rules, number, VendorAnswers}
 use Rattle.packing.specs.Gathered.{group_rows, length_group, group_at}
-use Rattle.vendor.specs.GroupRows.{SameMove, alone, asked-alone, alone_pattern, alone_acts, alone_labels}
+use Rattle.vendor.specs.GroupRows.{SameMove, alone, asked_alone, alone_pattern, alone_acts, alone_labels}
 use Rattle.vendor.specs.OwnFair.{own_valid, own_spins, own_fair}
 
 -- a permutation makes the same of patterns that agree below n
-turned-ext :
+turned_ext :
     (m : Mode) (n : ℕ) (P Q f g : Pattern) (q : ℕ → ℕ) → Permutes n q → (is_gperm m ≡ true → (k : ℕ) → k < n → P k ≡ Q k)
     → ((k : ℕ) → k < n → f k ≡ g k) → (k : ℕ) → k < n → turned_by m P q f k ≡ turned_by m Q q g k
-turned-ext Houd n P Q f g q w s e k h = e (q k) (w.within k h)
-turned-ext Pair n P Q f g q w s e k h = e (q k) (w.within k h)
-turned-ext Perm n P Q f g q w s e k h = e (q k) (w.within k h)
-turned-ext Gperm n P Q f g q w s e k h = cc (s refl k h, s refl (q k) (w.within k h), e (q k) (w.within k h))
-turned-ext Jorg n P Q f g q w s e k h = e (q k) (w.within k h)
-turned-ext Cmr n P Q f g q w s e k h = e (q k) (w.within k h)
+turned_ext Houd n P Q f g q w s e k h = e (q k) (w.within k h)
+turned_ext Pair n P Q f g q w s e k h = e (q k) (w.within k h)
+turned_ext Perm n P Q f g q w s e k h = e (q k) (w.within k h)
+turned_ext Gperm n P Q f g q w s e k h = cc (s refl k h, s refl (q k) (w.within k h), e (q k) (w.within k h))
+turned_ext Jorg n P Q f g q w s e k h = e (q k) (w.within k h)
+turned_ext Cmr n P Q f g q w s e k h = e (q k) (w.within k h)
 
 module _
     (c : Call) (p : Choices) (b b' : Buffers) (a : Answer) (perm : is_perm c.mode ≡ true) (ok : Accepted a) (w : Answers c p b a b')
@@ -87,7 +87,7 @@ module _
         turns = λ i k hi hk q.
             same ys i k hi hk
             ∙ (e.explains.turns i k hi hk q
-            ∙ sym (turned-ext c.mode (size c) (pattern v before c.reference) (pattern c xs c.reference) (pattern v before i)
+            ∙ sym (turned_ext c.mode (size c) (pattern v before c.reference) (pattern c xs c.reference) (pattern v before i)
             (pattern c xs i) e.by e.explains.permutes (λ g j hj. same xs c.reference j (reference g) hj) (λ j hj. same xs i j hi hj) k hk));
       };
     }
@@ -157,7 +157,7 @@ module _
       alone_accepted rows' Yes q = refl
 
 -- a move of any form, with any pins, that moved, was held or was idle: the pair of its group's rows before and after is answered yes
-pub own-accepted :
+pub own_accepted :
     (c : Call) (p : Choices) (b b' : Buffers) (a : Answer)
     → is_perm c.mode ≡ true
     → Accepted a
@@ -168,6 +168,6 @@ pub own-accepted :
     → length rows ≡ c.lattice.n * size c
     → VendorAnswers (asked_by t c.lattice.fwd c.lattice.bwd c.pins) (group_rows c b.spins) (group_rows c b'.spins) rows r rows'
     → r ≡ Yes
-own-accepted c p b b' a perm ok w t e rows rows' r long q =
+own_accepted c p b b' a perm ok w t e rows rows' r long q =
     alone_accepted c p b b' a perm ok w t.temperature t.seed rows long rows' r
-    (subst (λ (z : Call). VendorAnswers z (group_rows c b.spins) (group_rows c b'.spins) rows r rows') (asked-alone t c e) q)
+    (subst (λ (z : Call). VendorAnswers z (group_rows c b.spins) (group_rows c b'.spins) rows r rows') (asked_alone t c e) q)

@@ -59,14 +59,14 @@ turned_spin Gperm n P f q w s u k h =
 turned_spin Jorg n P f q w s u k h = u (q k) (w.within k h)
 turned_spin Cmr n P f q w s u k h = u (q k) (w.within k h)
 
-act-turned :
+act_turned :
     (m : Mode) (c : Call) (p : Choices) (P f : Pattern) (r k : ℕ) → is_perm m ≡ true → act_by m c p P r f k ≡ turned_by m P (perm_of c p r) f k
-act-turned Houd c p P f r k e = never e
-act-turned Pair c p P f r k e = never e
-act-turned Perm c p P f r k e = refl
-act-turned Gperm c p P f r k e = refl
-act-turned Jorg c p P f r k e = never e
-act-turned Cmr c p P f r k e = never e
+act_turned Houd c p P f r k e = never e
+act_turned Pair c p P f r k e = never e
+act_turned Perm c p P f r k e = refl
+act_turned Gperm c p P f r k e = refl
+act_turned Jorg c p P f r k e = never e
+act_turned Cmr c p P f r k e = never e
 
 not_cmr : (m : Mode) → is_perm m ≡ true → is_cmr m ≡ false
 not_cmr Houd e = refl
@@ -151,7 +151,7 @@ module _ (c : Call) (p : Choices) (b : Buffers) (ys : List ℤ) (valid : Valid c
     unfolding final
     turned i k hi hk e =
         w.moved.group i k hi hk
-        ∙ rw (not_cmr c.mode perm, and_no (moves c.form), e) (act-turned c.mode c p P (pattern c xs i) (label_of w.list i) k perm)
+        ∙ rw (not_cmr c.mode perm, and_no (moves c.form), e) (act_turned c.mode c p P (pattern c xs i) (label_of w.list i) k perm)
 
     still : (i : ℕ) → i < c.lattice.n → reached c xs w.list i ≡ false → Unchanged c xs ys i
     unfolding final

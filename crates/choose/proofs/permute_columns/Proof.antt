@@ -5,7 +5,7 @@ use mathlib.Core.Logic.{⊎_elim}
 use native.Mathlib.Omega.{arith}
 use lib.ListN.{length, get_or}
 use borrow.Author.Rules.{rules}
-use Rattle.lemmas.specs.Stores.{Filled, filled_none, filled_more, filled-skip}
+use Rattle.lemmas.specs.Stores.{Filled, filled_none, filled_more, filled_skip}
 use Rattle.paper.specs.Panel.Takes.{entry}
 use Rattle.choose.specs.Chosen.{permuted_at}
 use Rattle.choose.proofs.Passed.{pass_all}
@@ -116,7 +116,7 @@ loop-again c =
     (omega (arith, e, within t))
     w.6.ensures)))
     (λ w. rw w.1
-    (filled-skip l.invariant (kept a.form m a.gauge a.reached.now a.labels.now a.perms.now a.cols.now l.i w.0.left)))
+    (filled_skip l.invariant (kept a.form m a.gauge a.reached.now a.labels.now a.perms.now a.cols.now l.i w.0.left)))
     c.if1.branch
 
 same_length : tie.Need-same-length invariant-loop decreases-loop

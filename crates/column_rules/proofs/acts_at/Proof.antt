@@ -1,7 +1,7 @@
 -- `acts_at` meets its contract: the site's column, seen through the gauge, acts just if the site does.
 use mathlib.Core.Path.{◌∙◌}
 use borrow.Author.Rules.{rules}
-use Rattle.column_rules.specs.Sight.{column-acts}
+use Rattle.column_rules.specs.Sight.{column_acts_lem}
 use Rattle.column_rules.proofs.acts_at.Statement.{statement}
 use Rattle.column_rules.proofs.acts_at.Tie as tie
 
@@ -18,7 +18,7 @@ returns : tie.Need-returns
 returns c =
     let g = c.before.before in
     let s = g.before in
-    c.acts-column.ensures ∙ column-acts s.requires.panel s.requires.below c.before.column-at.ensures g.gauge_at.ensures
+    c.acts-column.ensures ∙ column_acts_lem s.requires.panel s.requires.below c.before.column-at.ensures g.gauge_at.ensures
 
 pub acts-at-spec : {M : Type 1} → statement M
 acts-at-spec =

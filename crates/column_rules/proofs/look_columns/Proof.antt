@@ -1,7 +1,7 @@
 -- `look_columns` meets its contract: the table of acting columns, read through the gauge.
 use borrow.Author.Rules.{rules}
 use mathlib.Core.Path.{sym, ◌∙◌}
-use Rattle.columns.specs.Gauge.{gauge-is}
+use Rattle.columns.specs.Gauge.{gauge_is}
 use Rattle.column_rules.specs.Laws.{looked_flags, looked_tells}
 use Rattle.column_rules.proofs.look_columns.Statement.{statement}
 use Rattle.column_rules.proofs.look_columns.Tie as tie
@@ -30,11 +30,11 @@ returns c =
       flagged = λ f w.
           looked_flags a.mode a.group.len _ (f a.reference) f p.size_low (λ e k l. w.spins a.reference k (p.reference e) l)
           (λ i h k l. w.spins i k h l) table.acts-table.ensures w.columns
-          (g.gauge.ensures ∙ gauge-is a.mode a.group.len _ a.reference f w.columns p.reference) m.mark-active.ensures;
+          (g.gauge.ensures ∙ gauge_is a.mode a.group.len _ a.reference f w.columns p.reference) m.mark-active.ensures;
       some = λ f w.
           looked_tells a.mode a.group.len _ (f a.reference) f p.size_low (λ e k l. w.spins a.reference k (p.reference e) l)
           (λ i h k l. w.spins i k h l) table.acts-table.ensures w.columns
-          (g.gauge.ensures ∙ gauge-is a.mode a.group.len _ a.reference f w.columns p.reference) m.mark-active.ensures;
+          (g.gauge.ensures ∙ gauge_is a.mode a.group.len _ a.reference f w.columns p.reference) m.mark-active.ensures;
     }
 
 pub look-columns-spec : {M : Type 1} → statement M

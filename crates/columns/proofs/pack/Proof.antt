@@ -5,7 +5,7 @@ use native.Mathlib.Omega.{arith}
 use lib.ListN.{length, length-take, length-drop}
 use Rattle.paper.specs.Panel.Input.{member, pattern_of}
 use Rattle.columns.specs.Column.{Columns}
-use Rattle.columns.proofs.Packed.{room, weight, none_packed, row-packed, row_test}
+use Rattle.columns.proofs.Packed.{room, weight, none_packed, row_packed, row_test}
 use borrow.Author.Rules.{rules}
 use Rattle.columns.proofs.pack.Statement.{statement}
 use Rattle.columns.proofs.pack.Tie as tie
@@ -78,7 +78,7 @@ loop-again c =
     let a = (S l).args in
     let h = l.loop-test.true in (
       omega (arith, h),
-      row-packed l.before.loop.invariant.1 (weight k (omega arith)) c.before.before.pack-row.ensures
+      row_packed l.before.loop.invariant.1 (weight k (omega arith)) c.before.before.pack-row.ensures
           (λ i j. row_test a.spins.now (member a.t3 k * a.n) a.n i j),
     )
 

@@ -2,7 +2,7 @@
 use Rattle.std.proofs.Common.{◌≡◌, ℕ, ◌/◌, ◌^◌, ◌<◌, ◌≤◌, refl, ◌∙◌, subst, arith, rules}
 use lib.Arith.{le-zero}
 use Rattle.draws.specs.Draw.{tried}
-use Rattle.draws.proofs.Trying.{word-taken, word-again}
+use Rattle.draws.proofs.Trying.{word_taken, word_again}
 use Rattle.draws.proofs.number.Statement.{statement}
 use Rattle.draws.proofs.number.Tie as tie
 
@@ -32,7 +32,7 @@ returns c =
     let l = L c.before in
     let a = (S l).args in
     let d = c.before.before.before.step in
-    word-taken a.s a.m l.before.loop.source l.before.loop.left d.result l.loop-test.taken d.ensures
+    word_taken a.s a.m l.before.loop.source l.before.loop.left d.result l.loop-test.taken d.ensures
     (subst (λ (x : ℕ). d.result.value / 2 ^ 32 < x) (S l).pre.at c.if1.true)
     ∙ l.before.loop.inv
 
@@ -47,7 +47,7 @@ loop-again c =
     let l = L c.before in
     let a = (S l).args in
     let d = c.before.before.before.step in
-    word-again a.s a.m l.before.loop.source l.before.loop.left d.result l.loop-test.taken d.ensures
+    word_again a.s a.m l.before.loop.source l.before.loop.left d.result l.loop-test.taken d.ensures
     (subst (λ (x : ℕ). x ≤ d.result.value / 2 ^ 32) (S l).pre.at c.if1.false)
     ∙ l.before.loop.inv
 

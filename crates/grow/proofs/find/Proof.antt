@@ -7,7 +7,7 @@ use mathlib.Core.Bool.{true}
 use Rattle.lemmas.specs.Tells.{told, denied}
 use Rattle.paper.specs.Panel.Made.{call_of}
 use Rattle.paper.specs.Site.Acting.{acts}
-use Rattle.grow.specs.Finding.{seen_at, seedable, acts_seed, finds-none, kept_none, lookable, finds-held, finds-free}
+use Rattle.grow.specs.Finding.{seen_at, seedable, acts_seed, finds_none, kept_none, lookable, finds_held, finds_free}
 use Rattle.grow.proofs.find.Statement.{statement}
 use Rattle.grow.proofs.find.Tie as tie
 
@@ -38,7 +38,7 @@ returns c =
     let k = d.before.before in
     let p = (S k.before.before).requires in
     record {
-      grown = finds-none p (seed-told k.before ∙ not_true k.before.acts-at.result k.if1.true) d.clear.ensures;
+      grown = finds_none p (seed-told k.before ∙ not_true k.before.acts-at.result k.if1.true) d.clear.ensures;
       kept = kept_none p d.clear.ensures refl;
     }
 
@@ -77,7 +77,7 @@ returns-2 c =
     let s = S (E l).before.before in
     let e = (G l).grow-cluster.ensures in
     record {
-      grown = finds-held s.pre (e.grown s.args.pins.now) (on (E l)) (told c.if2.true u.some-pinned.ensures);
+      grown = finds_held s.pre (e.grown s.args.pins.now) (on (E l)) (told c.if2.true u.some-pinned.ensures);
       kept = e.kept;
     }
 
@@ -98,7 +98,7 @@ returns-3 c =
     let s = S (E l).before.before in
     let e = (G l).grow-cluster.ensures in
     record {
-      grown = finds-free s.pre (e.grown s.args.pins.now) (on (E l)) (denied c.if2.false u.some-pinned.ensures);
+      grown = finds_free s.pre (e.grown s.args.pins.now) (on (E l)) (denied c.if2.false u.some-pinned.ensures);
       kept = e.kept;
     }
 

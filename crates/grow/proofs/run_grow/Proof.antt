@@ -13,7 +13,7 @@ use Rattle.paper.specs.declared.Answer.TheVariants.{Moved}
 use Rattle.paper.specs.Panel.Made.{call_of}
 use Rattle.grow.specs.Finding.{FindsFree, Finds, lookable}
 use Rattle.grow.specs.Pinned.{turned_free}
-use Rattle.grow.specs.Answered.{findable, area_room, still-answers, turnable, moved_answers}
+use Rattle.grow.specs.Answered.{findable, area_room, still_answers, turnable, moved_answers}
 use Rattle.grow.specs.Totals.{bringable, writable, olds_read, totals_still}
 use Rattle.grow.proofs.run_grow.Statement.{statement}
 use Rattle.grow.proofs.run_grow.Tie as tie
@@ -65,7 +65,7 @@ returns c =
     let b = B d in
     let a = b.args in (
       λ o.
-          still-answers a.t a.fwd.now a.bwd.now a.pins.now a.couplings.now a.cuts.now a.choices.now a.greys.now
+          still_answers a.t a.fwd.now a.bwd.now a.pins.now a.couplings.now a.cuts.now a.choices.now a.greys.now
           a.spins.now a.members.now
           b.pre.0 f.last.1.1.1.1.1.1.1.0 f.last.1.1.1.1.1.1.1.1.0 f.result.blue f.result.len
           f.result.answer (not_moved c.match.keys2) f.ensures.grown o,

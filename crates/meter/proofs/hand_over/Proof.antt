@@ -16,7 +16,7 @@ use Rattle.paper.specs.Refusal.Verdict.{Verdict, verdict_kept, verdict_later}
 use Rattle.paper.specs.Answer.Totals.{HandOverExact}
 use Rattle.paper.specs.Answer.Team.{Team, Ours, owner_rules, hand_over_rules}
 use Rattle.systems.specs.Owners.{team_of}
-use Rattle.meter.specs.Part.{LengthsOf, exact_of, exact_lengths, Sound, sound_row, meters_rules, owner-first}
+use Rattle.meter.specs.Part.{LengthsOf, exact_of, exact_lengths, Sound, sound_row, meters_rules, owner_first}
 use Rattle.meter.proofs.hand_over.Statement.{statement}
 use Rattle.meter.proofs.hand_over.Tie as tie
 
@@ -101,7 +101,7 @@ returns : tie.Need-returns
 returns c =
     let t = c.before in
     let s = t.before.before.before.before in
-    owner-first (team s) (lent s) s.args.spins.now s.args.totals.now t.test-owners.result c.if1.true t.test-owners.ensures
+    owner_first (team s) (lent s) s.args.spins.now s.args.totals.now t.test-owners.result c.if1.true t.test-owners.ensures
 
 sizes-ok-requires : tie.Need-sizes-ok-requires
 sizes-ok-requires c κs = search rules

@@ -6,7 +6,7 @@ use lib.ListN.{length}
 use Rattle.paper.specs.declared.Mode.{Mode}
 use Rattle.paper.specs.declared.Form.{Form}
 use Rattle.paper.specs.Panel.Takes.{is_perm, is_sw, flips_by}
-use Rattle.moves.specs.Choosing.{by-flips, by-perms}
+use Rattle.moves.specs.Choosing.{by_flips, by_perms}
 use Rattle.moves.proofs.choose_columns.Statement.{statement}
 use Rattle.moves.proofs.choose_columns.Tie as tie
 
@@ -91,7 +91,7 @@ returns c = λ pins freed.
       long = b.long;
       at = λ i l.
           b.at i l
-          ∙ by-perms a.t (length a.acts.now) pins a.acts.now a.labels.now a.choices.now _ a.cols.now
+          ∙ by_perms a.t (length a.acts.now) pins a.acts.now a.labels.now a.choices.now _ a.cols.now
           (r.reach.ensures pins freed) _ g.gauge.ensures (perm-yes m) i (rw p.flags_long l);
     }
 
@@ -114,7 +114,7 @@ returns-2 c = λ pins freed.
       long = b.long;
       at = λ i l.
           b.at i l
-          ∙ by-flips a.t (length a.acts.now) pins a.acts.now a.labels.now a.choices.now _ a.cols.now
+          ∙ by_flips a.t (length a.acts.now) pins a.acts.now a.labels.now a.choices.now _ a.cols.now
           (r.reach.ensures pins freed) _ (perm-no m) table.flip-table.ensures i (rw p.flags_long l) (p.narrow i l);
     }
 

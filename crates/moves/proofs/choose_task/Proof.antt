@@ -4,7 +4,7 @@ use mathlib.Core.Path.{◌≡◌, sym, ◌∙◌}
 use mathlib.Core.Bool.{true, false}
 use native.Mathlib.Omega.{arith}
 use Rattle.paper.specs.Panel.Takes.{is_cmr}
-use Rattle.moves.specs.Choosing.{mid_two, plain-final, grey-final}
+use Rattle.moves.specs.Choosing.{mid_two, plain_final, grey_final}
 use Rattle.moves.proofs.choose_task.Statement.{statement}
 use Rattle.moves.proofs.choose_task.Tie as tie
 
@@ -82,7 +82,7 @@ returns c = λ pins free others.
     let m = r.before.before in
     let k = K m.before in
     let a = (S k).args in
-    grey-final a.t pins a.acts.now a.labels.now a.choices.now (k.choose-columns.ensures pins free) _ a.greys.now (cmr-yes m)
+    grey_final a.t pins a.acts.now a.labels.now a.choices.now (k.choose-columns.ensures pins free) _ a.greys.now (cmr-yes m)
     (rw (S k).pre.choosable.flags_long at (r.reach.ensures pins (others (cmr-yes m)))) w.grey-columns.ensures
 
 same-length-3 : tie.Need-same-length-3
@@ -95,7 +95,7 @@ returns-2 : tie.Need-returns-2
 returns-2 c = λ pins free others.
     let k = K c.before in
     let a = (S k).args in
-    plain-final a.t pins a.acts.now a.labels.now a.choices.now (k.choose-columns.ensures pins free) _ a.greys.now (cmr-no c)
+    plain_final a.t pins a.acts.now a.labels.now a.choices.now (k.choose-columns.ensures pins free) _ a.greys.now (cmr-no c)
 
 pub choose-task-spec : {M : Type 1} → statement M
 choose-task-spec =

@@ -7,7 +7,7 @@ use Rattle.lemmas.specs.Bools.{never}
 use Rattle.paper.specs.Panel.Takes.{is_cmr}
 use Rattle.laws.specs.Unique.{label_lt}
 use Rattle.choose.specs.Chosen.{freed}
-use Rattle.moves.specs.Held.{stored-number}
+use Rattle.moves.specs.Held.{stored_number}
 use Rattle.moves.proofs.free_greys.Statement.{statement}
 use Rattle.moves.proofs.free_greys.Tie as tie
 
@@ -78,7 +78,7 @@ returns c =
     let m = M l in
     let a = (S m.before).args in
     record {
-      labels = λ _. stored-number a.grey_found.now ((S m.before).requires.greys (cmr-yes m)).lent.found_long l.label.ensures.labels;
+      labels = λ _. stored_number a.grey_found.now ((S m.before).requires.greys (cmr-yes m)).lent.found_long l.label.ensures.labels;
       freed = λ _. freed {pins = a.pins.now} l.label.ensures.sized h.hold-back.ensures;
       kept = λ e. never (sym e ∙ cmr-yes m);
       found_kept = λ e. never (sym e ∙ cmr-yes m);

@@ -3,7 +3,7 @@ use borrow.Author.Rules.{rules}
 use mathlib.Core.Path.{◌≡◌, sym, ◌∙◌}
 use mathlib.Core.Bool.{true, false}
 use Rattle.paper.specs.Panel.Takes.{moves}
-use Rattle.moves.specs.Freeing.{holdable, greys_ask, seed_asks, free-moves, free_idle, free-rests}
+use Rattle.moves.specs.Freeing.{holdable, greys_ask, seed_asks, free_moves, free_idle, free_rests}
 use Rattle.moves.proofs.free_task.Statement.{statement}
 use Rattle.moves.proofs.free_task.Tie as tie
 
@@ -64,10 +64,10 @@ returns-2 c =
     let h = H g in
     let m = M h in
     let e = m.before.before in
-    free-moves (S e).pre h.hold-back.ensures e.if1.left (moving m) g.free-greys.ensures s.seed_held.ensures c.answered.ensures
+    free_moves (S e).pre h.hold-back.ensures e.if1.left (moving m) g.free-greys.ensures s.seed_held.ensures c.answered.ensures
 
 returns-3 : tie.Need-returns-3
-returns-3 c = let e = c.before.before in free-rests (S e).requires e.if1.false (resting c)
+returns-3 c = let e = c.before.before in free_rests (S e).requires e.if1.false (resting c)
 
 pub free-task-spec : {M : Type 1} → statement M
 free-task-spec =

@@ -3,7 +3,7 @@ use borrow.Author.Rules.{rules}
 use mathlib.Core.Path.{◌≡◌, sym, ◌∙◌}
 use mathlib.Core.Bool.{true, false}
 use Rattle.paper.specs.Panel.Takes.{is_cmr, is_drawn, moves}
-use Rattle.moves.specs.Held.{cmr_drawn, cmr-leaves, blue-leaves, drawn-leaves, plain-leaves}
+use Rattle.moves.specs.Held.{cmr_drawn, cmr_leaves, blue_leaves, drawn_leaves, plain_leaves}
 use Rattle.moves.proofs.hold.Statement.{statement}
 use Rattle.moves.proofs.hold.Tie as tie
 
@@ -80,7 +80,7 @@ same-length-2 c = search rules
 returns : tie.Need-returns
 returns c =
     let m = c.before.before.before.before.before.before.before.before.before in
-    cmr-leaves m.before.before.new.ensures (cmr-yes m) c.before.before.before.before.cmr-bonds.ensures
+    cmr_leaves m.before.before.new.ensures (cmr-yes m) c.before.before.before.before.cmr-bonds.ensures
 
 same-length-3 : tie.Need-same-length-3
 same-length-3 c = search rules
@@ -89,7 +89,7 @@ returns-2 : tie.Need-returns-2
 returns-2 c =
     let r = c.before.before.before.before in
     let m = r.before.before in
-    blue-leaves m.before.before.new.ensures (cmr-yes m) (moves-no r) (S m.before).requires.grey_long c.before.before.blue-bonds.ensures
+    blue_leaves m.before.before.new.ensures (cmr-yes m) (moves-no r) (S m.before).requires.grey_long c.before.before.blue-bonds.ensures
 
 same-length-4 : tie.Need-same-length-4
 same-length-4 c = search rules
@@ -98,7 +98,7 @@ returns-3 : tie.Need-returns-3
 returns-3 c =
     let m = c.before.before.before.before.before in
     let e = m.before.before in
-    drawn-leaves e.before.before.new.ensures (cmr-no e) (drawn-yes m) (S e.before).requires.grey_long c.before.before.jorg-bonds.ensures
+    drawn_leaves e.before.before.new.ensures (cmr-no e) (drawn-yes m) (S e.before).requires.grey_long c.before.before.jorg-bonds.ensures
 
 same-length-5 : tie.Need-same-length-5
 same-length-5 c = search rules
@@ -107,7 +107,7 @@ returns-4 : tie.Need-returns-4
 returns-4 c =
     let m = c.before.before.before.before in
     let e = m.before.before in
-    plain-leaves (cmr-no e) (drawn-no m) (S e.before).requires.grey_long c.before.before.active-bonds.ensures
+    plain_leaves (cmr-no e) (drawn-no m) (S e.before).requires.grey_long c.before.before.active-bonds.ensures
 
 pub hold-spec : {M : Type 1} → statement M
 hold-spec =

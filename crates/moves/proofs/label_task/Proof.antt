@@ -1,7 +1,7 @@
 -- `label_task` meets its contract: the labels, and then the sizes without the held components.
 use borrow.Author.Rules.{rules}
 use mathlib.Core.List.{[]}
-use Rattle.moves.specs.Labelled.{free_asks, task-leaves}
+use Rattle.moves.specs.Labelled.{free_asks, task_leaves}
 use Rattle.moves.proofs.label_task.Statement.{statement}
 use Rattle.moves.proofs.label_task.Tie as tie
 
@@ -59,7 +59,7 @@ returns : tie.Need-returns
 returns c = λ bwd xs tested w.
     let k = c.before.before.before.before.before.before.before.before in
     let o = L k in
-    task-leaves (S o).pre bwd tested (o.label-columns.ensures bwd (S o).args.pins.now xs tested w) k.free-task.ensures
+    task_leaves (S o).pre bwd tested (o.label-columns.ensures bwd (S o).args.pins.now xs tested w) k.free-task.ensures
 
 pub label-task-spec : {M : Type 1} → statement M
 label-task-spec =

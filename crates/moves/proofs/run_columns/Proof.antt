@@ -103,7 +103,7 @@ label-task-requires : tie.Need-label-task-requires
 label-task-requires c κs =
     let b = A c.before.before.before.before.before.before.before.before.before.before.before.before.before.before in
     let a = b.args in
-    answered.task-asks a.t a.fwd.now a.bwd.now a.pins.now a.couplings.now a.cuts.now (choicesAt b)
+    answered.task_asks a.t a.fwd.now a.bwd.now a.pins.now a.couplings.now a.cuts.now (choicesAt b)
     b.pre.labelled b.pre.valid b.pre.columns
 
 copy-requires : tie.Need-copy-requires
@@ -176,7 +176,7 @@ same-length-8 c =
     let b = S o in
     let a = b.args in
     let r =
-    done.goes-leaves a.t a.fwd.now a.bwd.now a.pins.now a.couplings.now a.cuts.now (choicesAt b) b.pre
+    done.goes_leaves a.t a.fwd.now a.bwd.now a.pins.now a.couplings.now a.cuts.now (choicesAt b) b.pre
     o.label-task.ensures (goes m) (rw y.copy.ensures at k.choose-task.ensures) in
     r.long ∙ sym b.pre.news_long
 
@@ -206,7 +206,7 @@ returns-2 c =
     let o = L y in
     let b = S o in
     let a = b.args in
-    done.goes-leaves a.t a.fwd.now a.bwd.now a.pins.now a.couplings.now a.cuts.now (choicesAt b) b.pre
+    done.goes_leaves a.t a.fwd.now a.bwd.now a.pins.now a.couplings.now a.cuts.now (choicesAt b) b.pre
     o.label-task.ensures (goes m) (rw y.copy.ensures at k.choose-task.ensures)
 
 pub run-columns-spec : {M : Type 1} → statement M

@@ -17,15 +17,15 @@ use Rattle.paper.specs.Refusal.Verdict.{verdict_kept}
 use Rattle.paper.specs.Answer.Totals.{kept_rules, kept_valid}
 use Rattle.laws.specs.Forms.{labels_else}
 use Rattle.columns.specs.Column.{Columns}
-use Rattle.grow.specs.Task.{Outputs, no_outputs, grown-with}
-use Rattle.moves.specs.Answered.{valid-with}
+use Rattle.grow.specs.Task.{Outputs, no_outputs, grown_with}
+use Rattle.moves.specs.Answered.{valid_with}
 use Rattle.perform.specs.Kept.{between}
 use Rattle.perform.specs.Verdicts.{verdict_broken, refused_by, ready_of, accepted_by}
 use Rattle.packing.specs.Bytes.{rows_of, Narrow, own_group, own_task}
 use Rattle.packing.specs.Laws.{rows_long, spins_narrow, rows_columns, rows_written}
 use Rattle.packed.specs.Packed.{lent_of}
 use Rattle.packed.specs.Tested.{bytes_long, spins_own}
-use Rattle.packed.specs.Stepped.{answered-bytes, through-copy, low_of}
+use Rattle.packed.specs.Stepped.{answered_bytes, through_copy, low_of}
 use Rattle.packed.proofs.packed_step.Statement.{statement}
 use Rattle.packed.proofs.packed_step.Tie as tie
 
@@ -140,7 +140,7 @@ run-grown-requires c κs =
         systems = refl;
         long = long e;
         narrow = narrow e;
-        rows = record { grows = grows t; valid = grown-with (others b) no_outputs (grows t) (valid e) };
+        rows = record { grows = grows t; valid = grown_with (others b) no_outputs (grows t) (valid e) };
       },
       ready_of (keepingAt b) (call_at b) (choicesAt b) (lent_at b (rows_at b)) b.args.totals.now (kept e),
     )
@@ -164,7 +164,7 @@ returns-2 c =
       rows =
           accepted_by (keepingAt b) (call_at b) (choicesAt b) (lent_at b (rows_at b)) b.args.totals.now r.run-grown.result _ _ (kept e)
           (w.answers (others b)) w.totals;
-      bytes = answered-bytes (call_at b) (choicesAt b) _ _ _ _ _ (valid e) w.narrow r.run-grown.result (w.answers (others b));
+      bytes = answered_bytes (call_at b) (choicesAt b) _ _ _ _ _ (valid e) w.narrow r.run-grown.result (w.answers (others b));
     }
 
 array-borrow-prefix-area : tie.Need-array-borrow-prefix-area
@@ -188,7 +188,7 @@ run-labelled-requires c κs =
         rows = rows_at b;
         columns = columned e;
         labelled = labels f;
-        valid = valid-with (labels f) (valid e) [];
+        valid = valid_with (labels f) (valid e) [];
         news_long = length-take-le b.args.t.n _ (valid e).sound.ranged.lattice.n_high;
       },
       ready_of (keepingAt b) (call_at b) (choicesAt b) (lent_at b (rows_at b)) b.args.totals.now (kept e),
@@ -238,12 +238,12 @@ returns-3 c =
     let low = low_of u in
     let wrote = rows_written m (few e) n _ u.long low (rows_at b) (rows_long m n b.args.columns.now (long e)) in
     let told = u.answers (rows_at b) _ b.args.members.now (valid e) (columned e) wrote in
-    through-copy y.copy.ensures
+    through_copy y.copy.ensures
     (record {
       rows =
           accepted_by (keepingAt b) (call_at b) (choicesAt b) (lent_at b (rows_at b)) b.args.totals.now r.run-labelled.result _ _ (kept e) told
           (r.run-labelled.ensures.1.each (rows_at b) _ (between (call_at b) (choicesAt b) (lent_at b (rows_at b)) (valid e) (columned e) wrote));
-      bytes = answered-bytes (call_at b) (choicesAt b) _ _ _ _ _ (valid e) low r.run-labelled.result told;
+      bytes = answered_bytes (call_at b) (choicesAt b) _ _ _ _ _ (valid e) low r.run-labelled.result told;
     })
 
 pub packed-step-spec : {M : Type 1} → statement M

@@ -6,7 +6,7 @@ use borrow.Author.Rules.{rules}
 use Rattle.lemmas.specs.Tells.{Tells, passed, refused}
 use Rattle.packing.specs.Bytes.{Narrow}
 use Rattle.packing.specs.Answer.{Sized, Exact}
-use Rattle.packing.proofs.Answered.{stopped, narrow-tells, writable, unpacked}
+use Rattle.packing.proofs.Answered.{stopped, narrow_tells, writable, unpacked}
 use Rattle.packing.proofs.unpack.Statement.{statement}
 use Rattle.packing.proofs.unpack.Tie as tie
 
@@ -28,7 +28,7 @@ k2 : (c : tie.Else2) → Exact (S2 c).args.n (S2 c).args.members (length (S2 c).
 k2 c = passed c.before.exact.result c.if2.false c.before.exact.ensures
 
 t3 : (c : tie.After-bytes-at-most) → Tells c.bytes-at-most.result (Narrow (S3 c).args.members (S3 c).args.columns.now)
-t3 c = narrow-tells c.bytes-at-most.result _ _ (S3 c).args.columns.now c.before.highest.ensures c.bytes-at-most.ensures
+t3 c = narrow_tells c.bytes-at-most.result _ _ (S3 c).args.columns.now c.before.highest.ensures c.bytes-at-most.ensures
 
 k3 : (c : tie.Else3) → Narrow (S3 c.before).args.members (S3 c.before).args.columns.now
 k3 c = passed c.before.bytes-at-most.result c.if3.false (t3 c.before)

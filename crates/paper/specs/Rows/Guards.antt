@@ -267,11 +267,11 @@ pub kinds : Kinds
 kinds = record { held = refl; not_moved = refl; not_idle = refl; moved = refl; moved_not_held = refl }
 
 -- and that is what a move's counts and sizes are of
-pub acting-counted :
+pub acting_counted :
     (c : Call) (b b' : Buffers)
     → SeenAll c b b'
     → Counted (acts c b.spins) b'.labels b'.counts × Largest (acts c b.spins) b'.labels b'.sizes
-acting-counted c b b' s = (s.counts, s.sizes)
+acting_counted c b b' s = (s.counts, s.sizes)
 
 -- an answer that is no refusal has the number 0
 pub record Numbers : Type 0 where
@@ -326,10 +326,10 @@ pub masks : (w : Sweep) (k : ℕ) → Masks w k
 masks w k = record { one = λ e. rw e refl; zero = λ e. rw e refl }
 
 -- a sweep's first count is of idle tasks, its second of those that are neither idle nor held, its third of held ones
-pub tasks-counted :
+pub tasks_counted :
     (w : Sweep) (b b' : Buffers) (idle moved held : ℕ) (s : Sweeps w b idle moved held b')
     → idle ∷ moved ∷ held ∷ [] ≡ tasks_that is_idle w s.answered ∷ tasks_that is_moved w s.answered ∷ tasks_that is_held w s.answered ∷ []
-tasks-counted w b b' idle moved held s = s.counts
+tasks_counted w b b' idle moved held s = s.counts
 
 -- bonds are judged on the spins before the move: what it leaves in the spins does not matter to the labels, counts and sizes, nor to the members
 abbrev with_spins : Buffers → List ℤ → Buffers
@@ -344,11 +344,11 @@ with_spins b ys = record {
   grey_found = b.grey_found;
 }
 
-pub judged-before :
+pub judged_before :
     (c : Call) (b b' : Buffers) (ys : List ℤ)
     → SeenAll c b b'
     → SeenAll c b (with_spins b' ys)
-judged-before c b b' ys s = record {
+judged_before c b b' ys s = record {
   labels = s.labels;
   grey_labels = s.grey_labels;
   grey_kept = s.grey_kept;

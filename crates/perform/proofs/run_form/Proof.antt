@@ -5,8 +5,8 @@ use mathlib.Core.Bool.{true}
 use mathlib.Core.List.{[]}
 use Rattle.paper.specs.Panel.Takes.{grows_by, labels_by}
 use Rattle.laws.specs.Forms.{labels_else}
-use Rattle.grow.specs.Task.{Outputs, no_outputs, grown-with}
-use Rattle.moves.specs.Answered.{valid-with}
+use Rattle.grow.specs.Task.{Outputs, no_outputs, grown_with}
+use Rattle.moves.specs.Answered.{valid_with}
 use Rattle.perform.proofs.run_form.Statement.{statement}
 use Rattle.perform.proofs.run_form.Tie as tie
 
@@ -39,7 +39,7 @@ run-grow-requires : tie.Need-run-grow-requires
 run-grow-requires c κs =
     let t = c.before.before.before in
     let s = S t.before in
-    (record { grows = grows t; valid = grown-with (others s) no_outputs (grows t) s.pre.0 }, s.pre.1)
+    (record { grows = grows t; valid = grown_with (others s) no_outputs (grows t) s.pre.0 }, s.pre.1)
 
 returns : tie.Need-returns
 returns c =
@@ -50,7 +50,7 @@ run-rows-requires : tie.Need-run-rows-requires
 run-rows-requires c κs =
     let e = c.before.before.before.before.before.before.before.before in
     let s = S e.before in
-    (record { labelled = labels e; valid = valid-with (labels e) s.pre.0 [] }, s.pre.1)
+    (record { labelled = labels e; valid = valid_with (labels e) s.pre.0 [] }, s.pre.1)
 
 returns-2 : tie.Need-returns-2
 returns-2 c =

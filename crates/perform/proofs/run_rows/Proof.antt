@@ -7,8 +7,8 @@ use lib.Seq.{length-take-le}
 use Rattle.paper.specs.Panel.Input.{Call, Choices, Buffers}
 use Rattle.paper.specs.Panel.Made.{call_of, choices_of, buffers_of}
 use Rattle.moves.specs.Tested.{TestedFor, ready}
-use Rattle.moves.specs.Answered.{valid-with}
-use Rattle.perform.specs.Kept.{still-written, between}
+use Rattle.moves.specs.Answered.{valid_with}
+use Rattle.perform.specs.Kept.{still_written, between}
 use Rattle.perform.proofs.run_rows.Statement.{statement}
 use Rattle.perform.proofs.run_rows.Tie as tie
 
@@ -114,7 +114,7 @@ returns c =
     let p = P o in
     let b = S p in
     let v = b.pre.0 in (
-      (λ members. o.run-labelled.ensures.0.answers _ _ members (valid-with v.labelled v.valid members) p.pack.ensures w.write-rows.ensures),
+      (λ members. o.run-labelled.ensures.0.answers _ _ members (valid_with v.labelled v.valid members) p.pack.ensures w.write-rows.ensures),
       o.run-labelled.ensures.1.each _ _
           (between (call_at b) (choicesAt b) (lent_at b) v.valid p.pack.ensures w.write-rows.ensures),
     )
@@ -151,8 +151,8 @@ returns-2 c =
     let b = S p in
     let v = b.pre.0 in
     let same = o.run-labelled.ensures.0.still (sym m.before.changed.ensures ∙ m.if1.false) in
-    let own = still-written {g = b.args.t.group} {xs = b.args.spins.now} p.pack.ensures (tested b).spins same in (
-      (λ members. o.run-labelled.ensures.0.answers _ _ members (valid-with v.labelled v.valid members) p.pack.ensures own),
+    let own = still_written {g = b.args.t.group} {xs = b.args.spins.now} p.pack.ensures (tested b).spins same in (
+      (λ members. o.run-labelled.ensures.0.answers _ _ members (valid_with v.labelled v.valid members) p.pack.ensures own),
       o.run-labelled.ensures.1.each _ _ (between (call_at b) (choicesAt b) (lent_at b) v.valid p.pack.ensures own),
     )
 

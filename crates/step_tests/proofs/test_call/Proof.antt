@@ -12,7 +12,7 @@ use Rattle.paper.specs.Refusal.Rule.{Rule, Kept}
 use Rattle.paper.specs.Refusal.Rules.{When, group_names, Named, choice_rules}
 use Rattle.paper.specs.Refusal.Verdict.{Verdict, verdict_kept, verdict_later}
 use Rattle.paper.specs.Answer.Totals.{SmallTotals}
-use Rattle.systems.specs.Rows.{small-named}
+use Rattle.systems.specs.Rows.{small_named}
 use Rattle.step_tests.specs.Call.{sound_rules, total_rules, verdict_first, tested_of}
 use Rattle.step_tests.proofs.test_call.Statement.{statement}
 use Rattle.step_tests.proofs.test_call.Tie as tie
@@ -54,7 +54,7 @@ small : (m : tie.After-group-totals-fit) → let a = (S m.before.before.before.b
 small m =
     let e = m.before.before.before in
     let a = (S e.before.before.before).args in
-    small-named (keeps_by a.t.keeps a.t.form) a.t.s (group_names a.t.group) a.totals.now
+    small_named (keeps_by a.t.keeps a.t.form) a.t.s (group_names a.t.group) a.totals.now
     (λ q. ((sound e.before.before).1.1.1.0 q).totals)
     m.group-totals-fit.result (rw m.before.totals.ensures at m.group-totals-fit.ensures)
 

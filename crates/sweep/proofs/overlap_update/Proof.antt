@@ -9,7 +9,7 @@ use Rattle.paper.specs.Panel.Made.{buffers_of}
 use Rattle.paper.specs.Refusal.Rule.{Kept}
 use Rattle.paper.specs.Answer.Made.{sweep_of}
 use Rattle.paper.specs.Refusal.Verdict.{verdict_kept}
-use Rattle.sweep_tasks.specs.Updating.{refused_sweep, swept_kept, swept_asked, swept-answers}
+use Rattle.sweep_tasks.specs.Updating.{refused_sweep, swept_kept, swept_asked, swept_answers}
 use Rattle.sweep.proofs.overlap_update.Statement.{statement}
 use Rattle.sweep.proofs.overlap_update.Tie as tie
 
@@ -113,7 +113,7 @@ returns-2 c =
     let r = c.before.before.before.before.before.before.before.before.before.before.before.before.before.before.before.before in
     let e = r.before.before.before.before.before.before.before.before.before.before in
     let s = S e.before in
-    swept-answers (keeping s) (W s) (B s) s.args.totals.now (kept e) r.run-tasks.result _ _ r.run-tasks.ensures.0 r.run-tasks.ensures.1
+    swept_answers (keeping s) (W s) (B s) s.args.totals.now (kept e) r.run-tasks.result _ _ r.run-tasks.ensures.0 r.run-tasks.ensures.1
 
 pub overlap-update-spec : {M : Type 1} → statement M
 overlap-update-spec =

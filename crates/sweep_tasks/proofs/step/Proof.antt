@@ -11,8 +11,8 @@ use Rattle.paper.specs.Answer.Made.{sweep_of}
 use Rattle.tasks.specs.Plan.{Few, few, masked_at}
 use Rattle.tasks.specs.Parts.{Lendable, lendable}
 use Rattle.sweep_tasks.specs.Totalling.{totals_none}
-use Rattle.sweep_tasks.specs.Running.{Parts, valid_parts, ready-parts, answers_parts, totals-parts, put_long, areas_lent, steps_put}
-use Rattle.sweep_tasks.specs.Turning.{turned_masked, turned-one}
+use Rattle.sweep_tasks.specs.Running.{Parts, valid_parts, ready_parts, answers_parts, totals_parts, put_long, areas_lent, steps_put}
+use Rattle.sweep_tasks.specs.Turning.{turned_masked, turned_one}
 use Rattle.sweep_tasks.proofs.step.Statement.{statement}
 use Rattle.sweep_tasks.proofs.step.Tie as tie
 
@@ -173,7 +173,7 @@ run-form-requires c κs =
     let lent = areas_lent (W s) s.args.k (B s) (A1 t).bounds.ensures (A2 t).bounds2.ensures
     (A3 t).bounds3.ensures (A4 t).bounds4.ensures (A5 t).bounds5.ensures
     (A6 t).bounds6.ensures t.bounds7.ensures in
-    (valid_parts (parts g) (rw lent at (s.pre.valid e)), ready-parts (parts g) (s.pre.ready e))
+    (valid_parts (parts g) (rw lent at (s.pre.valid e)), ready_parts (parts g) (s.pre.ready e))
 
 -- after the task, and when its areas are put back
 abbrev R : tie.After-slice-known14 → tie.After-run-form
@@ -251,7 +251,7 @@ returns-2 c =
     let t = B7 g in
     let s = T t in
     let z = r.run-form in (
-      turned-one (W s) s.args.k s.args.outcomes (B s) z.result c.add.result _ (unmasked (A1 t).before)
+      turned_one (W s) s.args.k s.args.outcomes (B s) z.result c.add.result _ (unmasked (A1 t).before)
           (steps_put (W s) s.args.k (B s) (A1 t).bounds.ensures (A2 t).bounds2.ensures
           (A3 t).bounds3.ensures (A4 t).bounds4.ensures (A5 t).bounds5.ensures (A6 t).bounds6.ensures
           t.bounds7.ensures
@@ -271,7 +271,7 @@ returns-2 c =
           z.kept.1.1.1.1.1.1.1.1.1.1.1.1.1.1.1.0
           z.kept.1.1.1.1.1.1.1.1.1.1.1.1.1.1.1.1.0
           z.result (answers_parts (parts g) _ _ z.result z.ensures.0)) c.add.ensures,
-      totals-parts (parts g) s.args.spins.now s.args.totals.now z.last.1.0 z.last.1.1.0 z.ensures.1,
+      totals_parts (parts g) s.args.spins.now s.args.totals.now z.last.1.0 z.last.1.1.0 z.ensures.1,
     )
 
 -- the needs without a name are those of lending each area in turn: where it starts fits a word in bytes, its ends are in order, and inside the buffer

@@ -2,7 +2,7 @@
 use borrow.Author.Rules.{rules}
 use mathlib.Core.Path.{sym, ◌∙◌}
 use Rattle.tasks.specs.Plan.{TaskOf}
-use Rattle.sweep_tests.specs.Tasks.{task-tested, told_masked, told-parts}
+use Rattle.sweep_tests.specs.Tasks.{task_tested, told_masked, told_parts}
 use Rattle.sweep_tests.proofs.test_task.Statement.{statement}
 use Rattle.sweep_tests.proofs.test_task.Tie as tie
 
@@ -36,7 +36,7 @@ test-choices-requires c κs =
     let g1 = g3.before.before in
     let a = (S g1).args in
     rw (g1.task-of.ensures, g3.task-choices.ensures, c.task-greys.ensures)
-    (task-tested (S g1).requires a.temperatures.now a.references.now a.seeds.now)
+    (task_tested (S g1).requires a.temperatures.now a.references.now a.seeds.now)
 
 returns-2 : tie.Need-returns-2
 returns-2 c =
@@ -45,7 +45,7 @@ returns-2 c =
     let g2 = g3.before in
     let g1 = g2.before in
     let e = g1.before in
-    told-parts (sym e.before.masked.ensures ∙ e.if1.false)
+    told_parts (sym e.before.masked.ensures ∙ e.if1.false)
     g1.task-of.ensures
     g2.task-cuts.ensures
     g3.task-choices.ensures

@@ -5,7 +5,7 @@ use mathlib.Core.Path.{◌≡◌}
 use native.Mathlib.Nat.{le_antisymm}
 use native.Mathlib.Omega.{arith}
 use Rattle.tasks.specs.Plan.{tasks_of, few_tasks}
-use Rattle.sweep_tests.specs.Tasks.{TasksTold, told_none, told_more, told-broken}
+use Rattle.sweep_tests.specs.Tasks.{TasksTold, told_none, told_more, told_broken}
 use Rattle.sweep_tests.proofs.test_tasks.Statement.{statement}
 use Rattle.sweep_tests.proofs.test_tasks.Tie as tie
 
@@ -35,7 +35,7 @@ test-task-requires : tie.Need-test-task-requires invariant-loop decreases-loop
 test-task-requires c κs = record { tested = (S (C c)).pre; below = below c }
 
 returns : tie.Need-returns invariant-loop decreases-loop
-returns c = let t = c.before in let l = t.before in told-broken (below l) l.before.loop.invariant.1 c.if1.true t.test-task.ensures
+returns c = let t = c.before in let l = t.before in told_broken (below l) l.before.loop.invariant.1 c.if1.true t.test-task.ensures
 
 add-k : tie.Need-overflow-add-k invariant-loop decreases-loop
 add-k c = let l = c.before.before in let t = C l in omega (arith, below l, few_tasks (S t).args.plan (S t).pre.planned)

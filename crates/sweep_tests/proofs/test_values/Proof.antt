@@ -14,7 +14,7 @@ use Rattle.paper.specs.Refusal.Verdict.{Verdict, verdict_later, verdict_kept}
 use Rattle.paper.specs.Answer.Task.{Sweep}
 use Rattle.paper.specs.Answer.Totals.{SmallTotals}
 use Rattle.paper.specs.Answer.Made.{sweep_of}
-use Rattle.systems.specs.Rows.{small-named}
+use Rattle.systems.specs.Rows.{small_named}
 use Rattle.sweep_tests.specs.First.{panel_rules, heat_rules, first_broken}
 use Rattle.sweep_tests.specs.Whole.{panel_of, heat_of, tasks_rules, last_rule, value_rules, tested_of}
 use Rattle.sweep_tests.proofs.test_values.Statement.{statement}
@@ -89,7 +89,7 @@ totals-tell : (e : tie.After-order-totals-fit) → let a = (S3 e).args in
 totals-tell e =
     let s = S3 e in
     let a = s.args in
-    small-named (keeps_by a.plan.keeps a.plan.form) a.plan.s (order_names a.order.now) a.totals.now s.pre.totals_long
+    small_named (keeps_by a.plan.keeps a.plan.form) a.plan.s (order_names a.order.now) a.totals.now s.pre.totals_long
     e.order-totals-fit.result (rw e.before.totals.ensures at e.order-totals-fit.ensures)
 
 test-panel-requires : tie.Need-test-panel-requires

@@ -10,13 +10,13 @@ use Rattle.paper.specs.Refusal.Rule.{Rule, Kept}
 use Rattle.paper.specs.Refusal.Kept.{Valid}
 use Rattle.paper.specs.Refusal.Verdict.{verdict_kept}
 use Rattle.laws.specs.Forms.{labels_else}
-use Rattle.grow.specs.Task.{Outputs, no_outputs, grown-with}
-use Rattle.moves.specs.Answered.{valid-with}
+use Rattle.grow.specs.Task.{Outputs, no_outputs, grown_with}
+use Rattle.moves.specs.Answered.{valid_with}
 use Rattle.packing.specs.Bytes.{own_task}
 use Rattle.task_steps.specs.Label.{label_rules}
 use Rattle.task_steps.specs.Found.{label_valid}
 use Rattle.task_label.specs.Tested.{verdict_broken}
-use Rattle.task_label.specs.Answered.{refused_by, grown-answers, labelled-answers}
+use Rattle.task_label.specs.Answered.{refused_by, grown_answers, labelled_answers}
 use Rattle.task_label.proofs.task_label.Statement.{statement}
 use Rattle.task_label.proofs.task_label.Tie as tie
 
@@ -91,7 +91,7 @@ label-grown-requires c κs =
     let b = S e.before in
     record {
       choices = choicesAt b;
-      asks = record { grows = grows t; valid = grown-with (others b) no_outputs (grows t) (valid e) };
+      asks = record { grows = grows t; valid = grown_with (others b) no_outputs (grows t) (valid e) };
       room = (kept e).1.1.1.0;
     }
 
@@ -108,7 +108,7 @@ returns-2 c =
     let e = t.before.before in
     let b = S e.before in
     let a = b.args in
-    grown-answers (call_at b) (choicesAt b) (others b) a.rows.now a.members.now a.blue.now _ _ k.label-grown.result (grows t) (kept e)
+    grown_answers (call_at b) (choicesAt b) (others b) a.rows.now a.members.now a.blue.now _ _ k.label-grown.result (grows t) (kept e)
     k.label-grown.ensures
 
 label-rows-requires : tie.Need-label-rows-requires
@@ -120,7 +120,7 @@ label-rows-requires c κs =
       bwd = b.args.bwd.now;
       choices = choicesAt b;
       labelled = labels f;
-      valid = valid-with (labels f) (valid e) [];
+      valid = valid_with (labels f) (valid e) [];
     }
 
 same-length-3 : tie.Need-same-length-3
@@ -149,7 +149,7 @@ returns-3 c =
     let b = S e.before in
     let a = b.args in
     let w = k.label-rows.ensures a.bwd.now in
-    labelled-answers (call_at b) (choicesAt b) (lent_at b) _ a.blue.now k.label-rows.result (labels f) (kept e) refl w.says
+    labelled_answers (call_at b) (choicesAt b) (lent_at b) _ a.blue.now k.label-rows.result (labels f) (kept e) refl w.says
     (w.seen a.members.now)
 
 pub task-label-spec : {M : Type 1} → statement M

@@ -9,7 +9,7 @@ use Rattle.totals.specs.Gain.{at_site, site_gain, Ground}
 use Rattle.totals.specs.Law.{change_in}
 use Rattle.totals.specs.Contract.{lattice_for}
 use Rattle.totals.proofs.Brings.{inside, ground, payable, brought}
-use Rattle.totals.proofs.Listing.{old_of, new_of, listed-sums, new_shows, old_shows}
+use Rattle.totals.proofs.Listing.{old_of, new_of, listed_sums, new_shows, old_shows}
 use Rattle.totals.proofs.Site.{listed_small}
 use Rattle.totals.proofs.bring_listed.Statement.{statement}
 use Rattle.totals.proofs.bring_listed.Tie as tie
@@ -82,7 +82,7 @@ returns c =
       long = q.add-totals.ensures.long;
       each = λ xs u. brought (lattice s) s.pre.0.inverse
           (old_of s.pre.0 s.pre.1.0 s.pre.1.1) (new_of s.pre.0 s.pre.1.0 s.pre.1.1)
-          (listed-sums s.pre.0 s.pre.1.0 s.pre.1.1 g.gather.ensures m.change-listed.ensures) q.add-totals.ensures
+          (listed_sums s.pre.0 s.pre.1.0 s.pre.1.1 g.gather.ensures m.change-listed.ensures) q.add-totals.ensures
           (old_shows s.pre.0 s.pre.1.0 s.pre.1.1 u) (new_shows s.pre.0 s.pre.1.0 s.pre.1.1) u.systems;
     }
 

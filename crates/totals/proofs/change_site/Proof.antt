@@ -8,7 +8,7 @@ use borrow.Author.Tests.{eq-eqb, ne_eqb}
 use lib.IntN.{nat_abs, +ℤ_idr}
 use Rattle.lemmas.specs.Sums.{sum}
 use Rattle.totals.specs.Gain.{Change, change_of, gain_at, Added, Room}
-use Rattle.totals.proofs.Sums.{room_after, room_within, added_none, added-both, added_as, added_more}
+use Rattle.totals.proofs.Sums.{room_after, room_within, added_none, added_both, added_as, added_more}
 use Rattle.totals.proofs.Site.{turn_gain, cell, far_cell, to_ends, from_ends, turn_by, at_small, turns_small}
 use Rattle.totals.proofs.change_site.Statement.{statement}
 use Rattle.totals.proofs.change_site.Tie as tie
@@ -135,7 +135,7 @@ loop-again c =
     let b = v.before.before in (
       omega (arith, l.loop-test.taken),
       added_more (turn_gain (w l) (s l).args.i) l.before.loop.inv.1
-          (added_as (added-both b.bond-at.ensures c.still-at.ensures)
+          (added_as (added_both b.bond-at.ensures c.still-at.ensures)
           (λ k h. turn_by (s l).pre.ground (s l).args.i (e l) (s l).pre.below l.loop-test.taken k
           b.before.before.wide.ensures v.wide2.ensures)),
     )

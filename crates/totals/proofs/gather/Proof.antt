@@ -4,7 +4,7 @@ use native.Mathlib.Nat.{le_antisymm}
 use native.Mathlib.Omega.{arith}
 use borrow.Author.Rules.{rules}
 use Rattle.totals.specs.Listed.{NearSome, columns_by, Gathered}
-use Rattle.totals.proofs.Gathered.{gathered_none, gathered-as, gathered-both, some_none, some_more}
+use Rattle.totals.proofs.Gathered.{gathered_none, gathered_as, gathered_both, some_none, some_more}
 use Rattle.totals.proofs.gather.Statement.{statement}
 use Rattle.totals.proofs.gather.Tie as tie
 
@@ -72,7 +72,7 @@ loop-again c =
     let v = wide_of g in
     let l = v.before.before in (
       omega (arith, l.loop-test.taken),
-      gathered-as (gathered-both l.before.loop.inv.1 g.gather-near.ensures) (some_more (s l).args.list.now v.wide.ensures),
+      gathered_as (gathered_both l.before.loop.inv.1 g.gather-near.ensures) (some_more (s l).args.list.now v.wide.ensures),
     )
 
 same_length : tie.Need-same-length invariant-loop decreases-loop

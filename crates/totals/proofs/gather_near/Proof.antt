@@ -5,7 +5,7 @@ use native.Mathlib.Omega.{arith}
 use borrow.Author.Rules.{rules}
 use Rattle.lemmas.specs.Cells.{cell_lt}
 use Rattle.totals.specs.Listed.{Near, columns_by, Gathered}
-use Rattle.totals.proofs.Gathered.{gathered_none, gathered-as, gathered-both, near_none, near-more}
+use Rattle.totals.proofs.Gathered.{gathered_none, gathered_as, gathered_both, near_none, near_more}
 use Rattle.totals.proofs.gather_near.Statement.{statement}
 use Rattle.totals.proofs.gather_near.Tie as tie
 
@@ -128,8 +128,8 @@ loop-again c =
     let v1 = wide_of g1 in
     let l = in-wide v1 in (
       omega (arith, l.loop-test.taken),
-      gathered-as (gathered-both (gathered-both l.before.loop.inv.1 g1.gather-one.ensures) g2.gather-one2.ensures)
-          (near-more v1.wide.ensures v2.wide2.ensures),
+      gathered_as (gathered_both (gathered_both l.before.loop.inv.1 g1.gather-one.ensures) g2.gather-one2.ensures)
+          (near_more v1.wide.ensures v2.wide2.ensures),
     )
 
 same_length : tie.Need-same-length invariant-loop decreases-loop

@@ -1,7 +1,7 @@
 -- `gather_one` meets its contract, by the test of the member.
 use native.Mathlib.Omega.{arith}
 use borrow.Author.Rules.{rules}
-use Rattle.totals.proofs.Gathered.{gathered_member, gathered-row}
+use Rattle.totals.proofs.Gathered.{gathered_member, gathered_row}
 use Rattle.totals.proofs.gather_one.Statement.{statement}
 use Rattle.totals.proofs.gather_one.Tie as tie
 
@@ -26,7 +26,7 @@ same-length-2 c = search rules
 returns : tie.Need-returns
 returns c =
     let s = c.before.before.before.before.before.before in
-    gathered-row s.args.j c.column-at.result s.requires.0.below (omega (arith, s.requires.0.below, s.requires.1.olds_long))
+    gathered_row s.args.j c.column-at.result s.requires.0.below (omega (arith, s.requires.0.below, s.requires.1.olds_long))
     (omega (arith, s.requires.0.below, s.requires.1.news_long)) c.before.if1.true c.column-at.ensures
 
 returns-2 : tie.Need-returns-2

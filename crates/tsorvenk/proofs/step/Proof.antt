@@ -3,7 +3,7 @@ use borrow.Author.Rules.{rules}
 use mathlib.Core.Path.{refl}
 use Rattle.lemmas.specs.Tells.{passed, refused}
 use Rattle.tsorvenk.specs.Number.{Coded}
-use Rattle.tsorvenk.proofs.Told.{unknown-code, known-code, same_coding, same_keeping, same_call, same-choices}
+use Rattle.tsorvenk.proofs.Told.{unknown_code, known_code, same_coding, same_keeping, same_call, same_choices}
 use Rattle.tsorvenk.proofs.step.Statement.{statement}
 use Rattle.tsorvenk.proofs.step.Tie as tie
 
@@ -18,7 +18,7 @@ codes-ok-requires : tie.Need-codes-ok-requires
 codes-ok-requires c κs = search rules
 
 returns : tie.Need-returns
-returns c = unknown-code (refused c.before.codes-ok.result c.if1.true c.before.codes-ok.ensures)
+returns c = unknown_code (refused c.before.codes-ok.result c.if1.true c.before.codes-ok.ensures)
 
 mode-of-requires : tie.Need-mode-of-requires
 mode-of-requires c κs = (known c).mode_known
@@ -80,10 +80,10 @@ returns-2 c =
     let f = k.before in
     let m = f.before in
     let a = (S m.before.before).args in
-    known-code o.overlap-step-by.result c.number_of_lem.ensures
+    known_code o.overlap-step-by.result c.number_of_lem.ensures
     (same_coding q.coding-of.ensures m.Mode-of.ensures f.form_of.ensures) (same_keeping k.keeps-of.ensures f.form_of.ensures)
     (same_call m.Mode-of.ensures f.form_of.ensures refl)
-    (same-choices a.flips.now a.perms.now t.taken.ensures m.Mode-of.ensures) (known m.before) o.overlap-step-by.ensures
+    (same_choices a.flips.now a.perms.now t.taken.ensures m.Mode-of.ensures) (known m.before) o.overlap-step-by.ensures
 
 pub step_spec : {M : Type 1} → statement M
 step_spec =

@@ -73,7 +73,7 @@ returns-2 c =
       bwd = _;
       after = buffers_of _ _ [] _ _ [] [] [];
       moved = p.perm-move.ensures;
-      written = c.before.before.write-answer.ensures;
+      written = c.before.before.write_answer.ensures;
     })
 
 pub move-and-write-spec : {M : Type 1} → statement M

@@ -4,7 +4,7 @@ use mathlib.Core.List.{[]}
 use native.Mathlib.Omega.{arith}
 use lib.ListN.{length-set}
 use borrow.Author.Rules.{rules}
-use Rattle.grow.proofs.Whole.{grounds, seeded, seed-kept, kept_of, kept_for, first_by, plain, blue-seeds, second-by, both}
+use Rattle.grow.proofs.Whole.{grounds, seeded, seed_kept, kept_of, kept_for, first_by, plain, blue_seeds, second_by, both}
 use Rattle.grow.proofs.growing.grow_cluster.Statement.{statement}
 use Rattle.grow.proofs.growing.grow_cluster.Tie as tie
 
@@ -64,7 +64,7 @@ spread-requires c κs =
       grounds s.pre rule,
       (
         seeded s.pre s.args.list.now rule (C p).clear.ensures refl,
-        seed-kept s.pre _ s.args.cols.now _ rule (C p).clear.ensures refl p.before.column-at.ensures,
+        seed_kept s.pre _ s.args.cols.now _ rule (C p).clear.ensures refl p.before.column-at.ensures,
       ),
     )
 
@@ -86,7 +86,7 @@ spread-requires-2 c κs =
     let cmr = sym i.is_cmr_lem.ensures ∙ r.before.if1.true in (
       grounds g r.prepare2.ensures,
       (
-        blue-seeds g [] cmr r.prepare2.ensures (first_by g [] p.prepare.ensures a.spread.ensures.grown),
+        blue_seeds g [] cmr r.prepare2.ensures (first_by g [] p.prepare.ensures a.spread.ensures.grown),
         kept_for g r.prepare2.ensures (kept_of g p.prepare.ensures a.spread.ensures.kept),
       ),
     )
@@ -102,7 +102,7 @@ same_length c =
     let i = I r in
     let g = (S (C (P (A i)))).requires in
     let cmr = sym i.is_cmr_lem.ensures ∙ r.before.if1.taken in
-    (second-by g [] cmr r.prepare2.ensures w.spread2.ensures.grown).cluster.members.long ∙ sym g.members_long
+    (second_by g [] cmr r.prepare2.ensures w.spread2.ensures.grown).cluster.members.long ∙ sym g.members_long
 
 same-length-2 : tie.Need-same-length-2
 same-length-2 c =
@@ -127,7 +127,7 @@ returns c =
       grown = λ pins.
           both g pins cmr
           (first_by g pins p.prepare.ensures a.spread.ensures.grown)
-          (second-by g pins cmr r.prepare2.ensures w.spread2.ensures.grown);
+          (second_by g pins cmr r.prepare2.ensures w.spread2.ensures.grown);
       kept = kept_of g r.prepare2.ensures w.spread2.ensures.kept;
     }
 

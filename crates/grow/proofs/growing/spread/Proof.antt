@@ -4,7 +4,7 @@ use native.Mathlib.Omega.{arith}
 use borrow.Author.Rules.{rules}
 use Rattle.grow.specs.Kept.{Keeping}
 use Rattle.grow.specs.Contract.{graph_for, ruled}
-use Rattle.grow.specs.Spread.{Spreading, spread-start, spread_high, spread_room, next_spreading, next_at, next_marked, spread-more, spread_end}
+use Rattle.grow.specs.Spread.{Spreading, spread_start, spread_high, spread_room, next_spreading, next_at, next_marked, spread_more, spread_end}
 use Rattle.grow.proofs.growing.spread.Statement.{statement}
 use Rattle.grow.proofs.growing.spread.Tie as tie
 
@@ -38,7 +38,7 @@ waits : (c : tie.In-loop invariant-loop decreases-loop) → c.before.loop.head <
 waits c = omega (arith, c.loop-test.true, spread_high c.before.loop.invariant.grown)
 
 loop-holds : tie.Need-loop-init invariant-loop decreases-loop
-loop-holds c = let s = B c in record { grown = spread-start s.pre.1.0; kept = s.pre.1.1 }
+loop-holds c = let s = B c in record { grown = spread_start s.pre.1.0; kept = s.pre.1.1 }
 
 sub-next : tie.Need-overflow-sub-next invariant-loop decreases-loop
 sub-next c = search rules
@@ -75,7 +75,7 @@ loop-again c =
     let last = t.before.loop.len - 1 in
     let next = next_spreading was hl last (omega arith) x.next.ensures in
     record {
-      grown = spread-more next hl (next_at was hl last (omega arith) x.next.ensures) v.visit.ensures.grown;
+      grown = spread_more next hl (next_at was hl last (omega arith) x.next.ensures) v.visit.ensures.grown;
       kept = v.visit.ensures.kept;
     }
 

@@ -9,9 +9,9 @@ use Rattle.judge.specs.Judged.{KnownToAct, column_for}
 use Rattle.judge.specs.Drawn.{judged_on}
 use Rattle.grow.specs.Members.{inside}
 use Rattle.grow.specs.Kept.{Keeping, known_to_act}
-use Rattle.grow.specs.Growth.{Met, Met.known, Halfway, Visiting, visit-start, site}
+use Rattle.grow.specs.Growth.{Met, Met.known, Halfway, Visiting, visit_start, site}
 use Rattle.grow.specs.Contract.{graph_for, ruled}
-use Rattle.grow.proofs.Turns.{met-same, cell, cells, row, ahead_lt, behind_lt, turn-ahead, turn-behind}
+use Rattle.grow.proofs.Turns.{met_same, cell, cells, row, ahead_lt, behind_lt, turn_ahead, turn_behind}
 use Rattle.grow.proofs.growing.visit.Statement.{statement}
 use Rattle.grow.proofs.growing.visit.Tie as tie
 
@@ -78,8 +78,8 @@ met-ahead : (c : tie.Joined1 invariant-loop decreases-loop) →
     a.rule.task a.spins.now c.if1.members c.if1.cols
 met-ahead c =
     ⊎_elim
-    (λ w. met-same w.11 w.12 w.13 w.14 w.4.ensures)
-    (λ w. met-same w.1 w.2 w.3 w.4 (record { grown = known w.0.left; kept = (T (H c)).before.loop.inv.kept }))
+    (λ w. met_same w.11 w.12 w.13 w.14 w.4.ensures)
+    (λ w. met_same w.1 w.2 w.3 w.4 (record { grown = known w.0.left; kept = (T (H c)).before.loop.inv.kept }))
     c.if1.branch
 
 halfway : (c : tie.Joined1 invariant-loop decreases-loop) →
@@ -89,7 +89,7 @@ halfway : (c : tie.Joined1 invariant-loop decreases-loop) →
     a.rule.task.seed a.i a.members.now a.list.now a.start t.before.loop.e c.if1.members c.if1.list c.if1.len
 halfway c =
     let t = T (H c) in
-    turn-ahead (S t).pre.0 t.loop-test.taken (own_is (S t)) t.before.loop.inv.grown (H c).wide.ensures (met-ahead c).grown
+    turn_ahead (S t).pre.0 t.loop-test.taken (own_is (S t)) t.before.loop.inv.grown (H c).wide.ensures (met-ahead c).grown
 
 -- and so is the bond behind
 abbrev L : tie.Joined2 invariant-loop decreases-loop → tie.After-wide2 invariant-loop decreases-loop
@@ -107,8 +107,8 @@ met-behind : (c : tie.Joined2 invariant-loop decreases-loop) →
     a.rule.task a.spins.now c.if2.members c.if2.cols
 met-behind c =
     ⊎_elim
-    (λ w. met-same w.11 w.12 w.13 w.14 w.4.ensures)
-    (λ w. met-same w.1 w.2 w.3 w.4 (record { grown = known w.0.left; kept = (met-ahead (K (L c))).kept }))
+    (λ w. met_same w.11 w.12 w.13 w.14 w.4.ensures)
+    (λ w. met_same w.1 w.2 w.3 w.4 (record { grown = known w.0.left; kept = (met-ahead (K (L c))).kept }))
     c.if2.branch
 
 slice-read-own : tie.Need-slice-read-own invariant-loop decreases-loop
@@ -118,7 +118,7 @@ mul-base : tie.Need-overflow-mul-base invariant-loop decreases-loop
 mul-base c = let s = B c in omega (arith, row s.pre.0 (first s))
 
 loop-holds : tie.Need-loop-init invariant-loop decreases-loop
-loop-holds c = let s = B c in record { grown = visit-start s.pre.1.0 s.pre.1.1.0; kept = s.pre.1.1.1 }
+loop-holds c = let s = B c in record { grown = visit_start s.pre.1.0 s.pre.1.1.0; kept = s.pre.1.1.1 }
 
 add_wide : tie.Need-overflow-add-wide invariant-loop decreases-loop
 add_wide c = omega (arith, place c, cells (S c).requires.0)
@@ -199,7 +199,7 @@ loop-again c =
     let t = T (H k) in
     let met = met-behind c in
     record {
-      grown = turn-behind (S t).pre.0 t.loop-test.taken (own_is (S t)) (halfway k) (L c).wide2.ensures met.grown;
+      grown = turn_behind (S t).pre.0 t.loop-test.taken (own_is (S t)) (halfway k) (L c).wide2.ensures met.grown;
       kept = met.kept;
     }
 

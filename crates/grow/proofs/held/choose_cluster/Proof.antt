@@ -3,7 +3,7 @@ use mathlib.Core.Path.{refl}
 use borrow.Author.Rules.{rules}
 use Rattle.lemmas.specs.Tells.{told, denied}
 use Rattle.turn.specs.Laws.{choosable}
-use Rattle.grow.specs.Pinned.{GreyBy.free, GreyBy.held, none-turnable, chosen-with}
+use Rattle.grow.specs.Pinned.{GreyBy.free, GreyBy.held, none_turnable, chosen_with}
 use Rattle.grow.proofs.held.choose_cluster.Statement.{statement}
 use Rattle.grow.proofs.held.choose_cluster.Tie as tie
 
@@ -26,7 +26,7 @@ slice-aggregate-turn-columns : tie.Need-slice-aggregate-turn-columns
 slice-aggregate-turn-columns c = search rules
 
 turn-columns-requires : tie.Need-turn-columns-requires
-turn-columns-requires c κs = let p = (S (T c).before.before.before).requires in choosable (none-turnable p.0) p.1.1
+turn-columns-requires c κs = let p = (S (T c).before.before.before).requires in choosable (none_turnable p.0) p.1.1
 
 turn-columns-requires-2 : tie.Need-turn-columns-requires-2
 turn-columns-requires-2 c κs = let p = (S (E c).before.before.before).requires in choosable p.0 p.1.1
@@ -39,7 +39,7 @@ returns c =
     let u = c.before.before in
     let k = T u.before in
     let pin = told k.if1.taken k.before.some-pinned.ensures in
-    chosen-with k.before.before.gauge_at.ensures (held pin refl) u.turn-columns.ensures
+    chosen_with k.before.before.gauge_at.ensures (held pin refl) u.turn-columns.ensures
 
 same-length-2 : tie.Need-same-length-2
 same-length-2 c = search rules
@@ -49,7 +49,7 @@ returns-2 c =
     let u = c.before.before in
     let k = E u.before in
     let none = denied k.if1.left k.before.some-pinned.ensures in
-    chosen-with k.before.before.gauge_at.ensures (free none refl) u.turn-columns2.ensures
+    chosen_with k.before.before.gauge_at.ensures (free none refl) u.turn-columns2.ensures
 
 pub choose-cluster-spec : {M : Type 1} → statement M
 choose-cluster-spec =

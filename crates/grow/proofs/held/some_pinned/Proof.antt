@@ -3,7 +3,7 @@ use Prim.Native.Nat.{◌-◌}
 use native.Mathlib.Omega.{arith}
 use borrow.Author.Rules.{rules}
 use Rattle.lemmas.specs.Tells.{test_eq}
-use Rattle.grow.specs.Pinned.{Looking, look_start, look-more, look_end}
+use Rattle.grow.specs.Pinned.{Looking, look_start, look_more, look_end}
 use Rattle.grow.proofs.held.some_pinned.Statement.{statement}
 use Rattle.grow.proofs.held.some_pinned.Tie as tie
 
@@ -44,7 +44,7 @@ loop-again : tie.Need-loop-preserved invariant-loop decreases-loop
 loop-again c =
     let v = c.before in
     let l = v.before.before in
-    look-more l.before.loop.invariant l.loop-test.true v.wide.ensures (test_eq _ _)
+    look_more l.before.loop.invariant l.loop-test.true v.wide.ensures (test_eq _ _)
 
 returns : tie.Need-returns invariant-loop decreases-loop
 returns c = look_end c.before.loop.invariant c.loop-test.false

@@ -17,10 +17,10 @@ use Rattle.paper.specs.Refusal.Verdict.{Verdict, verdict_kept, verdict_later}
 use Rattle.paper.specs.Answer.Totals.{SmallTotals}
 use Rattle.tests.specs.Choices.{chosen_rules}
 use Rattle.step_tests.specs.Call.{verdict_first}
-use Rattle.systems.specs.Rows.{small-named}
+use Rattle.systems.specs.Rows.{small_named}
 use Rattle.packing.specs.Bytes.{rows_of, Narrow}
 use Rattle.packing.specs.Laws.{spins_narrow}
-use Rattle.packed.specs.Tested.{head_rules, spin_rules, panel_tables, seed_rules, total_rules, head_of, own_spins, spins_own, spins-tell}
+use Rattle.packed.specs.Tested.{head_rules, spin_rules, panel_tables, seed_rules, total_rules, head_of, own_spins, spins_own, spins_tell}
 use Rattle.packed.specs.Tested.{bytes_long, rows_sighted, rows_columned}
 use Rattle.packed.proofs.tested.test_packed.Statement.{statement}
 use Rattle.packed.proofs.tested.test_packed.Tie as tie
@@ -85,7 +85,7 @@ tell3 k =
     let e = E1 k in
     let b = S e.before in
     own_spins b.args.t b.pre.systems b.pre.group (k1 e).0.size_high (rows_at b) k.bytes-at-most.result
-    (spins-tell b.args.t.s b.args.t.n k.before.highest.result b.args.columns.now (long e) (some e)
+    (spins_tell b.args.t.s b.args.t.n k.before.highest.result b.args.columns.now (long e) (some e)
     (k.before.highest.ensures ∙ ap (λ (x : ℕ). 2 ^ x - 1) (sym b.pre.systems)) k.bytes-at-most.result k.bytes-at-most.ensures)
 
 abbrev F2 : tie.Else2 → tie.Else1
@@ -173,7 +173,7 @@ small : (m : tie.After-group-totals-fit) → let a = (z (F5 m.before.before)).ar
 small m =
     let e = F5 m.before.before in
     let a = (z e).args in
-    small-named (keeps_by a.t.keeps a.t.form) a.t.s (group_names a.t.group) a.totals.now (λ q. ((k1 (f e)).1.1.1.0 q).totals)
+    small_named (keeps_by a.t.keeps a.t.form) a.t.s (group_names a.t.group) a.totals.now (λ q. ((k1 (f e)).1.1.1.0 q).totals)
     m.group-totals-fit.result (rw m.before.totals.ensures at m.group-totals-fit.ensures)
 
 test-shape-requires : tie.Need-test-shape-requires

@@ -10,7 +10,7 @@ use Rattle.paper.specs.Panel.Input.{Call, Choices}
 use Rattle.paper.specs.Panel.Made.{call_of, choices_of}
 use Rattle.paper.specs.Panel.Takes.{is_cmr, moves}
 use Rattle.column_rules.specs.Sight.{Sighted, rows_look, look_sights, acts_flags}
-use Rattle.moves.specs.Given.{Given, Keys, given-asks, chosen-columns}
+use Rattle.moves.specs.Given.{Given, Keys, given_asks, chosen_columns}
 use Rattle.task_choose.specs.Asked.{sighted}
 use Rattle.task_choose.specs.Labelled.{given, tallyable, columns_rest}
 use Rattle.task_choose.proofs.labelled.choose_labelled.Statement.{statement}
@@ -134,7 +134,7 @@ choose-task-requires c κs =
     let a = s.args in
     let xs = a.rows.now in
     let w = (P e.before).pack.ensures in
-    given-asks a.t [] [] a.pins.now [] [] (choicesAt s) xs (told e) (keys e)
+    given_asks a.t [] [] a.pins.now [] [] (choicesAt s) xs (told e) (keys e)
     (acts_flags (call_at s) xs _ (look_sights (sight s) w l.look-columns.ensures).flagged) w
     f.tally-free.ensures (grey_keys e) (λ q. g.tally-greys.ensures (g.before.before.is_cmr_lem.ensures ∙ q)) (length-take-le _ _ (few s))
 
@@ -159,7 +159,7 @@ returns-2 c =
     let a = s.args in
     let xs = a.rows.now in
     let w = (P e.before).pack.ensures in
-    chosen-columns a.t [] [] a.pins.now [] [] (choicesAt s) xs (told e) (keys e)
+    chosen_columns a.t [] [] a.pins.now [] [] (choicesAt s) xs (told e) (keys e)
     (acts_flags (call_at s) xs _ (look_sights (sight s) w l.look-columns.ensures).flagged) w a.grey_labels.now
     (u.choose-task.ensures a.pins.now f.tally-free.ensures (λ q. g.tally-greys.ensures (g.before.before.is_cmr_lem.ensures ∙ q)))
 

@@ -10,7 +10,7 @@ use Rattle.lemmas.specs.Bools.{never}
 use Rattle.grow.specs.Answered.{findable}
 use Rattle.task_steps.specs.Label.{takes_blue}
 use Rattle.task_label.specs.Marking.{marks_of}
-use Rattle.task_label.specs.Grown.{blue_taken, blue_cmr, found-markable, found-leaves}
+use Rattle.task_label.specs.Grown.{blue_taken, blue_cmr, found_markable, found_leaves}
 use Rattle.task_label.proofs.grown.label_grown.Statement.{statement}
 use Rattle.task_label.proofs.grown.label_grown.Tie as tie
 
@@ -57,7 +57,7 @@ mark-listed-requires c κs =
     let f = F t.before in
     let b = S f in
     let a = b.args in
-    found-markable (call_at b) a.rows.now a.members.now a.blue.now b.pre _ _ _ _ _ (b.pre.room (taken t)) f.find.result.answer
+    found_markable (call_at b) a.rows.now a.members.now a.blue.now b.pre _ _ _ _ _ (b.pre.room (taken t)) f.find.result.answer
     f.find.ensures.grown
 
 same_length : tie.Need-same-length
@@ -73,7 +73,7 @@ returns c =
     let f = F t.before in
     let b = S f in
     let a = b.args in
-    found-leaves (call_at b) a.rows.now a.members.now a.blue.now b.pre _ _ _ _ _ f.find.result.answer f.find.ensures.grown
+    found_leaves (call_at b) a.rows.now a.members.now a.blue.now b.pre _ _ _ _ _ f.find.result.answer f.find.ensures.grown
     (λ e. marks_of (b.pre.room e) k.mark-listed.ensures) (λ e. never (sym e ∙ taken t))
 
 same-length-3 : tie.Need-same-length-3
@@ -84,7 +84,7 @@ returns-2 c =
     let f = F c.before in
     let b = S f in
     let a = b.args in
-    found-leaves (call_at b) a.rows.now a.members.now a.blue.now b.pre _ _ _ _ _ f.find.result.answer f.find.ensures.grown
+    found_leaves (call_at b) a.rows.now a.members.now a.blue.now b.pre _ _ _ _ _ f.find.result.answer f.find.ensures.grown
     (λ e.
     never
     (sym c.if1.false

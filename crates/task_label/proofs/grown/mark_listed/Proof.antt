@@ -5,7 +5,7 @@ use native.Mathlib.Nat.{le_antisymm}
 use native.Mathlib.Omega.{arith}
 use lib.ListN.{length}
 use borrow.Author.Rules.{rules}
-use Rattle.task_label.specs.Marking.{MarksListed, marks_of, marks_none, marks-more}
+use Rattle.task_label.specs.Marking.{MarksListed, marks_of, marks_none, marks_more}
 use Rattle.task_label.proofs.grown.mark_listed.Statement.{statement}
 use Rattle.task_label.proofs.grown.mark_listed.Tie as tie
 
@@ -55,7 +55,7 @@ loop-again : tie.Need-loop-preserved invariant-loop decreases-loop
 loop-again c =
     let l = c.before.before in (
       omega (arith, l.loop-test.true),
-      marks-more l.before.loop.invariant.1 (omega (arith, below c, l.before.before.before.before.clear.ensures.long)) c.wide.ensures,
+      marks_more l.before.loop.invariant.1 (omega (arith, below c, l.before.before.before.before.clear.ensures.long)) c.wide.ensures,
     )
 
 same_length : tie.Need-same-length invariant-loop decreases-loop

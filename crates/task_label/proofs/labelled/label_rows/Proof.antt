@@ -7,7 +7,7 @@ use lib.Seq.{length-take-le}
 use Rattle.paper.specs.Panel.Made.{call_of}
 use Rattle.moves.specs.Tested.{ready}
 use Rattle.moves.specs.Answered as answered
-use Rattle.task_label.specs.Labelled.{labelled-leaves}
+use Rattle.task_label.specs.Labelled.{labelled_leaves}
 use Rattle.task_label.proofs.labelled.label_rows.Statement.{statement}
 use Rattle.task_label.proofs.labelled.label_rows.Tie as tie
 
@@ -85,7 +85,7 @@ label-task-requires c κs =
     let k = c.before.before.before.before.before.before.before.before.before in
     let b = P k in
     let a = b.args in
-    answered.task-asks a.t a.fwd.now b.pre.bwd a.pins.now a.couplings.now a.cuts.now b.pre.choices b.pre.labelled
+    answered.task_asks a.t a.fwd.now b.pre.bwd a.pins.now a.couplings.now a.cuts.now b.pre.choices b.pre.labelled
     b.pre.valid k.pack.ensures
 
 same_length : tie.Need-same-length
@@ -112,7 +112,7 @@ returns c =
     let k = L o in
     let b = P k in
     let a = b.args in
-    labelled-leaves a.t a.fwd.now a.pins.now a.couplings.now a.cuts.now a.rows.now o.label-task.result
+    labelled_leaves a.t a.fwd.now a.pins.now a.couplings.now a.cuts.now a.rows.now o.label-task.result
     o.label-task.ensures
     (ready (call_of a.t a.fwd.now b.pre.bwd a.pins.now a.couplings.now a.cuts.now) b.pre.choices _ b.pre.valid.sound)
     k.pack.ensures

@@ -7,7 +7,7 @@ use borrow.Author.Tests.{not_true, not-false}
 use lib.Seq.{length-take-le}
 use Rattle.paper.specs.Panel.Takes.{keeps_by}
 use Rattle.totals.specs.Contract.{lattice_for}
-use Rattle.task_write.specs.Wrote.{ready_inside, ahead-kept, ahead_left}
+use Rattle.task_write.specs.Wrote.{ready_inside, ahead_kept, ahead_left}
 use Rattle.task_write.proofs.labelled.bring_ahead.Statement.{statement}
 use Rattle.task_write.proofs.labelled.bring_ahead.Tie as tie
 
@@ -67,7 +67,7 @@ returns-2 c =
     let p = r.before.before.before.before.before in
     let g = G p in
     let a = (A g).args in
-    ahead-kept {g = lattice_for a.t a.fwd.now a.bwd.now a.couplings.now} (keeps (E g))
+    ahead_kept {g = lattice_for a.t a.fwd.now a.bwd.now a.couplings.now} (keeps (E g))
     p.pack.ensures (A g).pre.spins r.bring-all.ensures
 
 pub bring-ahead-spec : {M : Type 1} → statement M

@@ -9,7 +9,7 @@ use lib.Dec.{eqb}
 use lib.ListN.{length, get_or}
 use Rattle.lemmas.specs.Counts.{bit_le}
 use Rattle.lemmas.specs.Tells.{refused}
-use Rattle.task_write.specs.Marks.{Collects, collected-past, collects-more}
+use Rattle.task_write.specs.Marks.{Collects, collected_past, collects_more}
 use Rattle.task_write.proofs.marks.list_block.Statement.{statement}
 use Rattle.task_write.proofs.marks.list_block.Tie as tie
 
@@ -45,7 +45,7 @@ returns : tie.Need-returns invariant-loop decreases-loop
 returns c =
     let a = c.before in
     let p = (S a).requires in
-    record { same_long = refl; got = collected-past p.1.1 p.0.ordered (refused a.some_marked.result c.if1.true a.some_marked.ensures) }
+    record { same_long = refl; got = collected_past p.1.1 p.0.ordered (refused a.some_marked.result c.if1.true a.some_marked.ensures) }
 
 loop-holds : tie.Need-loop-init invariant-loop decreases-loop
 loop-holds c = let p = (S c.before).pre in (p.0.ordered, record { same_long = refl; got = p.1.1 })
@@ -79,7 +79,7 @@ loop-less c = omega (arith, c.before.before.loop-test.true)
 loop-again : tie.Need-loop-preserved invariant-loop decreases-loop
 loop-again c =
     let l = c.before.before in
-    (omega (arith, l.loop-test.true), collects-more l.before.loop.invariant.1 (room l) (marked l) refl c.one.ensures)
+    (omega (arith, l.loop-test.true), collects_more l.before.loop.invariant.1 (room l) (marked l) refl c.one.ensures)
 
 same_length : tie.Need-same-length invariant-loop decreases-loop
 same_length c = c.before.loop.invariant.1.same_long

@@ -2,7 +2,7 @@
 use Prim.Native.Nat.{◌-◌}
 use borrow.Author.Rules.{rules}
 use Rattle.lemmas.specs.Tells.{test_eq}
-use Rattle.task_write.specs.Marks.{Looked, look_start, look-more, look_end}
+use Rattle.task_write.specs.Marks.{Looked, look_start, look_more, look_end}
 use Rattle.task_write.proofs.marks.some_marked.Statement.{statement}
 use Rattle.task_write.proofs.marks.some_marked.Tie as tie
 
@@ -25,7 +25,7 @@ loop-less : tie.Need-loop-smaller invariant-loop decreases-loop
 loop-less c = search rules
 
 loop-again : tie.Need-loop-preserved invariant-loop decreases-loop
-loop-again c = let l = c.before in look-more l.before.loop.invariant l.loop-test.true (test_eq _ _)
+loop-again c = let l = c.before in look_more l.before.loop.invariant l.loop-test.true (test_eq _ _)
 
 returns : tie.Need-returns invariant-loop decreases-loop
 returns c = look_end c.before.loop.invariant c.loop-test.false

@@ -4,7 +4,7 @@ use mathlib.Core.Path.{◌≡◌, sym, ◌∙◌}
 use mathlib.Core.Bool.{true}
 use Rattle.paper.specs.Panel.Takes.{grows_by, labels_by}
 use Rattle.laws.specs.Forms.{labels_else}
-use Rattle.task_write.specs.Tested.{all_tell, marked-tell}
+use Rattle.task_write.specs.Tested.{all_tell, marked_tell}
 use Rattle.task_write.proofs.tested.area_ok.Statement.{statement}
 use Rattle.task_write.proofs.tested.area_ok.Tie as tie
 
@@ -31,7 +31,7 @@ returns c =
     let g = c.before.before in
     let b = S g in
     let t = b.args.t in
-    marked-tell t.form t.n t.group.len g.before.highest.result b.args.members.now b.args.area.now b.pre.area_long
+    marked_tell t.form t.n t.group.len g.before.highest.result b.args.members.now b.args.area.now b.pre.area_long
     g.before.highest.ensures c.marked-at-most.result (grows c.before) c.marked-at-most.ensures
 
 bytes-at-most-requires : tie.Need-bytes-at-most-requires

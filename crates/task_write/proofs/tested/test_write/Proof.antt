@@ -13,7 +13,7 @@ use Rattle.paper.specs.Refusal.Rule.{Kept}
 use Rattle.paper.specs.Refusal.Rules.{When, group_names, Named, Spins, Inverse, SmallCouplings}
 use Rattle.paper.specs.Refusal.Verdict.{Verdict, verdict_kept, verdict_later}
 use Rattle.paper.specs.Answer.Totals.{SmallTotals}
-use Rattle.systems.specs.Rows.{small-named}
+use Rattle.systems.specs.Rows.{small_named}
 use Rattle.task_steps.specs.Write.{Shape, shape_of, Writing, writing_of, Columned, write_rules}
 use Rattle.task_write.specs.Tested.{head_rules, tail_rules, head_of, head_broken, marks_tell}
 use Rattle.task_write.proofs.tested.test_write.Statement.{statement}
@@ -120,7 +120,7 @@ tell14 k =
     let f = E3 (E4 (E5 (E8 k))) in
     let e = E2 f in
     let b = B1 e in
-    small-named (keepingAt b) b.args.t.s (group_names b.args.t.group) b.args.totals.now (λ q. ((k1 e).1.1.0.totals q).totals)
+    small_named (keepingAt b) b.args.t.s (group_names b.args.t.group) b.args.totals.now (λ q. ((k1 e).1.1.0.totals q).totals)
     k.group-totals-fit.result (rw (keeping f.before.before) at k.group-totals-fit.ensures)
 
 test-lengths-requires : tie.Need-test-lengths-requires

@@ -6,7 +6,7 @@ use mathlib.Core.Bool.{true}
 use Rattle.paper.specs.Panel.Takes.{one_cluster}
 use Rattle.column_rules.specs.Sight.{acts_at}
 use Rattle.tests.specs.Choices.{EveryRows}
-use Rattle.tests.proofs.Seed.{unseeded, seed_past, seed_acts, seed-rests, seed_seen}
+use Rattle.tests.proofs.Seed.{unseeded, seed_past, seed_acts, seed_rests, seed_seen}
 use Rattle.tests.proofs.choices.seed_column_ok.Statement.{statement}
 use Rattle.tests.proofs.choices.seed_column_ok.Tie as tie
 
@@ -61,7 +61,7 @@ returns-4 : tie.Need-returns-4
 returns-4 c = λ cuts d s temperature fwd bwd pins couplings xs p w.
     let n = c.before in
     let e = E n.before in
-    seed-rests (S e.before).args.t xs c.any-column-acts.result (one e.before) e.if2.left (told n.before xs p w ∙ n.if3.false)
+    seed_rests (S e.before).args.t xs c.any-column-acts.result (one e.before) e.if2.left (told n.before xs p w ∙ n.if3.false)
     (c.any-column-acts.ensures xs p w) cuts d s temperature fwd bwd pins couplings
 
 pub seed-column-ok-spec : {M : Type 1} → statement M

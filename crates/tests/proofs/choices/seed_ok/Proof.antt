@@ -4,7 +4,7 @@ use borrow.Author.Tests.{not_true, not-false}
 use mathlib.Core.Path.{◌≡◌, sym, ◌∙◌}
 use mathlib.Core.Bool.{true}
 use Rattle.paper.specs.Panel.Takes.{one_cluster}
-use Rattle.tests.proofs.Seed.{unseeded, seed_past, seed_acts, seed-rests}
+use Rattle.tests.proofs.Seed.{unseeded, seed_past, seed_acts, seed_rests}
 use Rattle.tests.proofs.choices.seed_ok.Statement.{statement}
 use Rattle.tests.proofs.choices.seed_ok.Tie as tie
 
@@ -42,7 +42,7 @@ returns-4 c =
     let n = c.before in
     let e = n.before.before in
     let a = (S e.before).args in
-    seed-rests a.t a.spins.now c.any-acts.result (one e.before) e.if2.false
+    seed_rests a.t a.spins.now c.any-acts.result (one e.before) e.if2.false
     (sym n.before.acts-at.ensures ∙ n.if3.false) c.any-acts.ensures
 
 pub seed-ok-spec : {M : Type 1} → statement M

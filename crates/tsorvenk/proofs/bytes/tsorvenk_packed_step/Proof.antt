@@ -3,8 +3,8 @@ use borrow.Author.Rules.{rules}
 use mathlib.Core.Path.{refl}
 use Rattle.lemmas.specs.Tells.{passed, refused}
 use Rattle.tsorvenk.specs.Number.{Coded}
-use Rattle.tsorvenk.proofs.Told.{same_coding, same_keeping, same_call, same-choices}
-use Rattle.tsorvenk.proofs.Packed.{packed_unknown, packed-known}
+use Rattle.tsorvenk.proofs.Told.{same_coding, same_keeping, same_call, same_choices}
+use Rattle.tsorvenk.proofs.Packed.{packed_unknown, packed_known}
 use Rattle.tsorvenk.proofs.bytes.tsorvenk_packed_step.Statement.{statement}
 use Rattle.tsorvenk.proofs.bytes.tsorvenk_packed_step.Tie as tie
 
@@ -81,10 +81,10 @@ returns-2 c =
     let f = k.before in
     let m = f.before in
     let a = (S m.before.before).args in
-    packed-known o.packed-step-by.result c.number_of_lem.ensures
+    packed_known o.packed-step-by.result c.number_of_lem.ensures
     (same_coding q.coding-of.ensures m.Mode-of.ensures f.form_of.ensures) (same_keeping k.keeps-of.ensures f.form_of.ensures)
     (same_call m.Mode-of.ensures f.form_of.ensures refl)
-    (same-choices a.flips.now a.perms.now t.taken.ensures m.Mode-of.ensures) (known m.before) o.packed-step-by.ensures
+    (same_choices a.flips.now a.perms.now t.taken.ensures m.Mode-of.ensures) (known m.before) o.packed-step-by.ensures
 
 pub tsorvenk-packed-step-spec : {M : Type 1} → statement M
 tsorvenk-packed-step-spec =

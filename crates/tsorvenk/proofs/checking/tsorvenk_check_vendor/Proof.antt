@@ -2,7 +2,7 @@
 use mathlib.Core.Path.{refl}
 use lib.Ieee.{binary32, of_bits}
 use Rattle.paper.specs.Panel.Input.{Call}
-use Rattle.tsorvenk.proofs.Checked.{one, called, same-called, no_place, refused, denied, accepted}
+use Rattle.tsorvenk.proofs.Checked.{one, called, same_called, no_place, refused, denied, accepted}
 use borrow.Author.Rules.{rules}
 use Rattle.tsorvenk.proofs.checking.tsorvenk_check_vendor.Statement.{statement}
 use Rattle.tsorvenk.proofs.checking.tsorvenk_check_vendor.Tie as tie
@@ -27,7 +27,7 @@ roomless-requires c κs = search rules
 returns : tie.Need-returns
 returns c =
     let t = c.before in
-    same-called t.before.mode-at.ensures one (no_place _ _ _ _ _ _ refl t.if1.true c.roomless.ensures)
+    same_called t.before.mode-at.ensures one (no_place _ _ _ _ _ _ refl t.if1.true c.roomless.ensures)
 
 check-vendor-requires : tie.Need-check-vendor-requires
 check-vendor-requires c κs = search rules
@@ -51,7 +51,7 @@ returns-2 : tie.Need-returns-2
 returns-2 c =
     let v = c.before.before.before.before.before in
     let a = (S v).args in
-    same-called (E v).before.mode-at.ensures one
+    same_called (E v).before.mode-at.ensures one
     (refused (C v) a.before.now a.after.now a.rows.now a.fault.now _ (E v).if1.false
     c.before.k.given.0.0 c.before.k.given.1 v.check-vendor.ensures)
 
@@ -65,7 +65,7 @@ returns-3 : tie.Need-returns-3
 returns-3 c =
     let v = c.before.before.before.before.before in
     let a = (S v).args in
-    same-called (E v).before.mode-at.ensures one
+    same_called (E v).before.mode-at.ensures one
     (denied (C v) a.before.now a.after.now a.rows.now a.fault.now _ (E v).if1.false
     c.before.r.given.0.0 c.before.r.given.1 v.check-vendor.ensures)
 
@@ -76,7 +76,7 @@ returns-4 : tie.Need-returns-4
 returns-4 c =
     let v = c.before.before.before.before in
     let a = (S v).args in
-    same-called (E v).before.mode-at.ensures one
+    same_called (E v).before.mode-at.ensures one
     (accepted (C v) a.before.now a.after.now a.rows.now a.fault.now _ (E v).if1.false
     c.enum_told.given.1 v.check-vendor.ensures)
 

@@ -2,9 +2,9 @@
 use borrow.Author.Rules.{rules}
 use Rattle.lemmas.specs.Tells.{passed, refused}
 use Rattle.tsorvenk.specs.Number.{Coded}
-use Rattle.tsorvenk.proofs.Told.{same_call_at, same-choices}
+use Rattle.tsorvenk.proofs.Told.{same_call_at, same_choices}
 use Rattle.tsorvenk.proofs.Checked.{one}
-use Rattle.tsorvenk.proofs.Tasks.{choose-unknown, choose-known}
+use Rattle.tsorvenk.proofs.Tasks.{choose_unknown, choose_known}
 use Rattle.tsorvenk.proofs.stepping.tsorvenk_task_choose.Statement.{statement}
 use Rattle.tsorvenk.proofs.stepping.tsorvenk_task_choose.Tie as tie
 
@@ -18,7 +18,7 @@ codes-ok-requires : tie.Need-codes-ok-requires
 codes-ok-requires c κs = search rules
 
 returns : tie.Need-returns
-returns c = choose-unknown (refused c.before.codes-ok.result c.if1.true c.before.codes-ok.ensures)
+returns c = choose_unknown (refused c.before.codes-ok.result c.if1.true c.before.codes-ok.ensures)
 
 mode-of-requires : tie.Need-mode-of-requires
 mode-of-requires c κs = (known c).mode_known
@@ -42,8 +42,8 @@ returns-2 c =
     let f = t.before in
     let m = f.before in
     let a = (S m.before.before).args in
-    choose-known (same_call_at m.Mode-of.ensures f.form_of.ensures one)
-    (same-choices a.flips.now a.perms.now t.taken.ensures m.Mode-of.ensures) (known m.before) o.task-choose.ensures
+    choose_known (same_call_at m.Mode-of.ensures f.form_of.ensures one)
+    (same_choices a.flips.now a.perms.now t.taken.ensures m.Mode-of.ensures) (known m.before) o.task-choose.ensures
 
 pub tsorvenk-task-choose-spec : {M : Type 1} → statement M
 tsorvenk-task-choose-spec =

@@ -3,8 +3,8 @@ use borrow.Author.Rules.{rules}
 use mathlib.Core.Path.{refl}
 use Rattle.lemmas.specs.Tells.{passed, refused}
 use Rattle.tsorvenk.specs.Number.{Coded}
-use Rattle.tsorvenk.proofs.Told.{same_call, same-choices}
-use Rattle.tsorvenk.proofs.Tasks.{label-unknown, label-known}
+use Rattle.tsorvenk.proofs.Told.{same_call, same_choices}
+use Rattle.tsorvenk.proofs.Tasks.{label_unknown, label_known}
 use Rattle.tsorvenk.proofs.stepping.tsorvenk_task_label.Statement.{statement}
 use Rattle.tsorvenk.proofs.stepping.tsorvenk_task_label.Tie as tie
 
@@ -18,7 +18,7 @@ codes-ok-requires : tie.Need-codes-ok-requires
 codes-ok-requires c κs = search rules
 
 returns : tie.Need-returns
-returns c = label-unknown (refused c.before.codes-ok.result c.if1.true c.before.codes-ok.ensures)
+returns c = label_unknown (refused c.before.codes-ok.result c.if1.true c.before.codes-ok.ensures)
 
 mode-of-requires : tie.Need-mode-of-requires
 mode-of-requires c κs = (known c).mode_known
@@ -66,8 +66,8 @@ returns-2 c =
     let f = t.before in
     let m = f.before in
     let a = (S m.before.before).args in
-    label-known o.task-label.result c.number_of_lem.ensures (same_call m.Mode-of.ensures f.form_of.ensures refl)
-    (same-choices a.flips.now a.perms.now t.taken.ensures m.Mode-of.ensures) (known m.before) o.task-label.ensures
+    label_known o.task-label.result c.number_of_lem.ensures (same_call m.Mode-of.ensures f.form_of.ensures refl)
+    (same_choices a.flips.now a.perms.now t.taken.ensures m.Mode-of.ensures) (known m.before) o.task-label.ensures
 
 pub tsorvenk-task-label-spec : {M : Type 1} → statement M
 tsorvenk-task-label-spec =

@@ -3,7 +3,7 @@ use borrow.Author.Rules.{rules}
 use Rattle.lemmas.specs.Tells.{passed, refused}
 use Rattle.tsorvenk.specs.Number.{Coded}
 use Rattle.tsorvenk.proofs.Told.{same_keeping}
-use Rattle.tsorvenk.proofs.Tasks.{same_shape, write-unknown, write_known}
+use Rattle.tsorvenk.proofs.Tasks.{same_shape, write_unknown, write_known}
 use Rattle.tsorvenk.proofs.stepping.tsorvenk_task_write.Statement.{statement}
 use Rattle.tsorvenk.proofs.stepping.tsorvenk_task_write.Tie as tie
 
@@ -17,7 +17,7 @@ codes-ok-requires : tie.Need-codes-ok-requires
 codes-ok-requires c κs = search rules
 
 returns : tie.Need-returns
-returns c = write-unknown (refused c.before.codes-ok.result c.if1.true c.before.codes-ok.ensures)
+returns c = write_unknown (refused c.before.codes-ok.result c.if1.true c.before.codes-ok.ensures)
 
 mode-of-requires : tie.Need-mode-of-requires
 mode-of-requires c κs = (known c).mode_known

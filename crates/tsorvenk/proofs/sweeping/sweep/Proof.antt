@@ -14,7 +14,7 @@ use Rattle.coded.specs.Takes.{numbers_by}
 use Rattle.tsorvenk.specs.Number.{Coded, mode_of, form_of, coding_of, keeps_of, taken_of}
 use Rattle.tsorvenk.specs.Sweep.{plan_for}
 use Rattle.tsorvenk.proofs.Told.{same_coding, same_keeping}
-use Rattle.tsorvenk.proofs.Swept.{same_sweep, uncoded-sweep, roomless_sweep, coded-sweep}
+use Rattle.tsorvenk.proofs.Swept.{same_sweep, uncoded_sweep, roomless_sweep, coded_sweep}
 use Rattle.tsorvenk.proofs.sweeping.sweep.Statement.{statement}
 use Rattle.tsorvenk.proofs.sweeping.sweep.Tie as tie
 
@@ -65,7 +65,7 @@ codes-ok-requires : tie.Need-codes-ok-requires
 codes-ok-requires c κs = search rules
 
 returns : tie.Need-returns
-returns c = uncoded-sweep (refused c.before.codes-ok.result c.if1.true c.before.codes-ok.ensures)
+returns c = uncoded_sweep (refused c.before.codes-ok.result c.if1.true c.before.codes-ok.ensures)
 
 mode-of-requires : tie.Need-mode-of-requires
 mode-of-requires c κs = (known c).mode_known
@@ -139,7 +139,7 @@ returns-3 c =
     let g = e.before in
     let f = g.before in
     let a = (F f).args in
-    coded-sweep (made f) (meant f) (B (F f)) a.totals.now a.outcomes.now t.tell.result _ _ o.overlap-update-by.result _ _ _
+    coded_sweep (made f) (meant f) (B (F f)) a.totals.now a.outcomes.now t.tell.result _ _ o.overlap-update-by.result _ _ _
     (known f.before.before.before) (spelled g) (same_keeping f.keeps-of.ensures f.before.form_of.ensures) (same f) e.if2.false
     (rw k.taken.ensures at o.overlap-update-by.ensures) t.tell.ensures
 

@@ -11,7 +11,7 @@ use Rattle.paper.specs.Answer.Team.{Team}
 use Rattle.systems.specs.Owners.{team_of}
 use Rattle.tsorvenk.specs.Number.{mode_of, form_of, keeps_of, taken_of}
 use Rattle.tsorvenk.specs.Sweep.{plan_for}
-use Rattle.tsorvenk.proofs.Teams.{owner_refused, owner_told, order-inside, sweep-read}
+use Rattle.tsorvenk.proofs.Teams.{owner_refused, owner_told, order_inside, sweep_read}
 use Rattle.tsorvenk.proofs.sweeping.tsorvenk_sweep.Statement.{statement}
 use Rattle.tsorvenk.proofs.sweeping.tsorvenk_sweep.Tie as tie
 
@@ -50,11 +50,11 @@ read-order-requires : tie.Need-read-order-requires
 read-order-requires c κs = length-replicate {A = ℕ} 64 0
 
 array-share-prefix-named : tie.Need-array-share-prefix-named
-array-share-prefix-named c = order-inside (length-replicate {A = ℕ} 64 0) c.before.before.before.read-order.ensures
+array-share-prefix-named c = order_inside (length-replicate {A = ℕ} 64 0) c.before.before.before.read-order.ensures
 
 slice-aggregate-sweep : tie.Need-slice-aggregate-sweep
 slice-aggregate-sweep c =
-    sym (length-take-le _ _ (order-inside (length-replicate {A = ℕ} 64 0) c.before.before.before.before.read-order.ensures))
+    sym (length-take-le _ _ (order_inside (length-replicate {A = ℕ} 64 0) c.before.before.before.before.read-order.ensures))
 
 sweep-requires : tie.Need-sweep-requires
 sweep-requires c κs = search rules
@@ -99,7 +99,7 @@ returns-2 c =
     let s = S t in
     let a = s.args in
     owner_told (team s) a.s t.test-owners.result o.sweep.result e.if1.false t.test-owners.ensures
-    (sweep-read (team s) (W s) a.mode a.form a.coding a.keeps _ _ o.sweep.result n.own-count.result q.read-order.result _ _
+    (sweep_read (team s) (W s) a.mode a.form a.coding a.keeps _ _ o.sweep.result n.own-count.result q.read-order.result _ _
     (verdict_kept _ t.test-owners.result e.if1.false t.test-owners.ensures) n.own-count.ensures (length-replicate {A = ℕ} 64 0)
     q.read-order.ensures o.sweep.ensures)
 

@@ -4,7 +4,7 @@ use Rattle.lemmas.specs.Tells.{passed, refused}
 use Rattle.tsorvenk.specs.Number.{Coded, keeps_of}
 use Rattle.tsorvenk.proofs.Told.{same_keeping}
 use Rattle.tsorvenk.proofs.Swept.{same_sweep}
-use Rattle.tsorvenk.proofs.Tasks.{test-unknown, test_known}
+use Rattle.tsorvenk.proofs.Tasks.{test_unknown, test_known}
 use Rattle.tsorvenk.proofs.testing.test.Statement.{statement}
 use Rattle.tsorvenk.proofs.testing.test.Tie as tie
 
@@ -21,7 +21,7 @@ codes-ok-requires : tie.Need-codes-ok-requires
 codes-ok-requires c κs = search rules
 
 returns : tie.Need-returns
-returns c = test-unknown (refused c.before.codes-ok.result c.if1.true c.before.codes-ok.ensures)
+returns c = test_unknown (refused c.before.codes-ok.result c.if1.true c.before.codes-ok.ensures)
 
 mode-of-requires : tie.Need-mode-of-requires
 mode-of-requires c κs = (known c).mode_known

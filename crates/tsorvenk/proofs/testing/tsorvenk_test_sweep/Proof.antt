@@ -13,7 +13,7 @@ use Rattle.paper.specs.Answer.Team.{Team}
 use Rattle.systems.specs.Owners.{team_of}
 use Rattle.tsorvenk.specs.Number.{mode_of, form_of, keeps_of, taken_of}
 use Rattle.tsorvenk.specs.Sweep.{plan_for}
-use Rattle.tsorvenk.proofs.Teams.{owner_refused, owner_told, order-inside}
+use Rattle.tsorvenk.proofs.Teams.{owner_refused, owner_told, order_inside}
 use Rattle.tsorvenk.proofs.Tasks.{test_read}
 use Rattle.tsorvenk.proofs.testing.tsorvenk_test_sweep.Statement.{statement}
 use Rattle.tsorvenk.proofs.testing.tsorvenk_test_sweep.Tie as tie
@@ -59,10 +59,10 @@ read-order-requires : tie.Need-read-order-requires
 read-order-requires c κs = length-replicate {A = ℕ} 64 0
 
 array-share-prefix-named : tie.Need-array-share-prefix-named
-array-share-prefix-named c = order-inside (length-replicate {A = ℕ} 64 0) c.before.read-order.ensures
+array-share-prefix-named c = order_inside (length-replicate {A = ℕ} 64 0) c.before.read-order.ensures
 
 slice-aggregate-test : tie.Need-slice-aggregate-test
-slice-aggregate-test c = sym (length-take-le _ _ (order-inside (length-replicate {A = ℕ} 64 0) c.before.before.read-order.ensures))
+slice-aggregate-test c = sym (length-take-le _ _ (order_inside (length-replicate {A = ℕ} 64 0) c.before.before.read-order.ensures))
 
 test-requires : tie.Need-test-requires
 test-requires c κs = search rules

@@ -2,7 +2,7 @@
 use Prim.Native.Nat.{◌*◌, ◌≤◌}
 use native.Mathlib.Omega.{arith}
 use native.Mathlib.Nat.{mul-le-mul}
-use Rattle.vendor.proofs.Tests.{fitting-tells}
+use Rattle.vendor.proofs.Tests.{fitting_tells}
 use Rattle.vendor.proofs.tested.fitting.Statement.{statement}
 use Rattle.vendor.proofs.tested.fitting.Tie as tie
 
@@ -25,7 +25,7 @@ mul-result : tie.Need-overflow-mul-result
 mul-result c = omega (arith, rows c.before.before.before.before.before)
 
 returns : tie.Need-returns
-returns c = let a = c.before.before.before.before.before.before.args in fitting-tells a.n a.d a.size a.l
+returns c = let a = c.before.before.before.before.before.before.args in fitting_tells a.n a.d a.size a.l
 
 pub fitting-spec : {M : Type 1} → statement M
 fitting-spec = tie.close (tie.spec mul-spins mul-bonds mul-result returns)
