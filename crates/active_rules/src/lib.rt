@@ -1,11 +1,13 @@
 // The published names of the rules, as modes.
+#![tactic(auto)]
+
 ghost use Rattle.std.specs.Prelude.{◌≡◌};
 ghost use Rattle.active_rules.specs.Rule.{mode_of};
 
 use paper::Mode;
 
 // The rules that need no drawn bond, under their published names.
-#[derive(Drop)]
+#[derive(Clone, Copy)]
 pub enum ActiveRule {
     Balanced,
     Pairwise,

@@ -1,4 +1,6 @@
 // Which bonds hold, as a byte a bond: entry i*d+e is 1 where the bond (i, e) holds, and else 0.
+#![tactic(auto)]
+
 ghost use Rattle.std.specs.Prelude.{◌≡◌, ◌*◌, ◌≤◌, ◌<◌, length, ◌&&◌, eqb, nat_abs, ◌*ℤ◌};
 ghost use Rattle.lemmas.specs.Ints.{eq_z};
 ghost use Rattle.lemmas.specs.Sums.{sum};

@@ -1,4 +1,6 @@
 // The choose step of a move: each site's new column, from the labels, the pins and the lent choices.
+#![tactic(auto)]
+
 ghost use Rattle.std.specs.Prelude.{◌≡◌, true, cond, ◌&&◌, ◌<◌, eqb, leb, length, get_or};
 ghost use Rattle.paper.specs.Panel.Takes.{is_sw, one_cluster, grows_by, entry};
 ghost use Rattle.paper.specs.Component.Sizes.{Sized};

@@ -1,4 +1,6 @@
 // Moves and sweeps whose permutations may be numbers into the table of the orders of five. Below this crate there are rows alone.
+#![tactic(auto)]
+
 mod bytes;
 mod numbers;
 
@@ -16,7 +18,7 @@ ghost use Rattle.coded.specs.Sweep.{SweepCodedAnswers};
 use paper::{Answer, Form, Mode, Plan, SweepAnswer, Task};
 
 // How choices spell a permutation: byte by byte, or as its number.
-#[derive(Drop)]
+#[derive(Clone, Copy)]
 pub enum Coding {
     Rows,
     Numbers,

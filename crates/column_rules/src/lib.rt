@@ -1,4 +1,6 @@
 // Which columns act, and what a flip makes of one: worked out on the bits, and in tables for every column.
+#![tactic(auto)]
+
 ghost use Rattle.std.specs.Prelude.{◌≡◌, cond, ◌/◌, ◌%◌, ◌^◌, ◌≤◌, ltb, pos, length};
 ghost use Rattle.lemmas.specs.Ints.{eq_z};
 ghost use Rattle.lemmas.specs.Sums.{sum};

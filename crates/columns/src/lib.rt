@@ -1,4 +1,6 @@
 // A site's whole group as one byte, its column.
+#![tactic(auto)]
+
 ghost use Rattle.std.specs.Prelude.{◌≡◌, ◌*◌, ◌≤◌, ◌<◌, length, get_or, pos, neg_ℤ};
 ghost use Rattle.lemmas.specs.Counts.{bit};
 ghost use Rattle.paper.specs.Panel.Input.{spin, pattern_of};

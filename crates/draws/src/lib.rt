@@ -1,4 +1,6 @@
 // Draws that can be repeated: xoshiro256** of Blackman and Vigna. A source is handed in and handed back, by value.
+#![tactic(auto)]
+
 pub mod fills;
 mod passes;
 mod rows;
@@ -9,7 +11,7 @@ ghost use Rattle.draws.specs.Draw.{limit, flipped, tried, within, refused, Toppe
 ghost use Rattle.draws.specs.Rows.{permutation_of};
 
 // The four words of the state; not all of them may be 0.
-#[derive(Drop)]
+#[derive(Clone, Copy)]
 pub struct Source {
     pub s0: u64,
     pub s1: u64,
@@ -18,7 +20,7 @@ pub struct Source {
 }
 
 // A refusal, or 0 with the value and the source that it leaves. Refused, the value is 0 and the source as lent.
-#[derive(Drop)]
+#[derive(Clone, Copy)]
 pub struct Drawn {
     pub refusal: u8,
     pub value: u64,
@@ -26,7 +28,7 @@ pub struct Drawn {
 }
 
 // The same of a permutation; entries past its length are 0.
-#[derive(Drop)]
+#[derive(Clone, Copy)]
 pub struct Row {
     pub refusal: u8,
     pub row: [u8; 8],
@@ -34,7 +36,7 @@ pub struct Row {
 }
 
 // The same where the value goes into a lent buffer.
-#[derive(Drop)]
+#[derive(Clone, Copy)]
 pub struct Left {
     pub refusal: u8,
     pub source: Source,

@@ -8,7 +8,7 @@ ghost use Rattle.edge_text.specs.Reading.{Counts, HasMinus, plus_code, minus_cod
 use super::{Line, Number};
 
 // Digits: their value, kept small, and the place behind them.
-#[derive(Drop)]
+#[derive(Clone, Copy)]
 pub struct Run {
     pub value: usize,
     pub end: usize,

@@ -1,4 +1,6 @@
 // Couplings from an edge list, and an edge list from couplings.
+#![tactic(auto)]
+
 mod fill;
 mod list;
 
@@ -8,7 +10,7 @@ ghost use Rattle.edges.specs.Answer.{ExactLengths, net_of, ReadAnswers, WriteAns
 use edge_text::writing::{head_length, put_head};
 
 // What becomes of a list: refused, or so many bytes are written.
-#[derive(Drop)]
+#[derive(Clone, Copy)]
 pub enum Listing {
     Unlisted(u8),
     Wrote(usize),

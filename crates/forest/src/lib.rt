@@ -1,4 +1,6 @@
 // Union-find in the lent labels: the ends of every bond that holds are joined, and the components numbered in the order of their smallest sites.
+#![tactic(auto)]
+
 ghost use Rattle.std.specs.Prelude.{◌≡◌, ◌≤◌, ◌<◌, length, cond};
 ghost use Rattle.lemmas.specs.Counts.{bit};
 ghost use Rattle.paper.specs.Component.Marks.{marked};

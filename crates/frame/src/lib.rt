@@ -1,4 +1,6 @@
 // The frame program: reads a text's lines, runs the move that they say and writes the answer's lines.
+#![tactic(auto)]
+
 mod panel;
 
 ghost use Rattle.std.specs.Prelude.{length};

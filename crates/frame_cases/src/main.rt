@@ -1,11 +1,13 @@
 // Runs each text of standard input through frame::run and compares its answer with the one stored behind it, and writes how many agree and
 // how many do not. A case is two numbers of five decimal digits, the lengths of the text and of its answer, on a line of their own; then both.
+#![tactic(auto)]
+
 ghost use Rattle.std.specs.Prelude.{◌≤◌};
 
 use frame_lines::Written;
 use libc::{STDIN_FILENO, STDOUT_FILENO};
 
-#[derive(Drop)]
+#[derive(Clone, Copy)]
 enum Verdict {
     Ended,
     Agrees,

@@ -1,4 +1,6 @@
 // The lines of frames: read into numbers, and written from them.
+#![tactic(auto)]
+
 mod fill;
 mod lines;
 mod put;
@@ -14,7 +16,7 @@ use put::{put_spins, put_words};
 use scan::scan;
 
 // The sizes that the first line says.
-#[derive(Drop)]
+#[derive(Clone, Copy)]
 pub struct Sizes {
     pub n: usize,
     pub d: usize,
@@ -22,28 +24,28 @@ pub struct Sizes {
 }
 
 // What a text is: refused with a number, or a panel of these sizes.
-#[derive(Drop)]
+#[derive(Clone, Copy)]
 pub enum Found {
     Fault(u8),
     Panel(Sizes),
 }
 
 // With the group, which a refused text has not: then it is empty.
-#[derive(Drop)]
+#[derive(Clone, Copy)]
 pub struct Frames {
     pub found: Found,
     pub group: Group,
 }
 
 // So many bytes are written; or there is no room for the answer, and nothing is written.
-#[derive(Drop)]
+#[derive(Clone, Copy)]
 pub enum Written {
     Wrote(usize),
     NoRoom,
 }
 
 // Where the lines of a text that is spelt well begin.
-#[derive(Drop)]
+#[derive(Clone, Copy)]
 struct Places {
     sizes: Sizes,
     len: usize,
@@ -53,20 +55,20 @@ struct Places {
     perms: usize,
 }
 
-#[derive(Drop)]
+#[derive(Clone, Copy)]
 enum Scanned {
     Wrong(u8),
     Whole(Places),
 }
 
 // A line at a place of the text: no frame of the tag asked for, or one of so many bytes behind the tag, and where the next begins.
-#[derive(Drop)]
+#[derive(Clone, Copy)]
 enum Line {
     Bad,
     Good(usize, usize),
 }
 
-#[derive(Drop)]
+#[derive(Clone, Copy)]
 enum Next {
     Nowhere,
     At(usize),

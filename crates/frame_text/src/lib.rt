@@ -1,4 +1,6 @@
 // The characters of a text of frames: where digits end, and how much of a long text decides its answer.
+#![tactic(auto)]
+
 ghost use Rattle.std.specs.Prelude.{◌≤◌, length};
 ghost use Rattle.lemmas.specs.Tells.{Tells};
 ghost use Rattle.frame_text.specs.Digits.{Letter, Digit};
@@ -6,7 +8,7 @@ ghost use Rattle.frame_text.specs.Line.{DigitsEnd, LineStart};
 ghost use Rattle.frame_text.specs.Cut.{CutAs};
 
 // What stands for the text: so many bytes from the buffer's front, whatever follows them; or these and what follows.
-#[derive(Drop)]
+#[derive(Clone, Copy)]
 pub enum Part {
     Enough(usize),
     More(usize),

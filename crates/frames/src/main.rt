@@ -1,4 +1,6 @@
 // Reads the frames on standard input, runs their move and writes the answer's frames to standard output.
+#![tactic(auto)]
+
 use frame_lines::Written;
 use frame_text::Part;
 use libc::{STDIN_FILENO, STDOUT_FILENO};

@@ -13,7 +13,7 @@ use lemmas::wide;
 use paper::Task;
 
 // A bond: the site that it starts at, and its direction.
-#[derive(Drop)]
+#[derive(Clone, Copy)]
 struct Bond(usize, usize);
 
 // A bond is met at one end, which has the column `own`; `found` is its other end, which is not marked. If it holds, that site is marked and listed, and
@@ -156,7 +156,7 @@ fn spread(
 }
 
 // How many sites of the list the bonds join to the seed, in CMR the blue ones; and how many members there are.
-#[derive(Drop)]
+#[derive(Clone, Copy)]
 pub(crate) struct Grown {
     pub(crate) blue: usize,
     pub(crate) len: usize,

@@ -1,4 +1,6 @@
 // One task of the form that grows: its cluster is found, and then chosen and written.
+#![tactic(auto)]
+
 ghost use Rattle.std.specs.Prelude.{length};
 ghost use Rattle.paper.specs.Panel.Made.{lattice_of, call_of, choices_of};
 ghost use Rattle.paper.specs.Panel.Takes.{keeps_by};
@@ -20,7 +22,7 @@ use write::write_cluster;
 
 // What finding a cluster comes to: what the move answers, how many sites of the list the bonds join to the seed, in CMR the blue ones, and how many
 // members there are.
-#[derive(Drop)]
+#[derive(Clone, Copy)]
 pub struct Found {
     pub answer: Answer,
     pub blue: usize,

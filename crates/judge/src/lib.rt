@@ -1,4 +1,6 @@
 // One bond, judged when it is asked: no table of all bonds is made.
+#![tactic(auto)]
+
 ghost use Rattle.std.specs.Prelude.{◌≡◌, ◌≤◌, nat_abs};
 ghost use Rattle.paper.specs.Panel.Takes.{is_cmr};
 ghost use Rattle.columns.specs.Column.{shown};
@@ -9,7 +11,7 @@ ghost use Rattle.judge.specs.Drawn.{drawn_by, judged_on};
 use paper::{Group, Mode, Sampler, Task};
 
 // What all bonds of one growth share. In CMR it asks for the blue bonds, and with `grey` for the blue and the red ones.
-#[derive(Drop)]
+#[derive(Clone, Copy)]
 pub struct Rule {
     pub task: Task,
     pub grey: bool,

@@ -1,4 +1,6 @@
 // Components of holding bonds: the number of each site's component, how many components there are in all and of each size, and the four largest sizes.
+#![tactic(auto)]
+
 ghost use Rattle.std.specs.Prelude.{◌≤◌, length};
 ghost use Rattle.lemmas.specs.Tells.{Tells};
 ghost use Rattle.label.specs.Contract.{LabelLent, Seen};
@@ -67,7 +69,7 @@ fn label_and_count(
 }
 
 // A refusal with its number, or all is written.
-#[derive(Drop)]
+#[derive(Clone, Copy)]
 pub enum Labelling {
     Unlabelled(u8),
     Written,

@@ -1,5 +1,7 @@
 // Runs `components` against a labelling that shares nothing with it, on pseudo-random tables and on the shapes that make a labelling work hardest,
 // and writes how many runs agree and how many do not.
+#![tactic(auto)]
+
 mod referee;
 mod tables;
 
@@ -12,7 +14,7 @@ use std::num::wrapping_add_u32;
 use tables::{Table, fill, fill_bytes};
 
 // The state of the draws, and the runs that agreed and that did not.
-#[derive(Drop)]
+#[derive(Clone, Copy)]
 struct Runs {
     seed: u64,
     good: u32,

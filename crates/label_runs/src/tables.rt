@@ -1,7 +1,7 @@
 // The tables that the runs are made on. A table has d bonds a site; where a shape has no bond, it leads to the site itself and does not hold.
 use super::referee::put;
 
-#[derive(Drop)]
+#[derive(Clone, Copy)]
 pub(crate) enum Table {
     // Ends anywhere; so many bonds of eight hold.
     Drawn(u32),

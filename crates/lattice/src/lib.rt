@@ -1,4 +1,6 @@
 // The tests on inputs, each true exactly when its rule in crates/paper/specs/Refusal/Rules.antt is kept. Test 4 is of `neighbours`.
+#![tactic(auto)]
+
 ghost use Rattle.std.specs.Prelude.{◌≡◌, ℕ, ◌+◌, ◌-◌, ◌*◌, ◌^◌, ◌≤◌, ◌<◌, length, get_or, nat_abs};
 ghost use Rattle.std.specs.Int.Bits.{bit_or};
 ghost use Rattle.std.specs.Float.{nan};

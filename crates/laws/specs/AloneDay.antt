@@ -5,7 +5,7 @@ use Rattle.std.proofs.lemmas.Bool.{eqb-false}
 use Rattle.lemmas.specs.Bools.{never}
 use Rattle.lemmas.specs.Cells.{tabulate, length_tabulate, tabulate_at}
 use Rattle.paper.specs.declared.Answer.{Answer}
-use Rattle.paper.specs.declared.Answer.TheVariants.{Idle, Held, Moved}
+use Rattle.paper.specs.declared.Answer.TheVariants.{Idle, Held, Moved, Refused}
 use Rattle.paper.specs.declared.SweepAnswer.{SweepAnswer}
 use Rattle.paper.specs.declared.SweepAnswer.TheVariants.{Fault, Swept}
 use Rattle.paper.specs.Panel.Input.{Lattice, Call, Choices, Buffers}
@@ -60,6 +60,7 @@ accepted_answers :
 accepted_answers keeping c p d us Idle z us' idle f = f
 accepted_answers keeping c p d us Held z us' held f = f
 accepted_answers keeping c p d us Moved z us' moved f = f
+accepted_answers keeping c p d us (Refused _) z us' x3 f = elim x3 [ ]
 
 call_there :
     (mine : ℕ → Bool) (c : Call) (only : NamesOnly mine c) (keeping : Bool) (p : Choices) (b d : Buffers) (ts us : List ℤ) (a : Answer) (y : Buffers)

@@ -3,7 +3,7 @@ use Rattle.std.specs.Prelude.{ℕ, ◌<◌, ◌≡◌, refl, Bool, true, false, 
 use Rattle.std.proofs.Common.{sym, ◌∙◌, ap, subst, arith}
 use Rattle.lemmas.specs.Bools.{and_right}
 use Rattle.paper.specs.declared.Answer.{Answer}
-use Rattle.paper.specs.declared.Answer.TheVariants.{Idle, Held, Moved}
+use Rattle.paper.specs.declared.Answer.TheVariants.{Idle, Held, Moved, Refused}
 use Rattle.paper.specs.Panel.Input.{graph, Call, Choices, Buffers, pattern, spin, size, system}
 use Rattle.paper.specs.Panel.Takes.{is_cmr, is_perm, grows_by, moves}
 use Rattle.paper.specs.Site.Acting.{acts, SomeActs}
@@ -240,3 +240,4 @@ module _
       turned = λ t. turned_there s v t (w.turned t) ys r;
       seen = seen_there s v w.seen ys;
     }
+    local (Refused _) x4 w ys r = elim x4 [ ]

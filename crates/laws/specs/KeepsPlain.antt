@@ -69,6 +69,7 @@ module _ (c : Call) (p : Choices) (b : Buffers) (ts : List ℤ) where
   totals_beside keeping Idle a' y z ts' idle f g = determined c p b y z Idle a' f.answers g
   totals_beside keeping Held a' y z ts' held f g = determined c p b y z Held a' f.answers g
   totals_beside keeping Moved a' y z ts' moved f g = determined c p b y z Moved a' f.answers g
+  totals_beside keeping (Refused _) a' y z ts' x4 f g = elim x4 [ ]
 
 -- ---- a sweep
 module _ (w : Sweep) (b : Buffers) (ts : List ℤ) where

@@ -156,6 +156,18 @@ module _
         TeamDay.first (TeamCalled.sweep (team_of owners k) w b b' a refl h.1 before after (rw h.0 at f)) rest
     called k (Request.meter l t) (Reply.metered a) h (Answered.meter f q) = reads_only q
     called k (Request.hand_over l) (Reply.handed r) h (Answered.hand_over f q) = reads_only q
+    called k (Request.move keeping c p) (Reply.swept a) h x4 = elim x4 [ ]
+    called k (Request.move keeping c p) (Reply.metered a) h x5 = elim x5 [ ]
+    called k (Request.move keeping c p) (Reply.handed r) h x6 = elim x6 [ ]
+    called k (Request.sweep keeping w) (Reply.moved a) h x4 = elim x4 [ ]
+    called k (Request.sweep keeping w) (Reply.metered a) h x5 = elim x5 [ ]
+    called k (Request.sweep keeping w) (Reply.handed r) h x6 = elim x6 [ ]
+    called k (Request.meter l t) (Reply.moved a) h x5 = elim x5 [ ]
+    called k (Request.meter l t) (Reply.swept a) h x6 = elim x6 [ ]
+    called k (Request.meter l t) (Reply.handed r) h x7 = elim x7 [ ]
+    called k (Request.hand_over l) (Reply.moved a) h x6 = elim x6 [ ]
+    called k (Request.hand_over l) (Reply.swept a) h x7 = elim x7 [ ]
+    called k (Request.hand_over l) (Reply.metered a) h x8 = elim x8 [ ]
 
 module _ {n s : ℕ} {owners : List ℕ} (g : Lattice) where
   abbrev pub KeepsAll : {xs ts ys us : List ℤ} → MixedDay n s owners xs ts ys us → Type 0

@@ -107,6 +107,7 @@ pub valid_by : (c : Call) (p : Choices) (b : Buffers) (a : Answer) (y : Buffers)
 valid_by c p b Idle y idle w = valid_of c p b w.valid
 valid_by c p b Held y held w = valid_of c p b w.valid
 valid_by c p b Moved y moved w = valid_of c p b w.valid
+valid_by c p b (Refused _) y x3 w = elim x3 [ ]
 
 pub spins_length :
     (c : Call) (p : Choices) (b : Buffers) (a : Answer) (y : Buffers)
@@ -116,6 +117,7 @@ pub spins_length :
 spins_length c p b Idle y idle w = ap length w.still
 spins_length c p b Held y held w = ap length w.still
 spins_length c p b Moved y moved w = (some_moves c p b y w).moved.long
+spins_length c p b (Refused _) y x3 w = elim x3 [ ]
 
 -- ---- a call and a test that all systems pass which it names, on two panels with the same rows of the systems that pass
 module _

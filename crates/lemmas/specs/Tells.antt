@@ -1,7 +1,7 @@
 -- How tests are put together, as the code puts its flags together.
 use Rattle.std.specs.Prelude.{ℕ, ◌+◌, ◌≤◌, ◌<◌, ◌≡◌, refl, ◌⊎◌, Bool, true, false, not, ◌&&◌, ◌||◌, ltb, leb, eqb}
 use Rattle.std.proofs.Common.{zero-le, sym, ◌∙◌, subst, inl, inr, ⊎_elim, below_none, below_more, ltb-true, ltb-false, leb-true, leb-false, eqb-true, le_antisymm, arith}
-use Rattle.std.proofs.lemmas.Bool.{eqb-false, not_true, not-false}
+use Rattle.std.proofs.lemmas.Bool.{eqb-false, not-true, not-false}
 use Rattle.lemmas.specs.Bools.{never}
 
 -- a test's Bool is true exactly when the claim holds
@@ -21,7 +21,7 @@ pub passed : (b : Bool) {P : Type 0} → not b ≡ false → Tells b P → P
 passed b e t = told (not-false b e) t
 
 pub refused : (b : Bool) {P : Type 0} → not b ≡ true → Tells b P → P → ⊥
-refused b e t = denied (not_true b e) t
+refused b e t = denied (not-true b e) t
 
 -- `Tells` as a record, from which the flag and the claim can be read off
 pub record Test (b : Bool) (P : Type 0) : Type 0 where

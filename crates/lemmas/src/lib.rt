@@ -1,4 +1,6 @@
 // What knows nothing of the paper: laws, which are in specs/, read in the order of specs/Lib.antt, and the functions that every crate would have.
+#![tactic(auto)]
+
 ghost use Rattle.std.specs.Prelude.{◌≡◌};
 
 pub mod bytes;

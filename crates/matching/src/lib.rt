@@ -1,4 +1,6 @@
 // The smallest permutation that turns the bytes before into those after, for each component of a panel.
+#![tactic(auto)]
+
 ghost use Rattle.std.specs.Prelude.{◌≡◌, ◌%◌, ◌≤◌, ◌<◌, length};
 ghost use Rattle.lemmas.specs.Stores.{Whole};
 ghost use Rattle.packing.specs.Answer.{Members};

@@ -1,4 +1,6 @@
 // The energy meter, and the hand-over of totals that are held against it.
+#![tactic(auto)]
+
 ghost use Rattle.std.specs.Prelude.{◌≡◌, [], ◌*ℤ◌};
 ghost use Rattle.lemmas.specs.Tells.{Tells};
 ghost use Rattle.paper.specs.Refusal.Rules.{When, Sizes};

@@ -1,7 +1,7 @@
 -- The second half of the label step: the sizes without the held components tell whether the seed's is held, and so the answer.
 use Rattle.std.specs.Prelude.{ℕ, ◌<◌, ◌≡◌, refl, Bool, true, false, not, cond, ◌&&◌, List, eqb, get_or}
 use Rattle.std.proofs.Common.{sym, ◌∙◌, ap, arith, ne_eqb}
-use Rattle.std.proofs.lemmas.Bool.{not_true, not-false}
+use Rattle.std.proofs.lemmas.Bool.{not-true, not-false}
 use Rattle.lemmas.specs.Bools.{never}
 use Rattle.paper.specs.declared.Form.{Form}
 use Rattle.paper.specs.declared.Form.TheVariants.{Sw, Wolff, Observe, Grow}
@@ -85,7 +85,7 @@ module _
 
     -- ---- where no site acts, and where the form moves nothing
     pub free_idle : {some : Bool} → not some ≡ true → FreeLeaves t some fwd pins grey labels grey_labels grey_found tally grey_labels greyTally grey_found Idle
-    free_idle {some} e = rw (not_true some e) (record {
+    free_idle {some} e = rw (not-true some e) (record {
       answer = refl;
       freed = λ q _. never q;
       greys = record { labels = λ q. never q; freed = λ q. never q; kept = λ _. refl; found_kept = λ _. refl };

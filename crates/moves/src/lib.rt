@@ -1,4 +1,6 @@
 // The work of one task of a form that labels, on the columns of its group, once its input is tested: its label step, its choose step, and the two as one.
+#![tactic(auto)]
+
 ghost use Rattle.std.specs.Prelude.{◌≡◌, true, cond, ◌&&◌, eqb, get_or};
 ghost use Rattle.paper.specs.declared.Answer.TheVariants.{Held, Moved};
 ghost use Rattle.paper.specs.Panel.Takes.{is_cmr, one_cluster};

@@ -1,5 +1,7 @@
 // The tables of neighbours: test 4, which is true exactly when `Inverse` in crates/paper/specs/Refusal/Rules.antt is kept, and the backward table from
 // the forward one.
+#![tactic(auto)]
+
 ghost use Rattle.std.specs.Prelude.{◌+◌, ◌*◌};
 ghost use Rattle.lemmas.specs.Tells.{Tells, Each};
 ghost use Rattle.paper.specs.Refusal.Rules.{Back, Inverse};

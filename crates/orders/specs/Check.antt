@@ -2,7 +2,7 @@
 use Rattle.std.specs.Prelude.{ℕ, zero, suc, ◌+◌, ◌<◌, ◌≡◌, refl, Bool, true, false, not, ◌&&◌, ◌||◌, List, ltb, eqb, length}
 use Rattle.std.proofs.Math.Decide.{ℕ_discrete}
 use Rattle.std.proofs.Common.{arith, ltb-true, eqb-true}
-use Rattle.std.proofs.lemmas.Bool.{eqb-false, not_true}
+use Rattle.std.proofs.lemmas.Bool.{eqb-false, not-true}
 use Rattle.lemmas.specs.Bools.{never, and_left, and_right, every, every_is, below_test, below_by}
 use Rattle.paper.specs.Refusal.Rules.{Permutes}
 use Rattle.orders.specs.Table.{row_in, Ruled, orders}
@@ -28,7 +28,7 @@ permutes_by p e = record {
   where
     apart : (a b : ℕ) → p a ≡ p b → (t : Bool) → eqb a b ≡ t → (t || not (eqb (p a) (p b))) ≡ true → a ≡ b
     apart a b h true w o = eqb-true a b w
-    apart a b h false w o = absurd (eqb-false (p a) (p b) (not_true (eqb (p a) (p b)) o) h)
+    apart a b h false w o = absurd (eqb-false (p a) (p b) (not-true (eqb (p a) (p b)) o) h)
 
 before_by : (n i : ℕ) (p q : ℕ → ℕ) → i + n ≡ 5 → Agree i p q → before_test n i p q ≡ true → Before 5 p q
 unfolding before_test

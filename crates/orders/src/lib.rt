@@ -1,4 +1,6 @@
 // A permutation of five as one number: its row's place in a table of all 120, ascending as words.
+#![tactic(auto)]
+
 ghost use Rattle.std.specs.Prelude.{◌≡◌, ltb, get_or};
 ghost use Rattle.lemmas.specs.Counts.{bit};
 ghost use Rattle.orders.specs.Table.{orders, row};
@@ -6,7 +8,7 @@ ghost use Rattle.orders.specs.Rank.{rank};
 ghost use Rattle.orders.specs.Answers.{Place, PlaceIn, Five, Behind, Later, RowAnswers, NumberAnswers};
 
 // The number of a row, or the refusal.
-#[derive(Drop)]
+#[derive(Clone, Copy)]
 pub enum Numbered {
     Refused(u8),
     Number(u8),

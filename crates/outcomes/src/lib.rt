@@ -1,4 +1,6 @@
 // What the tasks of a sweep came to: counted one by one, and told.
+#![tactic(auto)]
+
 ghost use Rattle.std.specs.Prelude.{◌≡◌};
 ghost use Rattle.paper.specs.declared.SweepAnswer.TheVariants.{Swept};
 ghost use Rattle.outcomes.specs.Adding.{Growable, Added};
@@ -6,7 +8,7 @@ ghost use Rattle.outcomes.specs.Adding.{Growable, Added};
 use paper::{Answer, SweepAnswer};
 
 // How many tasks were idle so far, how many moved, and how many were held.
-#[derive(Drop)]
+#[derive(Clone, Copy)]
 pub struct Outcomes {
     pub idle: u32,
     pub moved: u32,

@@ -1,4 +1,6 @@
 // The move that trusts no caller: the tests, then the task.
+#![tactic(auto)]
+
 ghost use Rattle.paper.specs.Answer.Totals.{KeepAnswers};
 ghost use Rattle.paper.specs.Panel.Made.{call_of, choices_of, buffers_of};
 ghost use Rattle.paper.specs.Panel.Takes.{keeps_by};

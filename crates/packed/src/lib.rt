@@ -1,4 +1,6 @@
 // Moves and observations of one group on its bytes, one for each site: bit k is set where member k is +1.
+#![tactic(auto)]
+
 mod grown;
 mod tested;
 

@@ -1,4 +1,6 @@
 // One group's rows as a byte for each site: bit k is set where member k is +1.
+#![tactic(auto)]
+
 ghost use Rattle.std.specs.Prelude.{◌≡◌, ◌-◌, ◌^◌};
 ghost use Rattle.lemmas.specs.Tells.{Tells};
 ghost use Rattle.packing.specs.Bytes.{own_group};

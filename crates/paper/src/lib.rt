@@ -1,17 +1,19 @@
 // The types of document 01. Its definitions are in specs/, read in the order of specs/Lib.antt.
+#![tactic(auto)]
+
 ghost use Rattle.std.specs.Prelude.{◌≡◌};
 ghost use Rattle.paper.specs.Site.Bonds.{sampler_of};
 ghost use Rattle.paper.specs.Panel.Takes.{is_houd, is_perm, is_gperm, is_cmr, is_drawn, is_sw, one_cluster, grows_by, labels_by, moves};
 ghost use Rattle.paper.specs.Panel.Takes.{flips_by, perms_by, choices_by, greys_by, grey_labels_by, keeps_by, entries, choice_width};
 
 // A group: its size and up to eight system numbers.
-#[derive(Drop)]
+#[derive(Clone, Copy)]
 pub struct Group {
     pub len: usize,
     pub systems: [usize; 8],
 }
 
-#[derive(Drop)]
+#[derive(Clone, Copy)]
 pub enum Mode {
     Houd,
     Pair,
@@ -21,7 +23,7 @@ pub enum Mode {
     Cmr,
 }
 
-#[derive(Drop)]
+#[derive(Clone, Copy)]
 pub enum Form {
     Sw,
     Wolff,
@@ -209,7 +211,7 @@ impl Form {
 }
 
 // What a move keeps beside the spins: nothing, or each system's energy.
-#[derive(Drop)]
+#[derive(Clone, Copy)]
 pub enum Keeps {
     Nothing,
     Totals,
@@ -228,7 +230,7 @@ impl Keeps {
 }
 
 // The numbers of one move: all that it is handed by value.
-#[derive(Drop)]
+#[derive(Clone, Copy)]
 pub struct Task {
     pub mode: Mode,
     pub form: Form,
@@ -243,7 +245,7 @@ pub struct Task {
 }
 
 // The numbers of a sweep over t temperatures of r replicas, `systems` of the panel's s in all, in groups of `members`.
-#[derive(Drop)]
+#[derive(Clone, Copy)]
 pub struct Plan {
     pub mode: Mode,
     pub form: Form,
@@ -258,7 +260,7 @@ pub struct Plan {
 }
 
 // How many elements each buffer has that a move may be lent.
-#[derive(Drop)]
+#[derive(Clone, Copy)]
 pub struct Lengths {
     pub spins: usize,
     pub fwd: usize,
@@ -277,7 +279,7 @@ pub struct Lengths {
     pub grey_found: usize,
 }
 
-#[derive(Drop)]
+#[derive(Clone, Copy)]
 pub enum Answer {
     Refused(u8),
     Idle,
@@ -286,14 +288,14 @@ pub enum Answer {
 }
 
 // A temperature with the scales 4/T and 2/T.
-#[derive(Drop)]
+#[derive(Clone, Copy)]
 pub struct Sampler {
     pub temperature: f32,
     pub four: f32,
     pub two: f32,
 }
 
-#[derive(Drop)]
+#[derive(Clone, Copy)]
 pub enum BondKind {
     None,
     Blue(f32),
@@ -313,14 +315,14 @@ impl Sampler {
 }
 
 // A sweep's answer: a refusal, or how many unmasked tasks were idle, how many moved and how many were held.
-#[derive(Drop)]
+#[derive(Clone, Copy)]
 pub enum SweepAnswer {
     Fault(u8),
     Swept(u32, u32, u32),
 }
 
 // The meter's answer: a refusal, or the energy of one system.
-#[derive(Drop)]
+#[derive(Clone, Copy)]
 pub enum MeterAnswer {
     Unmetered(u8),
     Energy(i64),

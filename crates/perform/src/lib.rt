@@ -1,4 +1,6 @@
 // One task of any form, once its input is tested, and the totals beside it.
+#![tactic(auto)]
+
 ghost use Rattle.std.specs.Prelude.{◌≡◌, ℕ, List};
 ghost use Rattle.paper.specs.Panel.Made.{lattice_of, call_of, choices_of, buffers_of};
 ghost use Rattle.paper.specs.Panel.Takes.{keeps_by};

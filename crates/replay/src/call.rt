@@ -9,7 +9,7 @@ use paper::{Answer, Group, Keeps, Plan, SweepAnswer, Task};
 
 // How many tasks were idle and how many moved; a refusal is neither, and no case of the list has 255 of both. A held task is neither too, and would
 // differ: the list has none.
-#[derive(Drop)]
+#[derive(Clone, Copy)]
 struct Outcomes {
     idle: u32,
     moved: u32,

@@ -5,7 +5,7 @@ use crate::head::Head;
 use crate::panel::with_panel;
 use std::num::wrapping_add_u32;
 
-#[derive(Drop)]
+#[derive(Clone, Copy)]
 pub(crate) enum Ending {
     Whole,
     Short,

@@ -4,7 +4,7 @@ ghost use Rattle.io.specs.Counts.{IsPrefixLen};
 use std::num::wrapping_add_usize;
 
 // How many digits were read, and whether anything else stood among them.
-#[derive(Drop)]
+#[derive(Clone, Copy)]
 pub(crate) struct Digits {
     pub(crate) count: usize,
     pub(crate) wrong: bool,

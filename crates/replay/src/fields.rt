@@ -5,7 +5,7 @@ ghost use Rattle.std.specs.Prelude.{◌≤◌};
 use std::num::{nearest_u32_to_f32, wrapping_add_usize};
 
 // Where the comparison stands in the list, and whether all before agreed.
-#[derive(Drop)]
+#[derive(Clone, Copy)]
 pub(crate) struct Seen {
     pub(crate) at: usize,
     pub(crate) good: bool,

@@ -5,7 +5,7 @@ ghost use Rattle.replay.specs.Sizes.{Held};
 use crate::fields::{byte, past, word};
 use paper::{Form, Mode};
 
-#[derive(Drop)]
+#[derive(Clone, Copy)]
 pub(crate) struct Head {
     pub(crate) kind: u8,
     pub(crate) mode: u8,
@@ -98,7 +98,7 @@ pub(crate) fn only(taken: bool, length: usize) -> usize
 }
 
 // How many elements each buffer of the case has.
-#[derive(Drop)]
+#[derive(Clone, Copy)]
 pub(crate) struct Sizes {
     pub(crate) systems: usize,
     pub(crate) times: usize,

@@ -1,5 +1,7 @@
 // Replays a list of the published Rust's answers (format: runs/src/replay.rs) through the port, and writes how many cases agree. It is given the
 // list on standard input. Shared with the port are the types of its calls and what these say of modes and forms; no rule and no move.
+#![tactic(auto)]
+
 mod call;
 mod cases;
 mod digits;

@@ -3,7 +3,7 @@
 use Rattle.std.specs.Prelude.{ℕ, zero, suc, ◌≤◌, ◌<◌, ◌≡◌, refl, ◌⊎◌, true, false, not, List, [], ◌∷◌, get_or, ℤ, pos}
 use Rattle.std.proofs.Common.{sym, ◌∙◌, inl, inr, arith}
 use Rattle.std.proofs.Math.Decide.{dec_lt}
-use Rattle.std.proofs.lemmas.Bool.{not_true}
+use Rattle.std.proofs.lemmas.Bool.{not-true}
 use Rattle.std.proofs.Math.ListN.{get_or-eq_default}
 use Rattle.std.specs.Float.{nan}
 use Rattle.lemmas.specs.Counts.{count_where}
@@ -148,7 +148,7 @@ unfolding table every any
 others i t hi out = rw (only_column t i hi) (go (dec_lt t 8))
   where
     open' : (k : ℕ) → k < 3 → masked sweep k ≡ false
-    open' k h = not_true (masked sweep k) ((all 3 (λ k. is (not (masked sweep k)))).holds refl k h)
+    open' k h = not-true (masked sweep k) ((all 3 (λ k. is (not (masked sweep k)))).holds refl k h)
 
     at : Grouped t ⊎ Kept1 t → Kept1 t
     at (inl r) = absurd (out r.0 r.2.0 (omega (arith, r.1)) (open' r.0 r.1) r.2.1 r.2.2)

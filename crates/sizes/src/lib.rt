@@ -1,4 +1,6 @@
 // What is told of numbered components: how many of each size there are, and the four largest sizes, of those that are counted.
+#![tactic(auto)]
+
 ghost use Rattle.std.specs.Prelude.{◌≡◌, ◌<◌, length};
 ghost use Rattle.lemmas.specs.Counts.{bit};
 ghost use Rattle.sizes.specs.Contract.{is_one, Countable, Reported};
@@ -31,7 +33,7 @@ fn component_marks(labels: &[u32], marks: &[u8], bytes: &mut [u8])
 }
 
 // How many of the counted components have one site, and how many others are listed.
-#[derive(Drop)]
+#[derive(Clone, Copy)]
 struct Split {
     ones: u32,
     len: usize,

@@ -3,7 +3,7 @@ ghost use Rattle.std.specs.Prelude.{ℕ, length};
 ghost use Rattle.sizes.specs.Steps.{ones_or_more, all_or_more, Top4, with, Falling};
 
 // Four sizes, falling.
-#[derive(Drop)]
+#[derive(Clone, Copy)]
 pub(crate) struct Top(
     pub(crate) u32,
     pub(crate) u32,

@@ -1,4 +1,6 @@
 // The rows that numbers stand for, written out.
+#![tactic(auto)]
+
 ghost use Rattle.std.specs.Prelude.{◌≡◌, length};
 ghost use Rattle.spelling.specs.Rows.{spelt, rows_of};
 ghost use Rattle.spelling.specs.Spell.{SpellsIn, SpellAsks, AreaAsks, SpeltInto};

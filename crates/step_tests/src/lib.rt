@@ -1,4 +1,6 @@
 // Every test of one move or observation, in their order.
+#![tactic(auto)]
+
 ghost use Rattle.paper.specs.Refusal.Verdict.{Verdict};
 ghost use Rattle.paper.specs.Panel.Made.{call_of, choices_of};
 ghost use Rattle.step_tests.specs.Call.{Measured, call_rules};

@@ -1,4 +1,6 @@
 // The moves under their published names, with the inputs of their modes alone. They trust no caller, as `overlap_step` does not.
+#![tactic(auto)]
+
 ghost use Rattle.std.specs.Prelude.{[]};
 ghost use Rattle.paper.specs.declared.Mode.TheVariants.{Jorg, Cmr};
 ghost use Rattle.paper.specs.declared.Keeps.TheVariants.{Nothing};

@@ -1,4 +1,6 @@
 // A sweep: tasks over temperatures and groups.
+#![tactic(auto)]
+
 ghost use Rattle.paper.specs.Panel.Takes.{keeps_by};
 ghost use Rattle.paper.specs.Panel.Made.{buffers_of};
 ghost use Rattle.paper.specs.Answer.Made.{sweep_of};

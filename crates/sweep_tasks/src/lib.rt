@@ -1,4 +1,6 @@
 // The tasks of a sweep that has been tested, in ascending order.
+#![tactic(auto)]
+
 ghost use Rattle.paper.specs.Panel.Takes.{keeps_by};
 ghost use Rattle.paper.specs.Refusal.Rule.{Kept};
 ghost use Rattle.paper.specs.Refusal.Rules.{order_names};

@@ -1,4 +1,6 @@
 // The tests of a sweep, all made before anything is written.
+#![tactic(auto)]
+
 ghost use Rattle.std.specs.Prelude.{length};
 ghost use Rattle.lemmas.specs.Tells.{Tells};
 ghost use Rattle.paper.specs.Refusal.Rules.{When};
@@ -16,7 +18,7 @@ ghost use Rattle.sweep_tests.specs.Whole.{Sized, ValuesTold};
 use paper::{Form, Lengths, Mode, Plan};
 
 // How many elements the inputs have that a sweep takes beside its tasks'.
-#[derive(Drop)]
+#[derive(Clone, Copy)]
 pub struct SweepLengths {
     pub totals: usize,
     pub order: usize,

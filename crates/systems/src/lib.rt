@@ -1,4 +1,6 @@
 // Tests 3 and 14 of the systems that a call names. A number that no system has is passed over: test 5 refuses it.
+#![tactic(auto)]
+
 pub mod owners;
 
 ghost use Rattle.std.specs.Prelude.{◌≤◌, length};

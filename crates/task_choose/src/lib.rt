@@ -1,4 +1,6 @@
 // The second step of a task, on its own rows: the column of each site after the move, from what the first step found. No row is written.
+#![tactic(auto)]
+
 mod grown;
 mod labelled;
 mod tested;

@@ -1,4 +1,6 @@
 // The first step of a task, on its own rows: what a move tests, and what it writes beside the spins.
+#![tactic(auto)]
+
 mod grown;
 mod labelled;
 mod tested;

@@ -1,4 +1,6 @@
 // The third step of a task (14/14): its rows become what the columns of the area show, and its totals are brought current.
+#![tactic(auto)]
+
 mod grown;
 mod labelled;
 mod marks;

@@ -1,4 +1,6 @@
 // What of a sweep's inputs is one task's: its group, its number at a temperature, its parts of the lent buffers.
+#![tactic(auto)]
+
 ghost use Rattle.std.specs.Prelude.{◌≡◌, min, ◌+◌, ◌*◌, ◌/◌, get_or};
 ghost use Rattle.std.specs.Float.{nan};
 ghost use Rattle.paper.specs.Panel.Takes.{entries, choice_bytes};
@@ -9,7 +11,7 @@ use lemmas::wide;
 use paper::{Form, Group, Keeps, Mode, Plan, Task};
 
 // Where a part stands in a buffer.
-#[derive(Drop)]
+#[derive(Clone, Copy)]
 pub struct Span {
     pub start: usize,
     pub end: usize,

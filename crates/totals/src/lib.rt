@@ -1,4 +1,6 @@
 // How the energies of a group's systems change in a move. Only bonds with an end among the sites that changed are looked at.
+#![tactic(auto)]
+
 ghost use Rattle.std.specs.Prelude.{pos, ◌-ℤ◌, length, ◌≡◌, ◌<◌, ◌≤◌, ◌/◌, ◌%◌, ◌^◌};
 ghost use Rattle.totals.specs.Gain.{bond_gain, bit_gain, at_site, change_of, gain_at, still_at, site_gain};
 ghost use Rattle.totals.specs.Gain.{BondIn, Ends, Ground, SiteOf, Added, Sums};

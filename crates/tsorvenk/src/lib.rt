@@ -1,4 +1,6 @@
 // The library as C and Rust call it. Each function is a shell over a proved one: numbers in, a number out, and no caller is trusted.
+#![tactic(auto)]
+
 mod bytes;
 mod checking;
 mod drawing;

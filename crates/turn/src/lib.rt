@@ -1,4 +1,6 @@
 // The members of one cluster turned, from a list of their sites: their new columns are chosen, and then written. No other site is read or written.
+#![tactic(auto)]
+
 ghost use Rattle.std.specs.Prelude.{◌≡◌, length};
 ghost use Rattle.column_rules.specs.Acted.{choice_column};
 ghost use Rattle.turn.specs.Turned.{Chooses, Turns, turned_column, Choosable, ColumnsTurned, ListWritable, ListWritten};

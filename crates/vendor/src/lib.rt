@@ -1,4 +1,6 @@
 // Checks a vendor's spins before and after a move of one group, in perm and gperm.
+#![tactic(auto)]
+
 mod observed;
 mod tested;
 
@@ -9,7 +11,7 @@ use paper::{Group, Task};
 use tested::Offer;
 
 // A refusal, the number of the first component at fault, or accepted.
-#[derive(Drop)]
+#[derive(Clone, Copy)]
 pub enum Checked {
     Refused(u8),
     No(u32),

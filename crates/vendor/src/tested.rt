@@ -7,7 +7,7 @@ ghost use Rattle.vendor.specs.Offered.{Handed, Fitting, offer_rules};
 use paper::Task;
 
 // How many elements each buffer has.
-#[derive(Drop)]
+#[derive(Clone, Copy)]
 pub(crate) struct Offer {
     pub(crate) before: usize,
     pub(crate) after: usize,

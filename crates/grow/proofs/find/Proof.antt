@@ -1,6 +1,6 @@
 -- `find` meets its contract: where the seed acts its cluster is grown and its pins are looked at; and else there are no members.
 use borrow.Author.Rules.{rules}
-use borrow.Author.Tests.{not_true, not-false}
+use borrow.Author.Tests.{not-true, not-false}
 use Prim.Native.Nat.{zero-le}
 use mathlib.Core.Path.{◌≡◌, refl, sym, ◌∙◌}
 use mathlib.Core.Bool.{true}
@@ -38,7 +38,7 @@ returns c =
     let k = d.before.before in
     let p = (S k.before.before).requires in
     record {
-      grown = finds_none p (seed-told k.before ∙ not_true k.before.acts-at.result k.if1.true) d.clear.ensures;
+      grown = finds_none p (seed-told k.before ∙ not-true k.before.acts-at.result k.if1.true) d.clear.ensures;
       kept = kept_none p d.clear.ensures refl;
     }
 

@@ -5,7 +5,7 @@ use mathlib.Core.Path.{◌≡◌, sym, ◌∙◌}
 use mathlib.Core.Bool.{true, false}
 use mathlib.Core.List.{[]}
 use native.Mathlib.Omega.{arith}
-use borrow.Author.Tests.{not_true, not-false}
+use borrow.Author.Tests.{not-true, not-false}
 use lib.Seq.{length-take-le}
 use Rattle.paper.specs.Panel.Input.{Call, Choices, Buffers}
 use Rattle.paper.specs.Panel.Made.{call_of, choices_of, buffers_of}
@@ -61,7 +61,7 @@ many b =
 
 -- whether the answer is one with which columns may have changed
 still : (m : tie.Then1) → changes (S (L (T m.before))).args.t.form (L (T m.before)).label-task.result ≡ false
-still m = sym m.before.changed.ensures ∙ not_true _ m.if1.true
+still m = sym m.before.changed.ensures ∙ not-true _ m.if1.true
 
 goes : (m : tie.Else1) → changes (S (L (T m.before))).args.t.form (L (T m.before)).label-task.result ≡ true
 goes m = sym m.before.changed.ensures ∙ not-false _ m.if1.false

@@ -1,7 +1,7 @@
 -- `order_totals_fit` meets its contract: after k turns the flag tells of the systems before k.
 use Prim.Native.Nat.{◌-◌}
 use borrow.Author.Rules.{rules}
-use borrow.Author.Tests.{not_true, not-false}
+use borrow.Author.Tests.{not-true, not-false}
 use lib.ListN.{length, get_or}
 use Rattle.lemmas.specs.Tells.{Flagged, same, said, flag_start, flag_more, flag_end, when_taken, when_not}
 use Rattle.paper.specs.Refusal.Rules.{order_names, Named}
@@ -17,7 +17,7 @@ abbrev decreases-loop : tie.decreases-loop
 decreases-loop keeping totals order ok₀ k₀ ok k = length order - k
 
 returns : tie.Need-returns invariant-loop decreases-loop
-returns c = when_not (not_true c.before.before.args.keeping c.if1.true)
+returns c = when_not (not-true c.before.before.args.keeping c.if1.true)
 
 loop-holds : tie.Need-loop-init invariant-loop decreases-loop
 loop-holds c = flag_start _ _

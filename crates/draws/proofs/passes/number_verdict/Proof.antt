@@ -1,6 +1,6 @@
 -- `number_verdict` meets its contract: rule by rule.
 use Rattle.std.proofs.Common.{ℕ, ◌≤◌, true, false, refl, subst, inl, inr, rules}
-use borrow.Author.Tests.{not_true, not-false}
+use borrow.Author.Tests.{not-true, not-false}
 use Rattle.lemmas.specs.Tells.{Tells, passed, refused}
 use Rattle.draws.specs.Words.{Live}
 use Rattle.draws.specs.Draw.{number, Within}
@@ -28,7 +28,7 @@ ranged : (c : tie.Else2) → Within 1 c.before.before.before.before.args.most c.
 ranged c = so_is c.before.number_ok.ensures c.if2.false
 
 returns-3 : tie.Need-returns-3
-returns-3 c = inr (live c.before.before.before, inr (ranged c.before, inl ((λ e. clash e (not_true _ c.if3.true)), refl)))
+returns-3 c = inr (live c.before.before.before, inr (ranged c.before, inl ((λ e. clash e (not-true _ c.if3.true)), refl)))
 
 wide-requires : tie.Need-wide-requires
 wide-requires c κs = search rules

@@ -2,7 +2,7 @@
 use Prim.Native.Nat.{◌-◌}
 use mathlib.Core.Path.{sym, ◌∙◌}
 use borrow.Author.Rules.{rules}
-use borrow.Author.Tests.{not_true, not-false}
+use borrow.Author.Tests.{not-true, not-false}
 use lib.ListN.{length}
 use Rattle.edge_text.proofs.Scan.{Gathering, gathering_none, gathering_more, gathering_stop, gathering_end}
 use Rattle.edge_text.proofs.reading.digits.Statement.{statement}
@@ -26,7 +26,7 @@ is-digit-requires c κs = search rules
 returns : tie.Need-returns invariant-loop decreases-loop
 returns c =
     let l = c.before.before.before in
-    gathering_stop _ _ _ _ l.before.loop.invariant l.loop-test.true (sym c.before.is_digit.ensures ∙ not_true _ c.if1.true)
+    gathering_stop _ _ _ _ l.before.loop.invariant l.loop-test.true (sym c.before.is_digit.ensures ∙ not-true _ c.if1.true)
 
 more-requires : tie.Need-more-requires invariant-loop decreases-loop
 more-requires c κs = sym c.before.is_digit.ensures ∙ not-false _ c.if1.false

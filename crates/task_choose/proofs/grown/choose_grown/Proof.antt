@@ -3,7 +3,7 @@ use borrow.Author.Rules.{rules}
 use mathlib.Core.Path.{◌≡◌, refl, sym, ◌∙◌, ap}
 use mathlib.Core.Bool.{Bool, true, false, not, cond}
 use native.Mathlib.Omega.{arith}
-use borrow.Author.Tests.{not_true, not-false}
+use borrow.Author.Tests.{not-true, not-false}
 use Rattle.lemmas.specs.Bools.{never}
 use Rattle.paper.specs.Panel.Takes.{is_cmr}
 use Rattle.task_choose.specs.Grown.{takers_of, turning, turning_none, grown_leaves}
@@ -17,7 +17,7 @@ abbrev S : tie.After-is-cmr → tie.Start
 S k = (G k).before.before.before.before.before.before.before.before
 
 other : (e : tie.Then1) → is_cmr (S e.before).args.t.mode ≡ false
-other e = sym e.before.is_cmr_lem.ensures ∙ not_true e.before.is_cmr_lem.result e.if1.true
+other e = sym e.before.is_cmr_lem.ensures ∙ not-true e.before.is_cmr_lem.result e.if1.true
 
 cmr : (e : tie.Else1) → is_cmr (S e.before).args.t.mode ≡ true
 cmr e = sym e.before.is_cmr_lem.ensures ∙ not-false e.before.is_cmr_lem.result e.if1.false

@@ -4,7 +4,7 @@ use Prim.Native.Nat.{◌≤◌}
 use mathlib.Core.Path.{◌≡◌, refl, sym, ◌∙◌}
 use mathlib.Core.Bool.{true}
 use mathlib.Core.List.{[]}
-use borrow.Author.Tests.{not_true, not-false}
+use borrow.Author.Tests.{not-true, not-false}
 use lib.Seq.{length-take-le}
 use Rattle.paper.specs.Panel.Input.{Call, Choices}
 use Rattle.paper.specs.Panel.Made.{call_of, choices_of}
@@ -79,7 +79,7 @@ returns c =
     let k = c.before in
     let b = S (P k) in
     columns_rest (call_at b) (choicesAt b) b.args.rows.now b.args.labels.now b.args.grey_labels.now
-    (sym k.moves.ensures ∙ not_true k.moves.result c.if1.true) (P k).pack.ensures
+    (sym k.moves.ensures ∙ not-true k.moves.result c.if1.true) (P k).pack.ensures
 
 array-borrow-prefix-acts-area : tie.Need-array-borrow-prefix-acts-area
 array-borrow-prefix-acts-area c = few (b c)

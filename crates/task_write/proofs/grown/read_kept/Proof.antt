@@ -2,14 +2,14 @@
 use borrow.Author.Rules.{rules}
 use mathlib.Core.Path.{◌≡◌, sym, ◌∙◌}
 use mathlib.Core.Bool.{false}
-use borrow.Author.Tests.{not_true}
+use borrow.Author.Tests.{not-true}
 use Rattle.lemmas.specs.Bools.{never}
 use Rattle.paper.specs.Panel.Takes.{keeps_by}
 use Rattle.task_write.proofs.grown.read_kept.Statement.{statement}
 use Rattle.task_write.proofs.grown.read_kept.Tie as tie
 
 keeps_none : (e : tie.Then1) → let t = e.before.before.before.before.args.t in keeps_by t.keeps t.form ≡ false
-keeps_none e = sym e.before.totals.ensures ∙ not_true _ e.if1.true
+keeps_none e = sym e.before.totals.ensures ∙ not-true _ e.if1.true
 
 totals-requires : tie.Need-totals-requires
 totals-requires c κs = search rules

@@ -3,7 +3,7 @@ use borrow.Author.Rules.{rules}
 use mathlib.Core.Path.{◌≡◌, sym, ◌∙◌}
 use mathlib.Core.Bool.{true, false}
 use native.Mathlib.Omega.{arith}
-use borrow.Author.Tests.{not_true, not-false}
+use borrow.Author.Tests.{not-true, not-false}
 use lib.Seq.{length-take-le}
 use Rattle.paper.specs.Panel.Takes.{keeps_by}
 use Rattle.totals.specs.Contract.{lattice_for}
@@ -27,7 +27,7 @@ keeps : (e : tie.Else1) → let t = (S e.before).args.t in keeps_by t.keeps t.fo
 keeps e = sym e.before.totals.ensures ∙ not-false _ e.if1.false
 
 keeps_none : (e : tie.Then1) → let t = (S e.before).args.t in keeps_by t.keeps t.form ≡ false
-keeps_none e = sym e.before.totals.ensures ∙ not_true _ e.if1.true
+keeps_none e = sym e.before.totals.ensures ∙ not-true _ e.if1.true
 
 totals-requires : tie.Need-totals-requires
 totals-requires c κs = search rules

@@ -1,6 +1,6 @@
 -- `seed_column_ok` meets its contract: a case for each way that it ends.
 use borrow.Author.Rules.{rules}
-use borrow.Author.Tests.{not_true, not-false}
+use borrow.Author.Tests.{not-true, not-false}
 use mathlib.Core.Path.{◌≡◌, sym, ◌∙◌}
 use mathlib.Core.Bool.{true}
 use Rattle.paper.specs.Panel.Takes.{one_cluster}
@@ -33,7 +33,7 @@ one-cluster-requires c κs = search rules
 returns : tie.Need-returns
 returns c = λ cuts d s temperature fwd bwd pins couplings xs p w.
     let k = c.before in
-    let many = sym k.one_cluster_lem.ensures ∙ not_true k.one_cluster_lem.result c.if1.true in
+    let many = sym k.one_cluster_lem.ensures ∙ not-true k.one_cluster_lem.result c.if1.true in
     unseeded k.before.before.before.args.t xs many cuts d s temperature fwd bwd pins couplings
 
 returns-2 : tie.Need-returns-2

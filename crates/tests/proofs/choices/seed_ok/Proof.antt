@@ -1,6 +1,6 @@
 -- `seed_ok` meets its contract: a case for each way that it ends.
 use borrow.Author.Rules.{rules}
-use borrow.Author.Tests.{not_true, not-false}
+use borrow.Author.Tests.{not-true, not-false}
 use mathlib.Core.Path.{◌≡◌, sym, ◌∙◌}
 use mathlib.Core.Bool.{true}
 use Rattle.paper.specs.Panel.Takes.{one_cluster}
@@ -20,7 +20,7 @@ one-cluster-requires c κs = search rules
 returns : tie.Need-returns
 returns c =
     let a = c.before.before.before.args in
-    unseeded a.t a.spins.now (sym c.before.one_cluster_lem.ensures ∙ not_true c.before.one_cluster_lem.result c.if1.true)
+    unseeded a.t a.spins.now (sym c.before.one_cluster_lem.ensures ∙ not-true c.before.one_cluster_lem.result c.if1.true)
 
 returns-2 : tie.Need-returns-2
 returns-2 c = let a = (S c.before).args in seed_past a.t a.spins.now (one c.before) c.if2.true

@@ -2,7 +2,7 @@
 use mathlib.Core.Path.{refl, sym, ◌∙◌}
 use mathlib.Core.Logic.{inl, inr}
 use borrow.Author.Rules.{rules}
-use borrow.Author.Tests.{not_true, not-false}
+use borrow.Author.Tests.{not-true, not-false}
 use Rattle.lemmas.specs.Bools.{never}
 use Rattle.lemmas.specs.Tells.{passed, refused}
 use Rattle.tsorvenk.proofs.checking.roomless.Statement.{statement}
@@ -23,7 +23,7 @@ returns-2 c =
     let e = p.before in
     inr (
       passed e.before.ranged.result e.if1.false e.before.ranged.ensures,
-      inl ((λ q. never (sym (not_true p.is-perm.result c.if2.true) ∙ (p.is-perm.ensures ∙ q))), refl),
+      inl ((λ q. never (sym (not-true p.is-perm.result c.if2.true) ∙ (p.is-perm.ensures ∙ q))), refl),
     )
 
 returns-3 : tie.Need-returns-3

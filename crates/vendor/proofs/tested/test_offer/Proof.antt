@@ -3,7 +3,7 @@ use mathlib.Core.Path.{◌≡◌, refl, sym, ◌∙◌}
 use mathlib.Core.Logic.{inl, inr}
 use mathlib.Core.Bool.{true}
 use borrow.Author.Rules.{rules}
-use borrow.Author.Tests.{not_true, not-false}
+use borrow.Author.Tests.{not-true, not-false}
 use Rattle.lemmas.specs.Bools.{never}
 use Rattle.lemmas.specs.Tells.{Tells, passed, refused}
 use Rattle.lattice.specs.Spinning.{all_rows}
@@ -66,7 +66,7 @@ is-perm-requires c κs = search rules
 
 returns-2 : tie.Need-returns-2
 returns-2 c =
-    let no = not_true c.before.is-perm.result c.if2.true in
+    let no = not-true c.before.is-perm.result c.if2.true in
     inr (k1 c.before.before, inl ((λ e. never (sym no ∙ (c.before.is-perm.ensures ∙ e))), refl))
 
 fitting-requires : tie.Need-fitting-requires
