@@ -270,7 +270,7 @@ fn row_marks(m: usize, perms: &[u8], at: usize) -> u32
 
 fn rows_full(rows: usize, m: usize, perms: &[u8]) -> bool
     requires { RowsBelow rows m perms.now }
-    ensures* { λ r. ⌜ Tells r (Each rows (λ r. Permutes m (row_at m perms.now r))) ⌝ }
+    ensures { Tells result (Each rows (λ r. Permutes m (row_at m perms.now r))) }
 {
     let full = (1u32 << m) - 1;
     let mut ok = true;
