@@ -104,6 +104,7 @@ module _ {o : Team} {c : Call} {p : Choices} {b b' : Buffers} (m : TeamMove o c 
       go Idle idle w = Move.idle w.answers
       go Held held w = Move.held w.answers
       go Moved moved w = Move.moved w.answers
+      go (Refused _) x3 w = elim x3 [ ]
 
   team_valid : Valid (read_call o c) p b
   team_valid = valid_move team_move

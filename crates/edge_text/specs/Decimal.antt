@@ -180,6 +180,7 @@ decimal_back (c ∷ s) (some e q) (by h) =
         at : Dec (48 < c) → 0 < c - 48
         at (yes k) = omega arith
         at (no k) = absurd (h (omega arith))
+decimal_back [] _ x3 = elim x3 [ ]
 
 -- ---- where the digits of a text end
 pub lead_digits : (s : List ℕ) → Digits (lead s)

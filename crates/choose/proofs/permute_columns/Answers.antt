@@ -1,0 +1,33 @@
+-- `choose::permute_columns` meets its contract. The invariant: the columns below i are new, the others are old.
+use Prim.Native.Nat.{ℕ, ◌+◌, ◌*◌, ◌≤◌, ◌-◌}
+use mathlib.Core.Path.{◌≡◌}
+use mathlib.Core.Logic.{⊎_elim}
+use native.Mathlib.Omega.{arith}
+use lib.ListN.{length, get_or}
+use Rattle.lemmas.specs.Stores.{filled_more, filled_skip}
+use Rattle.paper.specs.Panel.Takes.{entry}
+use Rattle.choose.proofs.Entries.{row_fits}
+use Rattle.choose.proofs.Row.{row_at, moved, kept}
+use Rattle.choose.proofs.permute_columns.Goals as goal
+
+pub loop-i-preserved : goal.loop-i-preserved
+loop-i-preserved c =
+    let start : ℕ = entry c.args.form (get_or c.args.labels.now c.loop-i.i 0) * c.args.group.len in
+    let within : start + c.args.group.len ≤ length c.args.perms.now = rw c.requires.lent (row_fits c.args.form _ _ c.args.group.len c.requires.moving (c.requires.sites.below c.loop-i.i c.loop-i-test.true)) in
+    let same : get_or c.loop-i.cols c.loop-i.i 0 ≡ get_or c.args.cols.now c.loop-i.i 0 = c.loop-i.invariant.rest c.loop-i.i (omega arith) in
+    let a = c.args in
+    let l = c.loop-i in
+    let m = a.group.len in
+    ⊎_elim
+    (λ w. let e = row_at a.form _ m w.2.ensures w.3.ensures in
+    rw w.7
+    (filled_more l.invariant c.loop-i-test.true
+    (moved a.form m a.gauge a.reached.now a.labels.now a.perms.now a.cols.now l.i _ _ w.6.result
+    w.0.taken
+    e
+    same
+    (omega (arith, e, within))
+    w.6.ensures)))
+    (λ w. rw w.1
+    (filled_skip l.invariant (kept a.form m a.gauge a.reached.now a.labels.now a.perms.now a.cols.now l.i w.0.left)))
+    c.if-reached-i-eq1.branch
