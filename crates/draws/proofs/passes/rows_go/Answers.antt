@@ -7,7 +7,7 @@ use Rattle.draws.proofs.Filling.{stop_none, stop_more, goes_more}
 use Rattle.draws.proofs.passes.rows_go.Goals as goal
 
 pub loop-i-init : goal.loop-i-init
-loop-i-init c =  (omega arith, stop_none, λ i l. absurd (omega arith))
+loop-i-init c = (omega arith, stop_none, λ i l. absurd (omega arith))
 
 pub loop-i-preserved : goal.loop-i-preserved
 loop-i-preserved c =

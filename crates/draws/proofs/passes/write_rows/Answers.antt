@@ -10,12 +10,12 @@ use Rattle.draws.proofs.Placing.{rows_more}
 use Rattle.draws.proofs.passes.write_rows.Goals as goal
 
 pub loop-i-init : goal.loop-i-init
-loop-i-init c =     let a = c.args in (
-      omega arith,
-      stop_none,
-      subst (λ (x : ℕ). Filled (entry_at a.moving a.members a.s) x (length a.rows.now) a.rows.now) (sym (zero-mul a.members))
-          (fill_none _),
-    )
+loop-i-init c = let a = c.args in (
+  omega arith,
+  stop_none,
+  subst (λ (x : ℕ). Filled (entry_at a.moving a.members a.s) x (length a.rows.now) a.rows.now) (sym (zero-mul a.members))
+      (fill_none _),
+)
 
 pub loop-i-preserved : goal.loop-i-preserved
 loop-i-preserved c =

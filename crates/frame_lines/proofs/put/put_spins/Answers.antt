@@ -18,7 +18,7 @@ put_byte-requires c =
     omega (arith, enough)
 
 pub loop-k-init : goal.loop-k-init
-loop-k-init c =  hexing_none _ _ _
+loop-k-init c = hexing_none _ _ _
 
 pub overflow_add-at : goal.overflow_add-at
 overflow_add-at c =

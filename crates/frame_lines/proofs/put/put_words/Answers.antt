@@ -16,7 +16,7 @@ put_byte-requires c =
     omega (arith, enough)
 
 pub loop-k-init : goal.loop-k-init
-loop-k-init c =  hexing_none _ _ _
+loop-k-init c = hexing_none _ _ _
 
 pub put_word-requires : goal.put_word-requires
 put_word-requires c =
