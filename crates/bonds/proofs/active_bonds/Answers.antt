@@ -1,5 +1,4 @@
 -- `bonds::active_bonds` meets its contract.
-use Prim.Native.Nat.{◌-◌}
 use native.Mathlib.Omega.{arith}
 use Rattle.bonds.proofs.Rows.{begun_more}
 use Rattle.bonds.proofs.active_bonds.Goals as goal

@@ -1,5 +1,4 @@
 -- `bonds::blue_bonds` meets its contract.
-use Prim.Native.Nat.{◌-◌}
 use native.Mathlib.Omega.{arith}
 use Rattle.bonds.proofs.Rows.{begun_more}
 use Rattle.bonds.proofs.blue_bonds.Goals as goal

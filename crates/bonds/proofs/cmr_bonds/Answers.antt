@@ -1,5 +1,4 @@
 -- `bonds::cmr_bonds` meets its contract.
-use Prim.Native.Nat.{◌-◌}
 use native.Mathlib.Omega.{arith}
 use Rattle.bonds.proofs.Rows.{begun_more}
 use Rattle.bonds.proofs.cmr_bonds.Goals as goal

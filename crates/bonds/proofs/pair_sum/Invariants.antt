@@ -1,8 +1,6 @@
 -- `bonds::pair_sum` meets its contract: the total is the sum over the pairs passed, and the two columns are past them.
-use Prim.Native.Nat.{◌-◌, ◌≤◌}
+use Prim.Native.Nat.{◌≤◌}
 use mathlib.Core.Path.{◌≡◌}
-use mir.Syntax.{w32}
-use mir.Val.{of_z}
 use Rattle.lemmas.specs.Sums.{sum}
 use Rattle.paper.specs.Site.Bonds.{pair_term}
 use Rattle.columns.specs.Column.{shown}
@@ -10,7 +8,4 @@ use Rattle.bonds.proofs.Pairs.{past}
 use Rattle.bonds.proofs.pair_sum.Given as goal
 
 abbrev pub invariant-loop-k : goal.invariant-loop-k
-invariant-loop-k l = (l.k ≤ l.pairs) × (l.total ≡ of_z w32 (sum l.k (pair_term (shown l.a) (shown l.b)))) × (l.x ≡ past l.a l.k) × (l.y ≡ past l.b l.k)
-
-abbrev pub decreases-loop-k : goal.decreases-loop-k
-decreases-loop-k l = l.pairs - l.k
+invariant-loop-k l = (l.k ≤ l.pairs) × (l.total ≡ sum l.k (pair_term (shown l.a) (shown l.b))) × (l.x ≡ past l.a l.k) × (l.y ≡ past l.b l.k)

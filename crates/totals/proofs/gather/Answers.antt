@@ -1,5 +1,4 @@
 -- `gather` meets its contract. The invariant: the sites next to the first a of the list are gathered.
-use Prim.Native.Nat.{◌-◌}
 use native.Mathlib.Omega.{arith}
 use Rattle.totals.proofs.Gathered.{gathered_as, gathered_both, some_more}
 use Rattle.totals.proofs.gather.Goals as goal

@@ -1,5 +1,4 @@
 -- `gather_near` meets its contract. The invariant: the sites next to i in the first e directions are gathered.
-use Prim.Native.Nat.{◌-◌}
 use native.Mathlib.Omega.{arith}
 use Rattle.totals.proofs.Gathered.{gathered_as, gathered_both, near_more}
 use Rattle.totals.proofs.gather_near.Goals as goal
