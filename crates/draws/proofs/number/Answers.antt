@@ -6,14 +6,14 @@ use Rattle.draws.proofs.Trying.{word_taken, word_again}
 use Rattle.draws.proofs.number.Goals as goal
 
 pub returns-then-high-top : goal.returns-then-high-top
-returns-then-high-top c =     let a = c.args in
+returns-then-high-top c = let a = c.args in
     let d = c.step-d in
     word_taken a.s a.m c.loop-left.source c.loop-left.left d.result c.loop-left-test.true d.ensures
     (subst (λ (x : ℕ). d.result.value / 2 ^ 32 < x) c.requires.at c.if-high-top.true)
     ∙ c.loop-left.invariant
 
 pub loop-left-preserved : goal.loop-left-preserved
-loop-left-preserved c =     let a = c.args in
+loop-left-preserved c = let a = c.args in
     let d = c.step-d in
     word_again a.s a.m c.loop-left.source c.loop-left.left d.result c.loop-left-test.true d.ensures
     (subst (λ (x : ℕ). x ≤ d.result.value / 2 ^ 32) c.requires.at c.if-high-top.false)
@@ -21,4 +21,4 @@ loop-left-preserved c =     let a = c.args in
 
 pub returns : goal.returns
 unfolding tried
-returns c =  c.refuse.ensures ∙ rw (le-zero c.loop-left-test.false) at c.loop-left.invariant
+returns c = c.refuse.ensures ∙ rw (le-zero c.loop-left-test.false) at c.loop-left.invariant

@@ -4,7 +4,7 @@ use Rattle.draws.specs.Draw.{tried}
 use Rattle.draws.proofs.number.Given as goal
 
 abbrev pub invariant-loop-left : goal.invariant-loop-left
-invariant-loop-left l =  tried l.s l.left l.m l.source ≡ tried l.s l.budget l.m l.s
+invariant-loop-left l = tried l.s l.left l.m l.source ≡ tried l.s l.budget l.m l.s
 
 abbrev pub decreases-loop-left : goal.decreases-loop-left
-decreases-loop-left l =  l.left
+decreases-loop-left l = l.left

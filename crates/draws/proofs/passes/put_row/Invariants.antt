@@ -4,7 +4,7 @@ use Rattle.draws.specs.Writing.{RowPut}
 use Rattle.draws.proofs.passes.put_row.Given as goal
 
 abbrev pub invariant-loop-k : goal.invariant-loop-k
-invariant-loop-k l =  (l.k ≤ l.members) × RowPut l.k l.at l.row l.initial.rows l.rows
+invariant-loop-k l = (l.k ≤ l.members) × RowPut l.k l.at l.row l.initial.rows l.rows
 
 abbrev pub decreases-loop-k : goal.decreases-loop-k
-decreases-loop-k l =  l.members - l.k
+decreases-loop-k l = l.members - l.k

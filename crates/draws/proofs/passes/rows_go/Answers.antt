@@ -1,5 +1,5 @@
 -- `rows_go` meets its contract. The invariant: the first i draws are made, and none is refused.
-use Rattle.std.proofs.Common.{◌≡◌, ◌-◌, ap, arith}
+use Rattle.std.proofs.Common.{◌≡◌, ap, arith}
 use Rattle.draws.specs.declared.Row.{Row}
 use Rattle.draws.specs.declared.Source.{Source}
 use Rattle.draws.specs.Rows.{row_by}
@@ -7,7 +7,7 @@ use Rattle.draws.proofs.Filling.{stop_none, stop_more, goes_more}
 use Rattle.draws.proofs.passes.rows_go.Goals as goal
 
 pub loop-i-init : goal.loop-i-init
-loop-i-init c =  (omega arith, stop_none, λ i l. absurd (omega arith))
+loop-i-init c = (omega arith, stop_none, λ i l. absurd (omega arith))
 
 pub loop-i-preserved : goal.loop-i-preserved
 loop-i-preserved c =

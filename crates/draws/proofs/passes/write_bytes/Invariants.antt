@@ -6,7 +6,7 @@ use Rattle.draws.proofs.Filling.{Stopped, Filled}
 use Rattle.draws.proofs.passes.write_bytes.Given as goal
 
 abbrev pub invariant-loop-i : goal.invariant-loop-i
-invariant-loop-i l =     Stopped (go_on (number l.m)) l.i l.initial.source l.source × Filled (λ j. number_at (number l.m) l.initial.source j + l.plus) l.i (length l.initial.bytes) l.bytes
+invariant-loop-i l = Stopped (go_on (number l.m)) l.i l.initial.source l.source × Filled (λ j. number_at (number l.m) l.initial.source j + l.plus) l.i (length l.initial.bytes) l.bytes
 
 abbrev pub decreases-loop-i : goal.decreases-loop-i
-decreases-loop-i l =  length l.initial.bytes - l.i
+decreases-loop-i l = length l.initial.bytes - l.i

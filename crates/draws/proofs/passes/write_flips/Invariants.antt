@@ -6,7 +6,7 @@ use Rattle.draws.proofs.Filling.{Stopped, Filled}
 use Rattle.draws.proofs.passes.write_flips.Given as goal
 
 abbrev pub invariant-loop-i : goal.invariant-loop-i
-invariant-loop-i l =     Stopped (go_on flipped) l.i l.initial.source l.source × Filled (number_at flipped l.initial.source) l.i (length l.initial.flips) l.flips
+invariant-loop-i l = Stopped (go_on flipped) l.i l.initial.source l.source × Filled (number_at flipped l.initial.source) l.i (length l.initial.flips) l.flips
 
 abbrev pub decreases-loop-i : goal.decreases-loop-i
-decreases-loop-i l =  length l.initial.flips - l.i
+decreases-loop-i l = length l.initial.flips - l.i

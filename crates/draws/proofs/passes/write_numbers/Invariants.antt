@@ -6,7 +6,7 @@ use Rattle.draws.proofs.Filling.{Stopped, Filled}
 use Rattle.draws.proofs.passes.write_numbers.Given as goal
 
 abbrev pub invariant-loop-i : goal.invariant-loop-i
-invariant-loop-i l =     Stopped (go_on (number l.m)) l.i l.initial.source l.source × Filled (number_at (number l.m) l.initial.source) l.i (length l.initial.numbers) l.numbers
+invariant-loop-i l = Stopped (go_on (number l.m)) l.i l.initial.source l.source × Filled (number_at (number l.m) l.initial.source) l.i (length l.initial.numbers) l.numbers
 
 abbrev pub decreases-loop-i : goal.decreases-loop-i
-decreases-loop-i l =  length l.initial.numbers - l.i
+decreases-loop-i l = length l.initial.numbers - l.i

@@ -1,5 +1,5 @@
 -- `write_rows` meets its contract. The invariant: the first i rows are drawn and written.
-use Rattle.std.proofs.Common.{ℕ, ◌+◌, ◌-◌, ◌*◌, ◌≤◌, length, get_or, sym, ap, ◌∙◌, subst, zero-mul, arith}
+use Rattle.std.proofs.Common.{ℕ, ◌+◌, ◌*◌, ◌≤◌, length, get_or, sym, ap, ◌∙◌, subst, zero-mul, arith}
 use Rattle.draws.specs.declared.Source.{Source}
 use Rattle.draws.specs.declared.Row.{Row}
 use Rattle.draws.specs.Rows.{row_by}
@@ -10,12 +10,12 @@ use Rattle.draws.proofs.Placing.{rows_more}
 use Rattle.draws.proofs.passes.write_rows.Goals as goal
 
 pub loop-i-init : goal.loop-i-init
-loop-i-init c =     let a = c.args in (
-      omega arith,
-      stop_none,
-      subst (λ (x : ℕ). Filled (entry_at a.moving a.members a.s) x (length a.rows.now) a.rows.now) (sym (zero-mul a.members))
-          (fill_none _),
-    )
+loop-i-init c = let a = c.args in (
+  omega arith,
+  stop_none,
+  subst (λ (x : ℕ). Filled (entry_at a.moving a.members a.s) x (length a.rows.now) a.rows.now) (sym (zero-mul a.members))
+      (fill_none _),
+)
 
 pub loop-i-preserved : goal.loop-i-preserved
 loop-i-preserved c =

@@ -5,7 +5,7 @@ use Rattle.draws.proofs.Filling.{Stopped, Filled}
 use Rattle.draws.proofs.passes.write_rows.Given as goal
 
 abbrev pub invariant-loop-i : goal.invariant-loop-i
-invariant-loop-i l =     (l.i ≤ l.count) × Stopped (go_down l.moving l.members) l.i l.initial.source l.source × Filled (entry_at l.moving l.members l.initial.source) (l.i * l.members) (length l.initial.rows) l.rows
+invariant-loop-i l = (l.i ≤ l.count) × Stopped (go_down l.moving l.members) l.i l.initial.source l.source × Filled (entry_at l.moving l.members l.initial.source) (l.i * l.members) (length l.initial.rows) l.rows
 
 abbrev pub decreases-loop-i : goal.decreases-loop-i
-decreases-loop-i l =  l.count - l.i
+decreases-loop-i l = l.count - l.i

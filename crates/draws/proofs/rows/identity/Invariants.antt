@@ -4,7 +4,7 @@ use Rattle.draws.specs.Rows.{is_identity}
 use Rattle.draws.proofs.rows.identity.Given as goal
 
 abbrev pub invariant-loop-k : goal.invariant-loop-k
-invariant-loop-k l =  (l.k ≤ l.members) × (l.same ≡ is_identity l.k l.row)
+invariant-loop-k l = (l.k ≤ l.members) × (l.same ≡ is_identity l.k l.row)
 
 abbrev pub decreases-loop-k : goal.decreases-loop-k
-decreases-loop-k l =  l.members - l.k
+decreases-loop-k l = l.members - l.k

@@ -4,7 +4,7 @@ use Rattle.draws.specs.Rows.{retried}
 use Rattle.draws.proofs.rows.moving_row.Given as goal
 
 abbrev pub invariant-loop-left : goal.invariant-loop-left
-invariant-loop-left l =  retried l.s l.left l.members l.source ≡ retried l.s l.budget l.members l.s
+invariant-loop-left l = retried l.s l.left l.members l.source ≡ retried l.s l.budget l.members l.s
 
 abbrev pub decreases-loop-left : goal.decreases-loop-left
-decreases-loop-left l =  l.left
+decreases-loop-left l = l.left

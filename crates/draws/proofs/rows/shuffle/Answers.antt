@@ -1,5 +1,5 @@
 -- `shuffle` meets its contract. The invariant: the places from i down, exchanged in the present row, make the permutation of the lent source.
-use Rattle.std.proofs.Common.{◌+◌, ◌-◌, ◌<◌, sym, ◌∙◌, subst, arith}
+use Rattle.std.proofs.Common.{◌+◌, ◌<◌, sym, ◌∙◌, subst, arith}
 use lib.Arith.{le-zero}
 use Rattle.draws.specs.declared.Drawn.{Drawn}
 use Rattle.draws.specs.Draw.{number}
@@ -9,7 +9,7 @@ use Rattle.draws.proofs.Shuffling.{place_refused, place_done}
 use Rattle.draws.proofs.rows.shuffle.Goals as goal
 
 pub returns-then-d-ne0 : goal.returns-then-d-ne0
-returns-then-d-ne0 c =     let h = c.loop-i in
+returns-then-d-ne0 c = let h = c.loop-i in
     c.refused_row.ensures
     ∙ (place_refused c.args.s h.row h.source h.i c.number-d.result c.loop-i-test.true c.number-d.ensures c.if-d-ne0.true
     ∙ h.invariant.1)
@@ -33,12 +33,12 @@ bounds-row-j-in-loop-i c =
     drawn-below
 
 pub loop-i-preserved : goal.loop-i-preserved
-loop-i-preserved c =     let h = c.loop-i in (
-      omega (arith, h.invariant.0),
-      place_done c.args.s h.row h.source h.i c.number-d.result c.loop-i-test.true c.number-d.ensures c.if-d-ne0.false
-          ∙ h.invariant.1,
-    )
+loop-i-preserved c = let h = c.loop-i in (
+  omega (arith, h.invariant.0),
+  place_done c.args.s h.row h.source h.i c.number-d.result c.loop-i-test.true c.number-d.ensures c.if-d-ne0.false
+      ∙ h.invariant.1,
+)
 
 pub returns : goal.returns
 unfolding shuffled
-returns c =  rw (le-zero c.loop-i-test.false) at c.loop-i.invariant.1
+returns c = rw (le-zero c.loop-i-test.false) at c.loop-i.invariant.1
