@@ -1,5 +1,5 @@
 -- `frame::fill::fill_bytes` meets its contract: what was passed is filled.
-use Prim.Native.Nat.{ℕ, ◌+◌, ◌-◌, ◌*◌, ◌≤◌}
+use Prim.Native.Nat.{ℕ, ◌+◌, ◌*◌, ◌≤◌}
 use mathlib.Core.Path.{◌≡◌, sym, ◌∙◌}
 use mathlib.Core.List.{List}
 use native.Mathlib.Omega.{arith}
@@ -20,7 +20,7 @@ overflow_add-at-in-loop-k c =
     omega (arith, fits)
 
 pub byte_at-requires : goal.byte_at-requires
-byte_at-requires c =  line_two 0x14 _ _ _ (omega arith) c.requires.frame _ c.loop-k-test.true
+byte_at-requires c = line_two 0x14 _ _ _ (omega arith) c.requires.frame _ c.loop-k-test.true
 
 pub loop-k-preserved : goal.loop-k-preserved
 loop-k-preserved c =

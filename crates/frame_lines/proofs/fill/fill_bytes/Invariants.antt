@@ -6,7 +6,7 @@ use Rattle.frame_lines.specs.Fill.{Filling}
 use Rattle.frame_lines.proofs.fill.fill_bytes.Given as goal
 
 abbrev pub invariant-loop-k : goal.invariant-loop-k
-invariant-loop-k l =  Filling (bytes (drop l.at l.text)) l.initial.perms l.count l.k l.perms
+invariant-loop-k l = Filling (bytes (drop l.at l.text)) l.initial.perms l.count l.k l.perms
 
 abbrev pub decreases-loop-k : goal.decreases-loop-k
-decreases-loop-k l =  l.count - l.k
+decreases-loop-k l = l.count - l.k

@@ -1,5 +1,5 @@
 -- `frame::fill::fill_spins` meets its contract: what was passed is filled.
-use Prim.Native.Nat.{◌+◌, ◌-◌, ◌*◌, ◌≤◌}
+use Prim.Native.Nat.{◌+◌, ◌*◌, ◌≤◌}
 use mathlib.Core.Path.{◌≡◌, ◌∙◌, ap}
 use mathlib.Core.List.{List, map}
 use native.Mathlib.Omega.{arith}
@@ -24,7 +24,7 @@ overflow_add-at-in-loop-k c =
     omega (arith, fits)
 
 pub byte_at-requires : goal.byte_at-requires
-byte_at-requires c =  line_two 0x11 _ _ _ (omega arith) c.requires.frame _ c.loop-k-test.true
+byte_at-requires c = line_two 0x11 _ _ _ (omega arith) c.requires.frame _ c.loop-k-test.true
 
 pub loop-k-preserved : goal.loop-k-preserved
 loop-k-preserved c =

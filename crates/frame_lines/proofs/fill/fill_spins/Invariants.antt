@@ -7,7 +7,7 @@ use Rattle.frame_lines.specs.Fill.{Filling}
 use Rattle.frame_lines.proofs.fill.fill_spins.Given as goal
 
 abbrev pub invariant-loop-k : goal.invariant-loop-k
-invariant-loop-k l =  Filling (map signed (bytes (drop l.at l.text))) l.initial.spins l.count l.k l.spins
+invariant-loop-k l = Filling (map signed (bytes (drop l.at l.text))) l.initial.spins l.count l.k l.spins
 
 abbrev pub decreases-loop-k : goal.decreases-loop-k
-decreases-loop-k l =  l.count - l.k
+decreases-loop-k l = l.count - l.k

@@ -1,5 +1,5 @@
 -- `frame::fill::fill_words` meets its contract: what was passed is filled.
-use Prim.Native.Nat.{ℕ, ◌-◌}
+use Prim.Native.Nat.{ℕ}
 use mathlib.Core.Path.{◌≡◌, ◌∙◌}
 use mathlib.Core.List.{List}
 use native.Mathlib.Omega.{arith}
@@ -10,7 +10,7 @@ use Rattle.frame_lines.specs.Fill.{filling_more, filled}
 use Rattle.frame_lines.proofs.fill.fill_words.Goals as goal
 
 pub word_at-requires : goal.word_at-requires
-word_at-requires c =  word_four 0x12 _ _ _ (omega arith) c.requires.frame _ c.loop-k-test.true
+word_at-requires c = word_four 0x12 _ _ _ (omega arith) c.requires.frame _ c.loop-k-test.true
 
 pub loop-k-preserved : goal.loop-k-preserved
 loop-k-preserved c =

@@ -6,7 +6,7 @@ use Rattle.frame_lines.specs.Fill.{Filling}
 use Rattle.frame_lines.proofs.fill.fill_words.Given as goal
 
 abbrev pub invariant-loop-k : goal.invariant-loop-k
-invariant-loop-k l =  Filling (words (bytes (drop l.at l.text))) l.initial.fwd l.count l.k l.fwd
+invariant-loop-k l = Filling (words (bytes (drop l.at l.text))) l.initial.fwd l.count l.k l.fwd
 
 abbrev pub decreases-loop-k : goal.decreases-loop-k
-decreases-loop-k l =  l.count - l.k
+decreases-loop-k l = l.count - l.k

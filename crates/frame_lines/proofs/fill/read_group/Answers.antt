@@ -1,5 +1,5 @@
 -- `frame::fill::read_group` meets its contract: what was passed is filled, and the rest stays nought.
-use Prim.Native.Nat.{ℕ, ◌+◌, ◌-◌, ◌*◌, ◌≤◌}
+use Prim.Native.Nat.{ℕ, ◌+◌, ◌*◌, ◌≤◌}
 use mathlib.Core.Path.{◌≡◌, sym, ◌∙◌}
 use mathlib.Core.List.{List}
 use native.Mathlib.Omega.{arith}
@@ -21,7 +21,7 @@ overflow_add-at-in-loop-k c =
     omega (arith, fits)
 
 pub byte_at-b-requires : goal.byte_at-b-requires
-byte_at-b-requires c =  line_two 0x13 _ _ _ (omega arith) c.requires.frame _ c.loop-k-test.true
+byte_at-b-requires c = line_two 0x13 _ _ _ (omega arith) c.requires.frame _ c.loop-k-test.true
 
 pub loop-k-preserved : goal.loop-k-preserved
 loop-k-preserved c =

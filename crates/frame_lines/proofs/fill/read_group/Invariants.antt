@@ -6,7 +6,7 @@ use Rattle.frame_lines.specs.Fill.{Filling}
 use Rattle.frame_lines.proofs.fill.read_group.Given as goal
 
 abbrev pub invariant-loop-k : goal.invariant-loop-k
-invariant-loop-k l =  Filling (bytes (drop l.at l.text)) (replicate 8 0) l.len l.k l.systems
+invariant-loop-k l = Filling (bytes (drop l.at l.text)) (replicate 8 0) l.len l.k l.systems
 
 abbrev pub decreases-loop-k : goal.decreases-loop-k
-decreases-loop-k l =  l.len - l.k
+decreases-loop-k l = l.len - l.k

@@ -34,5 +34,5 @@ returns-then-byte_at-tag c =
     λ s. c.if-byte_at-tag.true (c.byte_at.ensures ∙ (spelt s).tagged)
 
 pub returns : goal.returns
-returns c =     passed_line _ _ _ _ _ (search rules) c.digits_end-e.ensures (omega arith)
+returns c = passed_line _ _ _ _ _ (search rules) c.digits_end-e.ensures (omega arith)
     c.if-text-e-ne10.false (omega arith) (sym c.byte_at.ensures ∙ c.if-byte_at-tag.false)

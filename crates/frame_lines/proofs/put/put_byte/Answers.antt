@@ -3,4 +3,4 @@ use Rattle.frame_lines.specs.Writing.{two_digits}
 use Rattle.frame_lines.proofs.put.put_byte.Goals as goal
 
 pub returns : goal.returns
-returns c =  two_digits _ _ _ _ _ c.digit_of.ensures c.digit_of-2.ensures
+returns c = two_digits _ _ _ _ _ c.digit_of.ensures c.digit_of-2.ensures

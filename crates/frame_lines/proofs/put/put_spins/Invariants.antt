@@ -7,7 +7,7 @@ use Rattle.frame_lines.specs.Writing.{Hexing}
 use Rattle.frame_lines.proofs.put.put_spins.Given as goal
 
 abbrev pub invariant-loop-k : goal.invariant-loop-k
-invariant-loop-k l =  Hexing (map spin_byte l.xs) l.initial.out (l.at + 2) l.k l.out
+invariant-loop-k l = Hexing (map spin_byte l.xs) l.initial.out (l.at + 2) l.k l.out
 
 abbrev pub decreases-loop-k : goal.decreases-loop-k
-decreases-loop-k l =  length l.xs - l.k
+decreases-loop-k l = length l.xs - l.k

@@ -1,5 +1,5 @@
 -- `frame::put::put_words` meets its contract: two bytes a turn.
-use Prim.Native.Nat.{ℕ, ◌+◌, ◌-◌, ◌*◌, ◌≤◌}
+use Prim.Native.Nat.{ℕ, ◌+◌, ◌*◌, ◌≤◌}
 use mathlib.Core.Path.{◌≡◌, sym, ◌∙◌, ap}
 use mathlib.Core.List.{List, [], ◌∷◌}
 use native.Mathlib.Omega.{arith}
@@ -16,7 +16,7 @@ put_byte-requires c =
     omega (arith, enough)
 
 pub loop-k-init : goal.loop-k-init
-loop-k-init c =  hexing_none _ _ _
+loop-k-init c = hexing_none _ _ _
 
 pub put_word-requires : goal.put_word-requires
 put_word-requires c =
