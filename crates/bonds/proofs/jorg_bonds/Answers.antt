@@ -8,7 +8,7 @@ use Rattle.bonds.proofs.Rows.{marking_more, marking_skip}
 use Rattle.bonds.proofs.jorg_bonds.Goals as goal
 
 pub loop-i-preserved : goal.loop-i-preserved
-loop-i-preserved c =     let l = c.loop-i in
+loop-i-preserved c = let l = c.loop-i in
     let a = c.args in
     let f = jorg_at a.d a.fwd.now a.couplings.now a.cuts.now a.group.len a.sampler a.acts.now a.cols.now in (
       omega arith,

@@ -10,7 +10,7 @@ use Rattle.bonds.proofs.Pairs.{past}
 use Rattle.bonds.proofs.pair_sum.Given as goal
 
 abbrev pub invariant-loop-k : goal.invariant-loop-k
-invariant-loop-k l =  (l.k ≤ l.pairs) × (l.total ≡ of_z w32 (sum l.k (pair_term (shown l.a) (shown l.b)))) × (l.x ≡ past l.a l.k) × (l.y ≡ past l.b l.k)
+invariant-loop-k l = (l.k ≤ l.pairs) × (l.total ≡ of_z w32 (sum l.k (pair_term (shown l.a) (shown l.b)))) × (l.x ≡ past l.a l.k) × (l.y ≡ past l.b l.k)
 
 abbrev pub decreases-loop-k : goal.decreases-loop-k
-decreases-loop-k l =  l.pairs - l.k
+decreases-loop-k l = l.pairs - l.k

@@ -5,7 +5,7 @@ use Rattle.choose.proofs.Back.{Back}
 use Rattle.choose.proofs.clear_held.Given as goal
 
 abbrev pub invariant-loop-i : goal.invariant-loop-i
-invariant-loop-i l =  Back l.pins l.labels l.initial.tally l.i l.tally
+invariant-loop-i l = Back l.pins l.labels l.initial.tally l.i l.tally
 
 abbrev pub decreases-loop-i : goal.decreases-loop-i
-decreases-loop-i l =  length l.pins - l.i
+decreases-loop-i l = length l.pins - l.i

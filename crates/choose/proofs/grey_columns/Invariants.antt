@@ -6,7 +6,7 @@ use Rattle.choose.specs.Chosen.{greyed_at}
 use Rattle.choose.proofs.grey_columns.Given as goal
 
 abbrev pub invariant-loop-i : goal.invariant-loop-i
-invariant-loop-i l =  Filled 0 (greyed_at l.form l.reached l.labels l.greys l.initial.cols) l.i l.initial.cols l.cols
+invariant-loop-i l = Filled 0 (greyed_at l.form l.reached l.labels l.greys l.initial.cols) l.i l.initial.cols l.cols
 
 abbrev pub decreases-loop-i : goal.decreases-loop-i
-decreases-loop-i l =  length l.initial.cols - l.i
+decreases-loop-i l = length l.initial.cols - l.i

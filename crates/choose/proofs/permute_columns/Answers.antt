@@ -1,7 +1,6 @@
 -- `choose::permute_columns` meets its contract. The invariant: the columns below i are new, the others are old.
 use Prim.Native.Nat.{ℕ, ◌+◌, ◌*◌, ◌≤◌, ◌-◌}
 use mathlib.Core.Path.{◌≡◌}
-use mathlib.Core.Logic.{⊎_elim}
 use native.Mathlib.Omega.{arith}
 use lib.ListN.{length, get_or}
 use Rattle.lemmas.specs.Stores.{filled_more, filled_skip}
@@ -9,6 +8,7 @@ use Rattle.paper.specs.Panel.Takes.{entry}
 use Rattle.choose.proofs.Entries.{row_fits}
 use Rattle.choose.proofs.Row.{row_at, moved, kept}
 use Rattle.choose.proofs.permute_columns.Goals as goal
+use Rattle.choose.proofs.permute_columns.Goals.{then-reached-i-eq1, else-reached-i-eq1}
 
 pub loop-i-preserved : goal.loop-i-preserved
 loop-i-preserved c =
@@ -18,16 +18,17 @@ loop-i-preserved c =
     let a = c.args in
     let l = c.loop-i in
     let m = a.group.len in
-    ⊎_elim
-    (λ w. let e = row_at a.form _ m w.2.ensures w.3.ensures in
-    rw w.7
-    (filled_more l.invariant c.loop-i-test.true
-    (moved a.form m a.gauge a.reached.now a.labels.now a.perms.now a.cols.now l.i _ _ w.6.result
-    w.0.taken
-    e
-    same
-    (omega (arith, e, within))
-    w.6.ensures)))
-    (λ w. rw w.1
-    (filled_skip l.invariant (kept a.form m a.gauge a.reached.now a.labels.now a.perms.now a.cols.now l.i w.0.left)))
-    c.if-reached-i-eq1.branch
+    elim c.if-reached-i-eq1.branch [
+      | then-reached-i-eq1 w ↦
+          let e = row_at a.form _ m w.wide.ensures w.entry_of.ensures in
+          rw w.cols-is
+          (filled_more l.invariant c.loop-i-test.true
+          (moved a.form m a.gauge a.reached.now a.labels.now a.perms.now a.cols.now l.i _ _ w.permute_group_site.result
+          w.if-reached-i-eq1.true
+          e
+          same
+          (omega (arith, e, within))
+          w.permute_group_site.ensures))
+      | else-reached-i-eq1 w ↦ rw w.cols-is
+          (filled_skip l.invariant (kept a.form m a.gauge a.reached.now a.labels.now a.perms.now a.cols.now l.i w.if-reached-i-eq1.false))
+    ]

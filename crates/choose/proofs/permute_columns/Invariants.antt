@@ -6,7 +6,7 @@ use Rattle.choose.specs.Chosen.{permuted_at}
 use Rattle.choose.proofs.permute_columns.Given as goal
 
 abbrev pub invariant-loop-i : goal.invariant-loop-i
-invariant-loop-i l =     Filled 0 (permuted_at l.form l.group.len l.gauge l.reached l.labels l.perms l.initial.cols) l.i l.initial.cols l.cols
+invariant-loop-i l = Filled 0 (permuted_at l.form l.group.len l.gauge l.reached l.labels l.perms l.initial.cols) l.i l.initial.cols l.cols
 
 abbrev pub decreases-loop-i : goal.decreases-loop-i
-decreases-loop-i l =  length l.initial.cols - l.i
+decreases-loop-i l = length l.initial.cols - l.i

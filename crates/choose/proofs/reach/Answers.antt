@@ -6,7 +6,7 @@ use Rattle.choose.proofs.Tested.{all_reached}
 use Rattle.choose.proofs.reach.Goals as goal
 
 pub returns : goal.returns
-returns c =     let l = c.loop-i in
+returns c = let l = c.loop-i in
     let a = c.args in
     all_reached a.form a.mode a.seed a.acts.now a.labels.now a.tally.now a.reached.now l.reached _ _
     c.requires

@@ -7,7 +7,7 @@ use Rattle.choose.proofs.Tallied.{tally_none, tally_most, tally_more, tally_end}
 use Rattle.choose.proofs.tally_labels.Goals as goal
 
 pub loop-i-init : goal.loop-i-init
-loop-i-init c =  tally_none _ c.clear.ensures c.requires.holdable.tallied
+loop-i-init c = tally_none _ c.clear.ensures c.requires.holdable.tallied
 
 pub overflow_add-tally : goal.overflow_add-tally
 overflow_add-tally c =
@@ -22,4 +22,4 @@ loop-i-preserved c =
     tally_more _ c.loop-i.invariant c.loop-i-test.true c.wide-label.ensures place refl
 
 pub returns : goal.returns
-returns c =  tally_end _ c.loop-i.invariant c.loop-i-test.false
+returns c = tally_end _ c.loop-i.invariant c.loop-i-test.false

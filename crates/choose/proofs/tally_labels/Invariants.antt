@@ -5,7 +5,7 @@ use Rattle.choose.proofs.Tallied.{Tally}
 use Rattle.choose.proofs.tally_labels.Given as goal
 
 abbrev pub invariant-loop-i : goal.invariant-loop-i
-invariant-loop-i l =  Tally l.labels l.i l.tally
+invariant-loop-i l = Tally l.labels l.i l.tally
 
 abbrev pub decreases-loop-i : goal.decreases-loop-i
-decreases-loop-i l =  length l.labels - l.i
+decreases-loop-i l = length l.labels - l.i

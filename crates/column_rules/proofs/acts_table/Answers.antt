@@ -4,4 +4,4 @@ use Rattle.column_rules.proofs.Bytes.{filling_none}
 use Rattle.column_rules.proofs.acts_table.Goals as goal
 
 pub loop-x-init : goal.loop-x-init
-loop-x-init c =  filling_none c.args.group.len _ c.requires.few
+loop-x-init c = filling_none c.args.group.len _ c.requires.few

@@ -5,7 +5,7 @@ use Rattle.column_rules.proofs.Bytes.{Filling}
 use Rattle.column_rules.proofs.acts_table.Given as goal
 
 abbrev pub invariant-loop-x : goal.invariant-loop-x
-invariant-loop-x l =  Filling l.len l.end l.x (acts_entry l.mode l.len) l.initial.table l.table
+invariant-loop-x l = Filling l.len l.end l.x (acts_entry l.mode l.len) l.initial.table l.table
 
 abbrev pub decreases-loop-x : goal.decreases-loop-x
-decreases-loop-x l =  l.end - l.x
+decreases-loop-x l = l.end - l.x

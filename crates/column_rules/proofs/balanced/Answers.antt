@@ -7,4 +7,4 @@ use Rattle.column_rules.proofs.Bits.{houd_low}
 use Rattle.column_rules.proofs.balanced.Goals as goal
 
 pub returns : goal.returns
-returns c =     (λ i. eqb (2 * ones (c.low.ensures i)) c.args.len) ∙ houd_low c.args.len c.args.column
+returns c = (λ i. eqb (2 * ones (c.low.ensures i)) c.args.len) ∙ houd_low c.args.len c.args.column

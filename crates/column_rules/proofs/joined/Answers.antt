@@ -10,7 +10,7 @@ use Rattle.column_rules.proofs.Flips.{low_le, joined_low}
 use Rattle.column_rules.proofs.joined.Goals as goal
 
 pub overflow_sub-result : goal.overflow_sub-result
-overflow_sub-result c =     omega (arith, low_le c.args.first c.args.column c.args.count c.args.len c.requires.count_le_len, c.low-2.ensures, c.low-3.ensures)
+overflow_sub-result c = omega (arith, low_le c.args.first c.args.column c.args.count c.args.len c.requires.count_le_len, c.low-2.ensures, c.low-3.ensures)
 
 pub overflow_add-result : goal.overflow_add-result
 overflow_add-result c =

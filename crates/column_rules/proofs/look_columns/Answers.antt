@@ -5,7 +5,7 @@ use Rattle.column_rules.specs.Laws.{looked_flags, looked_tells}
 use Rattle.column_rules.proofs.look_columns.Goals as goal
 
 pub returns : goal.returns
-returns c =     let a = c.args in
+returns c = let a = c.args in
     record {
       flagged = λ f w.
           looked_flags a.mode a.group.len _ (f a.reference) f c.requires.size_low (λ e k l. w.spins a.reference k (c.requires.reference e) l)

@@ -6,7 +6,7 @@ use Rattle.forest.proofs.Lists.{Gather}
 use Rattle.forest.proofs.gather.Given as goal
 
 abbrev pub invariant-loop-i : goal.invariant-loop-i
-invariant-loop-i l =  Gather (λ x. marked l.d l.holds x l.k) l.lo l.hi l.d l.k (length l.initial.list) l.list l.len l.at l.i
+invariant-loop-i l = Gather (λ x. marked l.d l.holds x l.k) l.lo l.hi l.d l.k (length l.initial.list) l.list l.len l.at l.i
 
 abbrev pub decreases-loop-i : goal.decreases-loop-i
-decreases-loop-i l =  l.hi - l.i
+decreases-loop-i l = l.hi - l.i

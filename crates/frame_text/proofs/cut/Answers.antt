@@ -7,10 +7,10 @@ use borrow.Author.Rules.{rules}
 use Rattle.frame_text.proofs.cut.Goals as goal
 
 pub returns-then-start-gt-HEAD : goal.returns-then-start-gt-HEAD
-returns-then-start-gt-HEAD c =     late c.args.buffer.now _ c.line_start-start.ensures c.args.n (omega arith) c.if-start-gt-HEAD.true
+returns-then-start-gt-HEAD c = late c.args.buffer.now _ c.line_start-start.ensures c.args.n (omega arith) c.if-start-gt-HEAD.true
 
 pub returns-then-digits_end-room : goal.returns-then-digits_end-room
-returns-then-digits_end-room c =     broken_off c.args.buffer.now _ c.line_start-start.ensures _ c.digits_end.ensures c.args.n (omega arith) c.if-digits_end-room.true
+returns-then-digits_end-room c = broken_off c.args.buffer.now _ c.line_start-start.ensures _ c.digits_end.ensures c.args.n (omega arith) c.if-digits_end-room.true
 
 pub returns : goal.returns
 returns c =

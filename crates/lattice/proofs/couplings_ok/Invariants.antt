@@ -6,7 +6,7 @@ use Rattle.lemmas.specs.Tells.{Flagged}
 use Rattle.lattice.proofs.couplings_ok.Given as goal
 
 abbrev pub invariant-loop-i : goal.invariant-loop-i
-invariant-loop-i l =  Flagged (length l.js) (λ k. nat_abs (get_or l.js k (pos 0)) ≤ 1000000) l.i l.ok
+invariant-loop-i l = Flagged (length l.js) (λ k. nat_abs (get_or l.js k (pos 0)) ≤ 1000000) l.i l.ok
 
 abbrev pub decreases-loop-i : goal.decreases-loop-i
-decreases-loop-i l =  length l.js - l.i
+decreases-loop-i l = length l.js - l.i

@@ -5,4 +5,4 @@ use Rattle.lattice.proofs.cut_ok.Goals as goal
 
 pub returns : goal.returns
 unfolding of_bits of_int div
-returns c =  meaning c.args.x
+returns c = meaning c.args.x

@@ -6,7 +6,7 @@ use Rattle.lemmas.specs.Tells.{Flagged}
 use Rattle.lattice.proofs.fresh.Given as goal
 
 abbrev pub invariant-loop-j : goal.invariant-loop-j
-invariant-loop-j l =  Flagged l.k (λ j. get_or l.systems j 0 ≡ l.x → ⊥) l.j l.ok
+invariant-loop-j l = Flagged l.k (λ j. get_or l.systems j 0 ≡ l.x → ⊥) l.j l.ok
 
 abbrev pub decreases-loop-j : goal.decreases-loop-j
-decreases-loop-j l =  l.k - l.j
+decreases-loop-j l = l.k - l.j

@@ -6,7 +6,7 @@ use Rattle.lattice.specs.Groups.{Alone}
 use Rattle.lattice.proofs.group_ok.Given as goal
 
 abbrev pub invariant-loop-k : goal.invariant-loop-k
-invariant-loop-k l =  Flagged l.len (Alone l.s (member l.group)) l.k l.ok
+invariant-loop-k l = Flagged l.len (Alone l.s (member l.group)) l.k l.ok
 
 abbrev pub decreases-loop-k : goal.decreases-loop-k
-decreases-loop-k l =  l.len - l.k
+decreases-loop-k l = l.len - l.k

@@ -5,7 +5,7 @@ use Rattle.lattice.proofs.Moved.{Moving}
 use Rattle.lattice.proofs.not_identity.Given as goal
 
 abbrev pub invariant-loop-k : goal.invariant-loop-k
-invariant-loop-k l =  Moving (length l.row) (λ k. get_or l.row k 0) l.k l.moved
+invariant-loop-k l = Moving (length l.row) (λ k. get_or l.row k 0) l.k l.moved
 
 abbrev pub decreases-loop-k : goal.decreases-loop-k
-decreases-loop-k l =  length l.row - l.k
+decreases-loop-k l = length l.row - l.k

@@ -7,7 +7,7 @@ use Rattle.lattice.specs.Groups.{alone_free}
 use Rattle.lattice.proofs.order_ok.Goals as goal
 
 pub loop-k-preserved : goal.loop-k-preserved
-loop-k-preserved c =     let i = c.loop-k.invariant in
+loop-k-preserved c = let i = c.loop-k.invariant in
     let here = c.loop-k-test.true in
     record {
       flag = flag_more i.flag here (alone_free i.marked (said c.free_below-ok.result _ (rw c.wide-x.ensures at c.free_below-ok.ensures)));

@@ -6,7 +6,7 @@ use Rattle.lattice.specs.Marking.{row_at}
 use Rattle.lattice.proofs.rows_full.Given as goal
 
 abbrev pub invariant-loop-r : goal.invariant-loop-r
-invariant-loop-r l =  Flagged l.rows (λ r. Permutes l.m (row_at l.m l.perms r)) l.r l.ok
+invariant-loop-r l = Flagged l.rows (λ r. Permutes l.m (row_at l.m l.perms r)) l.r l.ok
 
 abbrev pub decreases-loop-r : goal.decreases-loop-r
-decreases-loop-r l =  l.rows - l.r
+decreases-loop-r l = l.rows - l.r

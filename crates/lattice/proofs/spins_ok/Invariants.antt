@@ -7,7 +7,7 @@ use Rattle.paper.specs.Refusal.Rules.{Spin}
 use Rattle.lattice.proofs.spins_ok.Given as goal
 
 abbrev pub invariant-loop-i : goal.invariant-loop-i
-invariant-loop-i l =  Flagged (length l.spins) (λ k. Spin (get_or l.spins k (pos 0))) l.i l.ok
+invariant-loop-i l = Flagged (length l.spins) (λ k. Spin (get_or l.spins k (pos 0))) l.i l.ok
 
 abbrev pub decreases-loop-i : goal.decreases-loop-i
-decreases-loop-i l =  length l.spins - l.i
+decreases-loop-i l = length l.spins - l.i

@@ -7,4 +7,4 @@ use Rattle.lattice.proofs.temperature_ok.Goals as goal
 
 pub returns : goal.returns
 unfolding of_bits of_int div
-returns c =  (test_is (le (div binary32 (whole 1) (whole 1024)) c.args.t && le c.args.t (whole 1048576))).says
+returns c = (test_is (le (div binary32 (whole 1) (whole 1024)) c.args.t && le c.args.t (whole 1048576))).says

@@ -7,7 +7,7 @@ use Rattle.paper.specs.Refusal.Rules.{Warm}
 use Rattle.lattice.proofs.temperatures_ok.Given as goal
 
 abbrev pub invariant-loop-i : goal.invariant-loop-i
-invariant-loop-i l =  Flagged (length l.ts) (λ k. Warm (get_or l.ts k nan)) l.i l.ok
+invariant-loop-i l = Flagged (length l.ts) (λ k. Warm (get_or l.ts k nan)) l.i l.ok
 
 abbrev pub decreases-loop-i : goal.decreases-loop-i
-decreases-loop-i l =  length l.ts - l.i
+decreases-loop-i l = length l.ts - l.i

@@ -6,7 +6,7 @@ use Rattle.neighbours.specs.Backward.{led_inverse}
 use Rattle.neighbours.proofs.backward.Goals as goal
 
 pub returns : goal.returns
-returns c =     let filled = c.lead_all_back.ensures in
+returns c = let filled = c.lead_all_back.ensures in
     record {
       none = λ w v. denied c.if-tables_ok.false c.tables_ok.ensures (led_inverse filled w v);
       long = omega (arith, c.clear.auto.xs, filled.long);

@@ -9,7 +9,7 @@ pub record Leading (n d : ℕ) (fwd bwd : List ℕ) (i : ℕ) : Type 0 where
   pub so_far : Led n d fwd (i * d) bwd
 
 abbrev pub invariant-loop-i : goal.invariant-loop-i
-invariant-loop-i l =  Leading l.n l.d l.fwd l.bwd l.i
+invariant-loop-i l = Leading l.n l.d l.fwd l.bwd l.i
 
 abbrev pub decreases-loop-i : goal.decreases-loop-i
-decreases-loop-i l =  l.n - l.i
+decreases-loop-i l = l.n - l.i

@@ -9,7 +9,7 @@ pub record Leading (n d : ℕ) (fwd : List ℕ) (i : ℕ) (bwd : List ℕ) (e : 
   pub so_far : Led n d fwd (i * d + e) bwd
 
 abbrev pub invariant-loop-e : goal.invariant-loop-e
-invariant-loop-e l =  Leading l.n l.d l.fwd l.i l.bwd l.e
+invariant-loop-e l = Leading l.n l.d l.fwd l.i l.bwd l.e
 
 abbrev pub decreases-loop-e : goal.decreases-loop-e
-decreases-loop-e l =  l.d - l.e
+decreases-loop-e l = l.d - l.e

@@ -5,7 +5,7 @@ use Rattle.paper.specs.Refusal.Rules.{Back}
 use Rattle.neighbours.proofs.site_ok.Given as goal
 
 abbrev pub invariant-loop-e : goal.invariant-loop-e
-invariant-loop-e l =  Flagged l.d (λ e. Back l.n l.d l.a l.b l.i e) l.e l.ok
+invariant-loop-e l = Flagged l.d (λ e. Back l.n l.d l.a l.b l.i e) l.e l.ok
 
 abbrev pub decreases-loop-e : goal.decreases-loop-e
-decreases-loop-e l =  l.d - l.e
+decreases-loop-e l = l.d - l.e

@@ -6,7 +6,7 @@ use Rattle.neighbours.specs.Tables.{inverse_of}
 use Rattle.neighbours.proofs.tables_ok.Goals as goal
 
 pub returns : goal.returns
-returns c =     let a = c.args in
+returns c = let a = c.args in
     let all = said c.loop-i.ok _ (flag_end c.loop-i.invariant c.loop-i-test.false) in
     (same (Inverse a.n a.d a.fwd.now a.bwd.now)
     (λ h. inverse_of a.n a.d a.fwd.now a.bwd.now (λ i e l he. h i l e he))

@@ -5,7 +5,7 @@ use Rattle.paper.specs.Refusal.Rules.{Back}
 use Rattle.neighbours.proofs.tables_ok.Given as goal
 
 abbrev pub invariant-loop-i : goal.invariant-loop-i
-invariant-loop-i l =  Flagged l.n (λ i. Each l.d (λ e. Back l.n l.d l.fwd l.bwd i e)) l.i l.ok
+invariant-loop-i l = Flagged l.n (λ i. Each l.d (λ e. Back l.n l.d l.fwd l.bwd i e)) l.i l.ok
 
 abbrev pub decreases-loop-i : goal.decreases-loop-i
-decreases-loop-i l =  l.n - l.i
+decreases-loop-i l = l.n - l.i

@@ -8,7 +8,7 @@ use Rattle.sizes.proofs.Reports.{found_le, found_as, marking, part_long, histogr
 use Rattle.sizes.proofs.count.Goals as goal
 
 pub component_marks-requires : goal.component_marks-requires
-component_marks-requires c =  marking c.requires
+component_marks-requires c = marking c.requires
 
 pub gather_sizes-s-requires : goal.gather_sizes-s-requires
 gather_sizes-s-requires c =

@@ -7,7 +7,7 @@ use Rattle.sizes.proofs.Tallies.{bins_none, bin_fits, bins_more}
 use Rattle.sizes.proofs.uf_histogram.Goals as goal
 
 pub loop-i-init : goal.loop-i-init
-loop-i-init c =  bins_none _ _ _ _ (rw (← c.start_counts.ensures.long) at c.start_counts.ensures)
+loop-i-init c = bins_none _ _ _ _ (rw (← c.start_counts.ensures.long) at c.start_counts.ensures)
 
 pub overflow_add-counts : goal.overflow_add-counts
 overflow_add-counts c =

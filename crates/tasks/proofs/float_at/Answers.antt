@@ -6,4 +6,4 @@ use Rattle.tasks.proofs.float_at.Goals as goal
 
 pub returns-else-k-xs : goal.returns-else-k-xs
 unfolding div of_bits
-returns-else-k-xs c =  sym (get_or-eq_default c.args.xs.now nan c.if-k-xs.false)
+returns-else-k-xs c = sym (get_or-eq_default c.args.xs.now nan c.if-k-xs.false)

@@ -23,7 +23,7 @@ overflow_add-base c =
 
 pub loop-x-init : goal.loop-x-init
 unfolding table
-loop-x-init c =  (search rules, filled_none _ _ _)
+loop-x-init c = (search rules, filled_none _ _ _)
 
 pub overflow_add-base-in-loop-x : goal.overflow_add-base-in-loop-x
 overflow_add-base-in-loop-x c =
@@ -46,6 +46,6 @@ loop-x-preserved c =
     (omega (arith, c.loop-x-test.true), filled_more c.loop-x.invariant.1 (omega (arith, below, length_table 8 (λ k. 0))) c.wide.ensures)
 
 pub returns : goal.returns
-returns c =     let m = c.args.plan.members in
+returns c = let m = c.args.plan.members in
     let e : c.loop-x.x ≡ m = le_antisymm c.loop-x.invariant.0 c.loop-x-test.false in
     ap (λ (z : List ℕ). group m z) (rw e at (fill_done c.loop-x.invariant.1))

@@ -6,7 +6,7 @@ use Rattle.tasks.proofs.Filling.{blank}
 use Rattle.tasks.proofs.task_group.Given as goal
 
 abbrev pub invariant-loop-x : goal.invariant-loop-x
-invariant-loop-x l =  (l.x ≤ l.members) × Filled 0 (λ y. get_or l.order (l.base + y) 0) l.x blank l.systems
+invariant-loop-x l = (l.x ≤ l.members) × Filled 0 (λ y. get_or l.order (l.base + y) 0) l.x blank l.systems
 
 abbrev pub decreases-loop-x : goal.decreases-loop-x
-decreases-loop-x l =  l.members - l.x
+decreases-loop-x l = l.members - l.x

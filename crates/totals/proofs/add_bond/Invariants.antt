@@ -9,7 +9,7 @@ use Rattle.totals.specs.Gain.{bit_gain}
 use Rattle.totals.proofs.add_bond.Given as goal
 
 abbrev pub invariant-loop-k : goal.invariant-loop-k
-invariant-loop-k l =  (l.k ≤ l.len) × Filled (pos 0) (λ i. get_or l.initial.sums i (pos 0) +ℤ bit_gain (to_z w32 l.j) l.x l.y i) l.k l.initial.sums l.sums
+invariant-loop-k l = (l.k ≤ l.len) × Filled (pos 0) (λ i. get_or l.initial.sums i (pos 0) +ℤ bit_gain (to_z w32 l.j) l.x l.y i) l.k l.initial.sums l.sums
 
 abbrev pub decreases-loop-k : goal.decreases-loop-k
-decreases-loop-k l =  l.len - l.k
+decreases-loop-k l = l.len - l.k

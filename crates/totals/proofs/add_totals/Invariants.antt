@@ -4,7 +4,7 @@ use Rattle.totals.specs.Contract.{Paid}
 use Rattle.totals.proofs.add_totals.Given as goal
 
 abbrev pub invariant-loop-k : goal.invariant-loop-k
-invariant-loop-k l =  (l.k ≤ l.members) × Paid l.k l.group l.sums l.initial.totals l.totals
+invariant-loop-k l = (l.k ≤ l.members) × Paid l.k l.group l.sums l.initial.totals l.totals
 
 abbrev pub decreases-loop-k : goal.decreases-loop-k
-decreases-loop-k l =  l.members - l.k
+decreases-loop-k l = l.members - l.k

@@ -7,7 +7,7 @@ use Rattle.totals.proofs.Site.{sites_small}
 use Rattle.totals.proofs.change_all.Goals as goal
 
 pub loop-i-init : goal.loop-i-init
-loop-i-init c =  (omega arith, added_none _)
+loop-i-init c = (omega arith, added_none _)
 
 pub change_site-requires : goal.change_site-requires
 change_site-requires c =

@@ -10,13 +10,13 @@ use Rattle.totals.proofs.Sums.{added_as}
 use Rattle.totals.proofs.change_bond.Goals as goal
 
 pub returns-then-x-y : goal.returns-then-x-y
-returns-then-x-y c =     let a = c.args in
+returns-then-x-y c = let a = c.args in
     added_as c.add_bond.ensures
     (λ k l. ap (λ (z : ℤ). bit_gain z (bit_xor a.a a.b) (bit_xor a.a2 a.b2) k) (reads (given c.ranges.j))
     ∙ sym (bits_gain a.j a.a a.a2 a.b a.b2 k))
 
 pub returns-else-x-y : goal.returns-else-x-y
-returns-else-x-y c =     let a = c.args in
+returns-else-x-y c = let a = c.args in
     record {
       long = refl;
       each = λ k l. sym

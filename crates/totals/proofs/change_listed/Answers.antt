@@ -9,7 +9,7 @@ use Rattle.totals.proofs.Site.{listed_small}
 use Rattle.totals.proofs.change_listed.Goals as goal
 
 pub loop-a-init : goal.loop-a-init
-loop-a-init c =  (omega arith, added_none _)
+loop-a-init c = (omega arith, added_none _)
 
 pub change_site-requires : goal.change_site-requires
 change_site-requires c =
@@ -26,8 +26,7 @@ change_site-requires c =
 pub loop-a-preserved : goal.loop-a-preserved
 loop-a-preserved c =
     let w : Change = change_of s.args.d s.args.fwd.now s.args.bwd.now s.args.couplings.now s.args.olds.now s.args.news.now in
-    let term : ℕ → ℕ → ℤ = λ k b. site_gain w k (at_site s.args.list.now b) in
-    (
+    let term : ℕ → ℕ → ℤ = λ k b. site_gain w k (at_site s.args.list.now b) in (
       omega (arith, c.loop-a-test.true),
       added_more term c.loop-a.invariant.1
           (added_as c.change_site.ensures (λ k h. ap (λ (i : ℕ). site_gain w k i) c.wide-i.ensures)),

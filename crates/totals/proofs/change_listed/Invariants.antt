@@ -6,7 +6,7 @@ use Rattle.totals.proofs.Sums.{noughts}
 use Rattle.totals.proofs.change_listed.Given as goal
 
 abbrev pub invariant-loop-a : goal.invariant-loop-a
-invariant-loop-a l =     (l.a ≤ l.listed) × Added l.len (λ k. sum l.a (λ b. site_gain (change_of l.d l.fwd l.bwd l.couplings l.olds l.news) k (at_site l.list b))) noughts l.sums
+invariant-loop-a l = (l.a ≤ l.listed) × Added l.len (λ k. sum l.a (λ b. site_gain (change_of l.d l.fwd l.bwd l.couplings l.olds l.news) k (at_site l.list b))) noughts l.sums
 
 abbrev pub decreases-loop-a : goal.decreases-loop-a
-decreases-loop-a l =  l.listed - l.a
+decreases-loop-a l = l.listed - l.a

@@ -8,7 +8,7 @@ use Rattle.totals.proofs.Site.{turn_gain, cell, to_ends, from_ends, turn_by, at_
 use Rattle.totals.proofs.change_site.Goals as goal
 
 pub loop-e-init : goal.loop-e-init
-loop-e-init c =  (omega arith, added_none _)
+loop-e-init c = (omega arith, added_none _)
 
 pub bond_at-requires : goal.bond_at-requires
 bond_at-requires c =
@@ -32,8 +32,7 @@ still_at-requires c =
 pub loop-e-preserved : goal.loop-e-preserved
 loop-e-preserved c =
     let e : ℕ = c.loop-e.e in
-    let w : Change = change_of s.args.d s.args.fwd.now s.args.bwd.now s.args.couplings.now s.args.olds.now s.args.news.now in
-    (
+    let w : Change = change_of s.args.d s.args.fwd.now s.args.bwd.now s.args.couplings.now s.args.olds.now s.args.news.now in (
       omega (arith, c.loop-e-test.true),
       added_more (turn_gain w c.args.i) c.loop-e.invariant.1
           (added_as (added_both c.bond_at.ensures c.still_at.ensures)

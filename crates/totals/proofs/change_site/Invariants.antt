@@ -6,7 +6,7 @@ use Rattle.totals.proofs.Site.{turn_gain}
 use Rattle.totals.proofs.change_site.Given as goal
 
 abbrev pub invariant-loop-e : goal.invariant-loop-e
-invariant-loop-e l =     (l.e ≤ l.d) × Added l.len (λ k. sum l.e (turn_gain (change_of l.d l.fwd l.bwd l.couplings l.olds l.news) l.i k)) l.initial.sums l.sums
+invariant-loop-e l = (l.e ≤ l.d) × Added l.len (λ k. sum l.e (turn_gain (change_of l.d l.fwd l.bwd l.couplings l.olds l.news) l.i k)) l.initial.sums l.sums
 
 abbrev pub decreases-loop-e : goal.decreases-loop-e
-decreases-loop-e l =  l.d - l.e
+decreases-loop-e l = l.d - l.e

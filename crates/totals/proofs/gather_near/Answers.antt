@@ -5,8 +5,8 @@ use Rattle.totals.proofs.Gathered.{gathered_as, gathered_both, near_more}
 use Rattle.totals.proofs.gather_near.Goals as goal
 
 pub loop-e-preserved : goal.loop-e-preserved
-loop-e-preserved c =     (
-      omega (arith, c.loop-e-test.true),
-      gathered_as (gathered_both (gathered_both c.loop-e.invariant.1 c.gather_one.ensures) c.gather_one-in-loop-e.ensures)
-          (near_more c.wide-to.ensures c.wide-from.ensures),
-    )
+loop-e-preserved c = (
+  omega (arith, c.loop-e-test.true),
+  gathered_as (gathered_both (gathered_both c.loop-e.invariant.1 c.gather_one.ensures) c.gather_one-in-loop-e.ensures)
+      (near_more c.wide-to.ensures c.wide-from.ensures),
+)

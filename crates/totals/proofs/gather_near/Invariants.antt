@@ -4,7 +4,7 @@ use Rattle.totals.specs.Listed.{Near, columns_by, Gathered}
 use Rattle.totals.proofs.gather_near.Given as goal
 
 abbrev pub invariant-loop-e : goal.invariant-loop-e
-invariant-loop-e l =     (l.e ≤ l.d) × Gathered l.n l.members (columns_by l.n l.group l.spins) (Near l.d l.fwd l.bwd l.i l.e) l.initial.olds l.initial.news l.olds l.news
+invariant-loop-e l = (l.e ≤ l.d) × Gathered l.n l.members (columns_by l.n l.group l.spins) (Near l.d l.fwd l.bwd l.i l.e) l.initial.olds l.initial.news l.olds l.news
 
 abbrev pub decreases-loop-e : goal.decreases-loop-e
-decreases-loop-e l =  l.d - l.e
+decreases-loop-e l = l.d - l.e

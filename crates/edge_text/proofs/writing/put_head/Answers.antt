@@ -4,4 +4,4 @@ use Rattle.edge_text.proofs.Puts.{head_parts}
 use Rattle.edge_text.proofs.writing.put_head.Goals as goal
 
 pub returns : goal.returns
-returns c =     rw (head_parts c.args.n c.args.m) (put_both c.put_then-p.ensures c.put_then.ensures)
+returns c = rw (head_parts c.args.n c.args.m) (put_both c.put_then-p.ensures c.put_then.ensures)
