@@ -1,18 +1,10 @@
 -- What a test tells, and what a range that was tested holds.
-use Rattle.std.proofs.Common.{◌≡◌, ℕ, ◌≤◌, Bool, true, false, not, ◌&&◌, leb, sym, refl, ◌∙◌, arith, leb-true}
-use borrow.Author.Tests.{not-true, not-false}
+use Rattle.std.proofs.Common.{◌≡◌, ℕ, ◌≤◌, Bool, true, false, ◌&&◌, leb, sym, refl, ◌∙◌, arith, leb-true}
 use Rattle.draws.specs.Draw.{Within}
 
 -- of a test whose Bool r the code has: what it tells is v
 pub so : {r v : Bool} (t : Bool) → r ≡ v → r ≡ t → v ≡ t
 so t e h = sym e ∙ h
-
--- of its negation
-pub so_not : {r v : Bool} → r ≡ v → not r ≡ true → v ≡ false
-so_not {r} e h = sym e ∙ not-true r h
-
-pub so_is : {r v : Bool} → r ≡ v → not r ≡ false → v ≡ true
-so_is {r} e h = sym e ∙ not-false r h
 
 both_left : (a b : Bool) → (a && b) ≡ true → a ≡ true
 both_left true b e = refl

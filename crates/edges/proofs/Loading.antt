@@ -2,7 +2,7 @@
 use Prim.Native.Nat.{ℕ, ◌*◌}
 use mathlib.Core.Path.{◌≡◌, refl, sym, ◌∙◌, subst}
 use mathlib.Core.Logic.{inl, inr}
-use mathlib.Core.Bool.{Bool, true, false, not}
+use mathlib.Core.Bool.{Bool, true, false}
 use mathlib.Core.List.{List, ◌++◌}
 use lib.ListN.{length, drop}
 use lib.IntN.{ℤ}
@@ -39,14 +39,10 @@ module _ (n d : ℕ) (fwd text : List ℕ) where
       let b = same_number refl (begins m 10 (drop e text) refl) (begins (length u.list) 10 (lines_of u.list) a.behind) in
       f u.cells (record { list = u.list; count = sym b.number; text = b.behind; fills = u.made.fills })
 
--- in and past `if !load(..) { .. }`
-pub not_loaded : (n d : ℕ) (fwd text cells : List ℕ) (b : Bool) → not b ≡ true → LoadedAs n d fwd text b cells → IsList n d fwd text → ⊥
-not_loaded n d fwd text cells true e l = never e
-not_loaded n d fwd text cells false e l = l
-
-pub is_loaded : (n d : ℕ) (fwd text cells : List ℕ) (b : Bool) → not b ≡ false → LoadedAs n d fwd text b cells → Loaded n d fwd text cells
+-- past `if !load(..) { .. }`
+pub is_loaded : (n d : ℕ) (fwd text cells : List ℕ) (b : Bool) → b ≡ true → LoadedAs n d fwd text b cells → Loaded n d fwd text cells
 is_loaded n d fwd text cells true e l = l
-is_loaded n d fwd text cells false e l = never (sym e)
+is_loaded n d fwd text cells false e l = never e
 
 -- ---- the answer
 module _ (n d : ℕ) (fwd bwd text : List ℕ) (js : List ℤ) where

@@ -1,5 +1,5 @@
 -- What the steps of `label` come to.
-use Prim.Native.Nat.{ℕ, ◌+◌, ◌*◌, zero-le}
+use Prim.Native.Nat.{ℕ, zero-le}
 use mathlib.Core.Path.{◌≡◌, refl, sym, ap, ◌∙◌}
 use mathlib.Core.Logic.{inr, ⊎_elim}
 use mathlib.Core.Bool.{Bool}

@@ -2,7 +2,7 @@
 use Rattle.std.specs.Prelude.{ℕ, ◌+◌, ◌*◌, ◌≤◌, ◌<◌, ◌≡◌, ◌↔◌, ◌≢◌, Bool, ◌&&◌, List, length}
 use Rattle.std.proofs.Math.Path.{refl, sym, ap}
 use Rattle.std.proofs.Common.{◌∙◌, arith, eq-eqb, ne_eqb, eqb-true}
-use Rattle.std.proofs.Math.Bool.{true, false, cond, and_true}
+use Rattle.std.proofs.Math.Bool.{true, false, cond, and-true}
 use Rattle.std.proofs.Math.Nat.{one-mul}
 use Rattle.std.proofs.Math.Decide.{ℕ_discrete, dec_lt}
 use Rattle.std.proofs.Math.Dec.{eqb}
@@ -91,7 +91,7 @@ module _ (mark : ℕ → Bool) (l : List ℕ) (n : ℕ) (long : length l ≡ n)
 
       own : within f.at j ≡ mark j
       own =
-          rw (f.is, eq-eqb (label_of l j) (label_of l f.at) (sym f.same), and_true (mark f.at))
+          rw (f.is, eq-eqb (label_of l j) (label_of l f.at) (sym f.same), and-true (mark f.at))
           (one f.at j low jl f.same)
 
       other : (k : ℕ) → k ≢ f.at → (a b : Bool) → is_first l k ≡ a → eqb (label_of l j) (label_of l k) ≡ b → (a && mark k) && b ≡ false

@@ -2,11 +2,10 @@
 use Rattle.std.specs.Prelude.{ℕ, suc, ◌+◌, ◌*◌, ◌<◌, ◌≡◌, refl, ◌&&◌, List, length, get_or, ℤ, pos, negsuc, nat_abs, Float}
 use Rattle.std.proofs.Common.{sym, subst}
 use Rattle.std.specs.Float.{nan}
-use Rattle.paper.specs.declared.Group.{Group}
 use Rattle.paper.specs.declared.Mode.{Mode}
 use Rattle.paper.specs.declared.Form.{Form}
 use Rattle.paper.specs.declared.Lengths.{Lengths}
-use Rattle.paper.specs.Panel.Input.{Lattice, Call, Choices, Buffers, size, member, spin}
+use Rattle.paper.specs.Panel.Input.{Lattice, Call, Choices, Buffers, size, spin}
 use Rattle.paper.specs.Panel.Takes.{is_houd, is_cmr, moves, one_cluster, grows_by, labels_by, draws_bonds, choices_by, greys_by, grey_labels_by, entries, choice_bytes, takes_cuts}
 use Rattle.paper.specs.Panel.Takes.{takes_flips, takes_perms, takes_greys, takes_reference, takes_seed}
 use Rattle.paper.specs.Site.Acting.{acts, SomeActs}

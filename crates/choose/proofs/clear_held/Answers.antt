@@ -1,5 +1,5 @@
 -- `choose::clear_held` meets its contract. The invariant: the components with a pinned site below i are out of the tally.
-use Prim.Native.Nat.{◌<◌, ◌-◌}
+use Prim.Native.Nat.{◌<◌}
 use native.Mathlib.Omega.{arith}
 use lib.ListN.{length, get_or}
 use Rattle.choose.proofs.Back.{back_none, back_skip, back_more, back_end}

@@ -1,5 +1,4 @@
 -- `choose::reach` meets its contract. The invariant: the marks below i are made.
-use Prim.Native.Nat.{◌-◌}
 use native.Mathlib.Omega.{arith}
 use Rattle.choose.proofs.Passed.{pass_all}
 use Rattle.choose.proofs.Tested.{all_reached}

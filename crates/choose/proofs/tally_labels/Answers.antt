@@ -1,5 +1,5 @@
 -- `choose::tally_labels` meets its contract. The invariant: the sites below i are counted.
-use Prim.Native.Nat.{◌<◌, ◌-◌}
+use Prim.Native.Nat.{◌<◌}
 use mathlib.Core.Path.{refl}
 use native.Mathlib.Omega.{arith}
 use lib.ListN.{length, get_or}

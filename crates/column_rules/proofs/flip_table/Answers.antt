@@ -1,5 +1,4 @@
 -- `column_rules::flip_table` meets its contract. The invariant: the entries below x are written, and the others are 0.
-use Prim.Native.Nat.{◌-◌}
 use Rattle.column_rules.proofs.Bytes.{filling_none}
 use Rattle.column_rules.proofs.flip_table.Goals as goal
 

@@ -1,5 +1,5 @@
 -- `pack` meets its contract. The invariant: the columns have the bits of the first k members.
-use Prim.Native.Nat.{◌+◌, ◌-◌, ◌*◌, ◌≤◌}
+use Prim.Native.Nat.{◌+◌, ◌*◌, ◌≤◌}
 use native.Mathlib.Omega.{arith}
 use lib.ListN.{length, length-take, length-drop}
 use Rattle.paper.specs.Panel.Input.{member}

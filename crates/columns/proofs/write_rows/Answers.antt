@@ -1,6 +1,5 @@
 -- `write_rows` meets its contract. The invariant: the rows of the first k members are written.
 use mathlib.Core.Path.{◌≡◌}
-use Prim.Native.Nat.{◌-◌}
 use native.Mathlib.Omega.{arith}
 use Rattle.columns.proofs.Lent.{row_written}
 use Rattle.columns.proofs.write_rows.Goals as goal

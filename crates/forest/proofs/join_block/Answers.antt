@@ -1,5 +1,4 @@
 -- `join_block` meets its contract.
-use Prim.Native.Nat.{◌-◌}
 use mathlib.Core.Path.{refl}
 use native.Mathlib.Omega.{arith}
 use Rattle.paper.specs.Component.Marks.{marked}

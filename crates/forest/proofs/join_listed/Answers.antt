@@ -1,5 +1,4 @@
 -- `join_listed` meets its contract.
-use Prim.Native.Nat.{◌-◌}
 use Rattle.forest.proofs.Bonds.{listed_start, listed_more}
 use Rattle.forest.proofs.join_listed.Goals as goal
 

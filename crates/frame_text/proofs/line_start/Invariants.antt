@@ -1,5 +1,5 @@
 -- `frame_text::line_start` meets its contract: what was passed are no line feeds.
-use Prim.Native.Nat.{◌-◌, ◌≤◌}
+use Prim.Native.Nat.{◌≤◌}
 use lib.ListN.{length}
 use Rattle.frame_text.specs.Line.{CleanFrom}
 use Rattle.frame_text.proofs.line_start.Given as goal

@@ -1,5 +1,4 @@
 -- `order_ok` meets its contract: after k turns the flag tells of the first k systems, and these are marked.
-use Prim.Native.Nat.{◌-◌}
 use native.Mathlib.Omega.{arith}
 use Rattle.lemmas.specs.Tells.{said, flag_more}
 use Rattle.lattice.specs.Marking.{mark_below}

@@ -1,5 +1,5 @@
 -- `row_marks` meets its contract: after k turns the first k are marked.
-use Prim.Native.Nat.{◌+◌, ◌-◌, ◌<◌}
+use Prim.Native.Nat.{◌+◌, ◌<◌}
 use borrow.Author.Rules.{rules}
 use lib.ListN.{get_or}
 use Rattle.lattice.specs.Marking.{mark_more}

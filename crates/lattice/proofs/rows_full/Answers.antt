@@ -1,5 +1,4 @@
 -- `rows_full` meets its contract: after r turns the flag tells of the rows before r.
-use Prim.Native.Nat.{◌-◌}
 use native.Mathlib.Omega.{arith}
 use borrow.Author.Rules.{rules}
 use Rattle.lemmas.specs.Tells.{flag_more, flag_end}

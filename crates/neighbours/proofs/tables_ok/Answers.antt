@@ -1,5 +1,4 @@
 -- `tables_ok` meets its contract: after i turns the flag tells of the sites below i, in one sense, and that gives both.
-use Prim.Native.Nat.{◌-◌}
 use Rattle.lemmas.specs.Tells.{same, said, flag_end}
 use Rattle.paper.specs.Refusal.Rules.{Inverse}
 use Rattle.neighbours.specs.Tables.{inverse_of}

@@ -1,5 +1,4 @@
 -- `component_marks` meets its contract.
-use Prim.Native.Nat.{◌-◌}
 use lib.ListN.{length}
 use Rattle.sizes.proofs.Numbers.{Mark}
 use Rattle.sizes.proofs.component_marks.Given as goal

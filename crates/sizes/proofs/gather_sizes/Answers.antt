@@ -1,5 +1,4 @@
 -- `gather_sizes` meets its contract.
-use Prim.Native.Nat.{◌-◌}
 use Rattle.sizes.proofs.Picks.{pick_none, pick_more}
 use Rattle.sizes.proofs.gather_sizes.Goals as goal
 

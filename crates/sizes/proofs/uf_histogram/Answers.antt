@@ -1,5 +1,4 @@
 -- `uf_histogram` meets its contract.
-use Prim.Native.Nat.{◌-◌}
 use native.Mathlib.Omega.{arith}
 use lib.ListN.{length}
 use Rattle.sizes.specs.Steps.{Histogramming}

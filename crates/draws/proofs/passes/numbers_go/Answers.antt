@@ -1,5 +1,5 @@
 -- `numbers_go` meets its contract. The invariant: the first i draws are made, and none is refused.
-use Rattle.std.proofs.Common.{◌≡◌, ◌-◌, ap, arith}
+use Rattle.std.proofs.Common.{◌≡◌, ap, arith}
 use Rattle.draws.specs.declared.Drawn.{Drawn}
 use Rattle.draws.specs.declared.Source.{Source}
 use Rattle.draws.specs.Draw.{number}

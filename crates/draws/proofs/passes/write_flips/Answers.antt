@@ -1,5 +1,5 @@
 -- `write_flips` meets its contract. The invariant: the first i draws are made and written.
-use Rattle.std.proofs.Common.{◌-◌, ap, ◌∙◌}
+use Rattle.std.proofs.Common.{ap, ◌∙◌}
 use Rattle.draws.specs.declared.Source.{Source}
 use Rattle.draws.specs.declared.Drawn.{Drawn}
 use Rattle.draws.specs.Draw.{flipped}

@@ -1,5 +1,5 @@
 -- `write_numbers` meets its contract. The invariant: the first i draws are made and written.
-use Rattle.std.proofs.Common.{◌-◌, ◌<◌, sym, ap, ◌∙◌, subst, arith}
+use Rattle.std.proofs.Common.{◌<◌, sym, ap, ◌∙◌, subst, arith}
 use Rattle.draws.specs.declared.Source.{Source}
 use Rattle.draws.specs.declared.Drawn.{Drawn}
 use Rattle.draws.specs.Draw.{number}

@@ -1,5 +1,5 @@
 -- `write_rows` meets its contract. The invariant: the first i rows are drawn and written.
-use Rattle.std.proofs.Common.{ℕ, ◌+◌, ◌-◌, ◌*◌, ◌≤◌, length, get_or, sym, ap, ◌∙◌, subst, zero-mul, arith}
+use Rattle.std.proofs.Common.{ℕ, ◌+◌, ◌*◌, ◌≤◌, length, get_or, sym, ap, ◌∙◌, subst, zero-mul, arith}
 use Rattle.draws.specs.declared.Source.{Source}
 use Rattle.draws.specs.declared.Row.{Row}
 use Rattle.draws.specs.Rows.{row_by}

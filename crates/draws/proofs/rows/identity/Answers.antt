@@ -1,5 +1,5 @@
 -- `identity` meets its contract. The invariant: the first k places are tested.
-use Rattle.std.proofs.Common.{◌-◌, Bool, ◌&&◌, eqb, get_or, refl, ap, add-one, arith, rules}
+use Rattle.std.proofs.Common.{Bool, ◌&&◌, eqb, get_or, refl, ap, add-one, arith, rules}
 use Rattle.draws.specs.Rows.{is_identity}
 use Rattle.draws.proofs.rows.identity.Goals as goal
 

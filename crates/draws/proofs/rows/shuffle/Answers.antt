@@ -1,5 +1,5 @@
 -- `shuffle` meets its contract. The invariant: the places from i down, exchanged in the present row, make the permutation of the lent source.
-use Rattle.std.proofs.Common.{◌+◌, ◌-◌, ◌<◌, sym, ◌∙◌, subst, arith}
+use Rattle.std.proofs.Common.{◌+◌, ◌<◌, sym, ◌∙◌, subst, arith}
 use lib.Arith.{le-zero}
 use Rattle.draws.specs.declared.Drawn.{Drawn}
 use Rattle.draws.specs.Draw.{number}

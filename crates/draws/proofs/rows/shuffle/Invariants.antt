@@ -1,5 +1,5 @@
 -- `shuffle` meets its contract. The invariant: the places from i down, exchanged in the present row, make the permutation of the lent source.
-use Rattle.std.proofs.Common.{◌≡◌, ◌-◌, ◌<◌}
+use Rattle.std.proofs.Common.{◌≡◌, ◌<◌}
 use Rattle.draws.specs.Rows.{shuffled, permuted}
 use Rattle.draws.proofs.rows.shuffle.Given as goal
 

@@ -1,7 +1,6 @@
 -- `edge_text::reading::coupling` meets its contract.
-use mathlib.Core.Path.{subst}
 use Rattle.lemmas.specs.Tells.{told}
-use Rattle.edge_text.specs.Reading.{NumberAs, NumberAt, HasMinus}
+use Rattle.edge_text.specs.Reading.{HasMinus}
 use Rattle.edge_text.proofs.Lines.{minus_as, plus_at}
 use Rattle.edge_text.proofs.reading.coupling.Goals as goal
 
@@ -11,6 +10,4 @@ returns-then-has_minus c =
     minus_as c.minus.result has c.minus.ensures
 
 pub returns : goal.returns
-returns c =
-    let there : NumberAt c.args.text.now c.args.at 10 c.v-1.given.0.0 c.v-1.given.0.1.0 = subst (NumberAs _ _ _) c.v-1.given.1 c.number.ensures in
-    plus_at there _ c.plus_code.ensures
+returns c = plus_at c.in-At.ensures _ c.plus_code.ensures

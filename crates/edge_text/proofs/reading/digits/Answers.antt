@@ -1,5 +1,4 @@
 -- `edge_text::reading::digits` meets its contract: what was passed are digits, and their value is kept.
-use Prim.Native.Nat.{◌-◌}
 use mathlib.Core.Path.{sym, ◌∙◌}
 use Rattle.edge_text.proofs.Scan.{gathering_more, gathering_stop, gathering_end}
 use Rattle.edge_text.proofs.reading.digits.Goals as goal

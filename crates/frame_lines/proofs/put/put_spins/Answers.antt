@@ -1,8 +1,9 @@
 -- `frame::put::put_spins` meets its contract: a byte a turn.
-use Prim.Native.Nat.{ℕ, ◌+◌, ◌-◌, ◌*◌, ◌≤◌}
+use Prim.Native.Nat.{ℕ, ◌+◌, ◌*◌, ◌≤◌}
 use mathlib.Core.Path.{◌≡◌, sym, ◌∙◌, ap}
 use mathlib.Core.List.{List, [], ◌∷◌, map}
 use native.Mathlib.Omega.{arith}
+use borrow.Author.Rules.{rules}
 use lib.ListN.{length, get_or, length-map, get_or-map}
 use lib.Seq.{length-sets}
 use lib.IntN.{ℤ, pos}
@@ -53,7 +54,7 @@ pub loop-k-preserved : goal.loop-k-preserved
 loop-k-preserved c =
     let X : List ℤ = c.args.xs.now in
     let byte : c.spin_byte.result ≡ get_or (map spin_byte X) c.loop-k.k 0 = c.spin_byte.ensures ∙ (ap spin_byte (to_z-of_z {w =
-    w8} {z = get_or X c.loop-k.k (pos 0)} (record { sfits = c.spin_byte-arg-1.given })) ∙ sym
+    w8} {z = get_or X c.loop-k.k (pos 0)} (search rules)) ∙ sym
     (get_or-map spin_byte X c.loop-k.k (pos 0))) in
     hexing_more (map spin_byte X) _ _ _ _ _ _ _ c.loop-k.invariant (omega (arith, length-map X spin_byte)) (omega arith) byte
     c.put_byte-in-loop-k.ensures

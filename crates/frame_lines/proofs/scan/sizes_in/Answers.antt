@@ -28,4 +28,4 @@ returns c =
     let n = c.word_at-n.ensures ∙ (λ i. 256 * byte 0 (omega arith) i + byte 1 (omega arith) i) in
     let d = c.byte_at-d.ensures ∙ byte 2 (omega arith) in
     let e = c.byte_at-s.ensures ∙ byte 3 (omega arith) in
-    λ i. record { n = n i; d = d i; c = e i }
+    λ i. record { n = n i; d = d i; s = e i }

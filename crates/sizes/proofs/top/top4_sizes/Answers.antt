@@ -1,5 +1,4 @@
 -- `top4_sizes` meets its contract.
-use Prim.Native.Nat.{◌-◌}
 use native.Mathlib.Omega.{arith}
 use native.Mathlib.Nat.{le_antisymm}
 use Rattle.sizes.specs.Steps.{all_or_more}
