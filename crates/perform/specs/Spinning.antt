@@ -1,5 +1,5 @@
 -- A task keeps its group's spins +1 or -1.
-use Rattle.std.specs.Prelude.{ℕ, ◌<◌, ◌≡◌, ◌⊎◌, true, List, length, ℤ}
+use Rattle.std.specs.Prelude.{ℕ, ◌≡◌, ◌⊎◌, true, List, length, ℤ}
 use Rattle.std.proofs.Common.{ap, subst, inl, inr}
 use Rattle.paper.specs.declared.Answer.{Answer}
 use Rattle.paper.specs.declared.Answer.TheVariants.{Refused, Idle, Held, Moved}
@@ -50,6 +50,7 @@ gone_spins c p b b' w = go (by_form c.form)
         perms e q i hi = perms_grown v f (rw (e, q)) (label_of (w.turned f).blue i)
 
 pub spins_after : (c : Call) (p : Choices) (b b' : Buffers) (a : Answer) → Accepted a → Answers c p b a b' → GroupSpins c b'.spins
+spins_after c p b b' (Refused r) h w = elim h [ ]
 spins_after c p b b' Idle idle w = rw w.still w.valid.1.1.1.0
 spins_after c p b b' Held held w = rw w.still w.valid.1.1.1.0
 spins_after c p b b' Moved moved w = gone_spins c p b b' w
