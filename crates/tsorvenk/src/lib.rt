@@ -264,9 +264,9 @@ pub extern "C" fn tsorvenk_label(
 ) -> u8
     ensures { LabelAnswers
         (record { n = n; d = d; fwd = fwd.now; holds = holds.now; counted = counted.now })
-        (record { labels = labels.entry.now; counts = counts.old; sizes = sizes.old; found = found.old })
+        (record { labels = labels.old; counts = counts.old; sizes = sizes.old; found = found.old })
         result
-        (record { labels = labels.exit.now; counts = counts.new; sizes = sizes.new; found = found.new }) }
+        (record { labels = labels.new; counts = counts.new; sizes = sizes.new; found = found.new }) }
 {
     labelling_number(label::components(n, d, fwd, holds, counted, labels, counts, sizes, found))
 }
