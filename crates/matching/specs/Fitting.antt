@@ -4,7 +4,7 @@ use Rattle.std.proofs.Math.Path.{sym}
 use Rattle.std.proofs.Common.{◌∙◌, ap, arith, eq-eqb, ne_eqb}
 use Rattle.std.proofs.Math.Bool.{true}
 use Rattle.std.proofs.Math.Decide.{ℕ_discrete}
-use Rattle.lemmas.specs.Places.{Placed, Unplaced, place}
+use Rattle.lemmas.specs.Places.{Placed, Unplaced}
 use Rattle.paper.specs.Refusal.Rules.{Distinct, Permutes}
 use Rattle.laws.specs.Permuted.{onto}
 use Rattle.orders.specs.Words.{Agree, Before, Compared, Compared.equal, Compared.before, Compared.after, compare}

@@ -2,7 +2,7 @@
 use Rattle.std.specs.Prelude.{ℕ, ◌≡◌, Bool, List, ℤ, length, get_or}
 use Rattle.std.proofs.Common.{sym, ◌∙◌, subst}
 use Rattle.lemmas.specs.Stores.{Filled, filled_unique}
-use Rattle.lemmas.specs.Tells.{Tells, tells_determined}
+use Rattle.lemmas.specs.Tells.{tells_determined}
 use Rattle.paper.specs.declared.Group.{Group}
 use Rattle.paper.specs.Refusal.Rules.{When, group_names, order_names, Named, Spins}
 use Rattle.paper.specs.Refusal.Verdict.{Verdict, verdict_unique}

@@ -1,12 +1,11 @@
 -- `group_rows_ok` meets its contract: after k turns the flag tells of the systems before k.
-use Prim.Native.Nat.{◌-◌}
 use Rattle.lemmas.specs.Tells.{same, said, flag_end}
 use Rattle.paper.specs.Refusal.Rules.{group_names, Named, Spins}
 use Rattle.systems.specs.Rows.{spins_of, spins_each}
 use Rattle.systems.proofs.group_rows_ok.Goals as goal
 
 pub returns : goal.returns
-returns c =     let a = c.args in
+returns c = let a = c.args in
     let names = group_names a.group in
     let each = said c.loop-k.ok _ (flag_end c.loop-k.invariant c.loop-k-test.false) in
     (same (Spins a.n (Named a.s names) a.spins.now) (spins_of a.n a.s names a.spins.now)

@@ -6,7 +6,7 @@ use Rattle.systems.specs.Rows.{RowSpins}
 use Rattle.systems.proofs.group_rows_ok.Given as goal
 
 abbrev pub invariant-loop-k : goal.invariant-loop-k
-invariant-loop-k l =  Flagged l.len (λ j. RowSpins l.n l.s l.spins (get_or l.systems j 0)) l.k l.ok
+invariant-loop-k l = Flagged l.len (λ j. RowSpins l.n l.s l.spins (get_or l.systems j 0)) l.k l.ok
 
 abbrev pub decreases-loop-k : goal.decreases-loop-k
-decreases-loop-k l =  l.len - l.k
+decreases-loop-k l = l.len - l.k

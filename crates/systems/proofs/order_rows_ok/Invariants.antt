@@ -6,7 +6,7 @@ use Rattle.systems.specs.Rows.{RowSpins}
 use Rattle.systems.proofs.order_rows_ok.Given as goal
 
 abbrev pub invariant-loop-k : goal.invariant-loop-k
-invariant-loop-k l =  Flagged (length l.order) (λ j. RowSpins l.n l.s l.spins (get_or l.order j 0)) l.k l.ok
+invariant-loop-k l = Flagged (length l.order) (λ j. RowSpins l.n l.s l.spins (get_or l.order j 0)) l.k l.ok
 
 abbrev pub decreases-loop-k : goal.decreases-loop-k
-decreases-loop-k l =  length l.order - l.k
+decreases-loop-k l = length l.order - l.k

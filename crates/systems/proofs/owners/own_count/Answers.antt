@@ -1,5 +1,5 @@
 -- `owners::own_count` meets its contract: after t turns the team's systems below t are counted.
-use Prim.Native.Nat.{ℕ, ◌-◌}
+use Prim.Native.Nat.{ℕ}
 use mathlib.Core.Path.{◌≡◌, sym, ◌∙◌, ap}
 use mathlib.Core.Bool.{Bool}
 use native.Mathlib.Omega.{arith}
@@ -10,12 +10,12 @@ use Rattle.systems.specs.Owners.{team_of}
 use Rattle.systems.proofs.owners.own_count.Goals as goal
 
 pub loop-t-init : goal.loop-t-init
-loop-t-init c =  (search rules, sym (count_none _))
+loop-t-init c = (search rules, sym (count_none _))
 
 pub overflow_add-count : goal.overflow_add-count
 overflow_add-count c =
-    let f : ℕ → Bool = let a = L.before.before.before.args in own (team_of a.team a.owners.now) in
-    let step : c.one_if-count.result ≡ bit (f L.before.loop.t) = c.one_if-count.ensures ∙ ap bit c.own.ensures in
+    let f : ℕ → Bool = let a = c.args in own (team_of a.team a.owners.now) in
+    let step : c.one_if-count.result ≡ bit (f c.loop-t.t) = c.one_if-count.ensures ∙ ap bit c.own.ensures in
     omega (
       arith,
       step,
@@ -23,11 +23,11 @@ overflow_add-count c =
       c.loop-t.invariant.1,
       count_most f c.loop-t.t,
       c.loop-t-test.true,
-      c.well-formed,
+      c.well_formed,
     )
 
 pub loop-t-preserved : goal.loop-t-preserved
 loop-t-preserved c =
-    let f : ℕ → Bool = let a = L.before.before.before.args in own (team_of a.team a.owners.now) in
-    let step : c.one_if-count.result ≡ bit (f L.before.loop.t) = c.one_if-count.ensures ∙ ap bit c.own.ensures in
+    let f : ℕ → Bool = let a = c.args in own (team_of a.team a.owners.now) in
+    let step : c.one_if-count.result ≡ bit (f c.loop-t.t) = c.one_if-count.ensures ∙ ap bit c.own.ensures in
     (omega (arith, c.loop-t-test.true), omega (arith, c.loop-t.invariant.1, step, count_suc f c.loop-t.t))

@@ -8,7 +8,7 @@ use Rattle.systems.specs.Owners.{team_of}
 use Rattle.systems.proofs.owners.own_count.Given as goal
 
 abbrev pub invariant-loop-t : goal.invariant-loop-t
-invariant-loop-t l =  (l.t ≤ length l.owners) × (l.count ≡ count_where (own (team_of l.team l.owners)) l.t)
+invariant-loop-t l = (l.t ≤ length l.owners) × (l.count ≡ count_where (own (team_of l.team l.owners)) l.t)
 
 abbrev pub decreases-loop-t : goal.decreases-loop-t
-decreases-loop-t l =  length l.owners - l.t
+decreases-loop-t l = length l.owners - l.t

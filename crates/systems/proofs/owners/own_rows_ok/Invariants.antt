@@ -9,7 +9,7 @@ use Rattle.systems.specs.Owners.{team_of}
 use Rattle.systems.proofs.owners.own_rows_ok.Given as goal
 
 abbrev pub invariant-loop-t : goal.invariant-loop-t
-invariant-loop-t l =  Flagged l.s (λ u. own (team_of l.team l.owners) u ≡ true → RowSpins l.n l.s l.spins u) l.t l.ok
+invariant-loop-t l = Flagged l.s (λ u. own (team_of l.team l.owners) u ≡ true → RowSpins l.n l.s l.spins u) l.t l.ok
 
 abbrev pub decreases-loop-t : goal.decreases-loop-t
-decreases-loop-t l =  l.s - l.t
+decreases-loop-t l = l.s - l.t

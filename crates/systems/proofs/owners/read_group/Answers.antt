@@ -15,6 +15,6 @@ unfolding table
 same-eight t m a b c d e f g h = cc (a, b, c, d, e, f, g, h)
 
 pub returns : goal.returns
-returns c =     let a = c.args in
+returns c = let a = c.args in
     same-eight (read_at (team_of a.team a.owners.now) a.s a.group) a.group.len c.read_at.ensures c.read_at-2.ensures
     c.read_at-3.ensures c.read_at-4.ensures c.read_at-5.ensures c.read_at-6.ensures c.read_at-7.ensures c.read_at-8.ensures

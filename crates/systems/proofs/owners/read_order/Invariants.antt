@@ -7,7 +7,7 @@ use Rattle.systems.specs.Owners.{team_of}
 use Rattle.systems.proofs.owners.read_order.Given as goal
 
 abbrev pub invariant-loop-k : goal.invariant-loop-k
-invariant-loop-k l =  (l.k ≤ l.len) × Filled 0 (λ j. read (team_of l.team l.owners) l.s (get_or l.order j 0)) l.k l.initial.named l.named
+invariant-loop-k l = (l.k ≤ l.len) × Filled 0 (λ j. read (team_of l.team l.owners) l.s (get_or l.order j 0)) l.k l.initial.named l.named
 
 abbrev pub decreases-loop-k : goal.decreases-loop-k
-decreases-loop-k l =  l.len - l.k
+decreases-loop-k l = l.len - l.k
