@@ -8,7 +8,6 @@ import hashlib
 import io
 import os
 import pathlib
-import platform
 import sys
 import sysconfig
 import tarfile
@@ -27,8 +26,7 @@ Requires-Python: >=3.9
 
 def _shared_object():
     named = os.environ.get("TSORVENK_SO")
-    built = "staticlib" if platform.machine() in ("x86_64", "AMD64") else "native"
-    places = [pathlib.Path(named)] if named else [HERE.parents[1] / "target" / built / "libtsorvenk.so"]
+    places = [pathlib.Path(named)] if named else [HERE.parents[1] / "target" / "staticlib" / "libtsorvenk.so"]
     for path in places:
         if path.is_file():
             return path.read_bytes()

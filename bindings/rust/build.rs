@@ -10,10 +10,8 @@ fn main() {
     let given = env::var("TSORVENK_LIB").unwrap_or_default();
     let library = top.join(if !given.is_empty() {
         &given
-    } else if env::var("CARGO_CFG_TARGET_ARCH").unwrap() == "x86_64" {
-        "target/staticlib/libtsorvenk.a"
     } else {
-        "target/native/libtsorvenk.a"
+        "target/staticlib/libtsorvenk.a"
     });
     println!("cargo::rerun-if-changed={}", library.display());
     if library.is_file() {

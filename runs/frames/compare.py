@@ -13,7 +13,6 @@ Writes how many texts got each answer, as they were drawn, and the shortest text
 import argparse
 import ctypes
 import os
-import platform
 import random
 import subprocess
 import sys
@@ -31,15 +30,11 @@ class Program:
 
     def __init__(self, path=None):
         if path is None:
-            subprocess.run(["rt", "check", "frames"], cwd=TOP, check=True, stdout=subprocess.DEVNULL)
-            path = os.path.join(TOP, "target", "bin", "frames")
-        guide = subprocess.run(["rt", "doc"], cwd=TOP, check=True, capture_output=True, text=True).stdout.strip()
-        tools = os.path.join(os.path.dirname(os.path.dirname(guide)), "on", platform.machine(), "toolchain")
-        self.command = [os.path.join(tools, "lib", "ld-linux-x86-64.so.2"), "--library-path", os.path.join(tools, "lib"), path]
-        # compiled Rattle is for x86-64; elsewhere the kit has an emulator beside its compiler
-        emulator = os.path.join(tools, "bin", "qemu-x86_64")
-        if os.access(emulator, os.X_OK):
-            self.command.insert(0, emulator)
+            # proved, built and run once, or only run where nothing has changed since
+            folder = os.path.join(TOP, "crates", "frames")
+            subprocess.run(["rt", "run"], cwd=folder, check=True, stdin=subprocess.DEVNULL, stdout=subprocess.DEVNULL, stderr=subprocess.DEVNULL)
+            path = os.path.join(folder, "out", "frames")
+        self.command = [path]
 
     def answer(self, text):
         return subprocess.run(self.command, input=text, stdout=subprocess.PIPE, check=True).stdout

@@ -4,7 +4,6 @@ from __future__ import annotations
 import ctypes
 import os
 import pathlib
-import platform
 import threading
 from typing import Any, List, Optional
 
@@ -34,12 +33,11 @@ def places() -> List[pathlib.Path]:
     if named:
         return [pathlib.Path(named)]
     here = pathlib.Path(__file__).resolve().parent
-    built = "staticlib" if platform.machine() in ("x86_64", "AMD64") else "native"
     found = [here / NAME]
     # in the repository, where this file is bindings/python/tsorvenk/_library.py, and not where it is installed
     top = here.parents[min(2, len(here.parents) - 1)]
     if (top / "build-library").is_file():
-        found.append(top / "target" / built / NAME)
+        found.append(top / "target" / "staticlib" / NAME)
     return found
 
 

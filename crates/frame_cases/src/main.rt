@@ -2,10 +2,19 @@
 // how many do not. A case is two numbers of five decimal digits, the lengths of the text and of its answer, on a line of their own; then both.
 #![tactic(auto)]
 
-ghost use Rattle.std.specs.Prelude.{◌≤◌};
+ghost use Rattle.std.specs.Prelude.{◌≡◌, ◌≤◌, length};
 
 use frame_lines::Written;
-use libc::{STDIN_FILENO, STDOUT_FILENO};
+use input::read_full;
+use std::io;
+use std::io::Read;
+
+// 65,536 zeros. The `ensures` gives only the length, which lending the array as a slice needs.
+fn large_buffer() -> [u8; 65536]
+    ensures { 65536 ≡ length result }
+{
+    [0; 65536]
+}
 
 #[derive(Clone, Copy)]
 enum Verdict {
@@ -43,65 +52,65 @@ fn compare(text: &[u8], want: &[u8]) -> Verdict {
     Verdict::Differs
 }
 
-fn take_case(text: &mut [u8], want: &mut [u8]) -> Verdict {
-    io::read_full(STDIN_FILENO, text);
-    io::read_full(STDIN_FILENO, want);
-    compare(text, want)
+fn take_case<R: Read>(stdin: &mut R, text: &mut [u8], want: &mut [u8]) -> io::Result<Verdict> {
+    read_full(stdin, text)?;
+    read_full(stdin, want)?;
+    Ok(compare(text, want))
 }
 
-fn next(text: &mut [u8], want: &mut [u8]) -> Verdict {
+fn next<R: Read>(stdin: &mut R, text: &mut [u8], want: &mut [u8]) -> io::Result<Verdict> {
     let mut head = [0u8; 12];
-    let got = io::read_full(STDIN_FILENO, &mut head);
+    let got = read_full(stdin, &mut head)?;
     if got < 12 {
-        return Verdict::Ended;
+        return Ok(Verdict::Ended);
     }
     let n = number(head[0], head[1], head[2], head[3], head[4]);
     let m = number(head[6], head[7], head[8], head[9], head[10]);
     if text.len() < n {
-        return Verdict::Differs;
+        return Ok(Verdict::Differs);
     }
     if want.len() < m {
-        return Verdict::Differs;
+        return Ok(Verdict::Differs);
     }
-    take_case(&mut text[..n], &mut want[..m])
+    take_case(stdin, &mut text[..n], &mut want[..m])
 }
 
-fn report(agree: u32, differ: u32) {
-    io::print_decimal(STDOUT_FILENO, agree as u64);
-    io::write_all(STDOUT_FILENO, b" agree, ");
-    io::print_decimal(STDOUT_FILENO, differ as u64);
-    io::write_all(STDOUT_FILENO, b" differ\n");
+fn report(rt: &impl Print, agree: u32, differ: u32) -> io::Result<()> {
+    println!(rt; "{agree} agree, {differ} differ")
 }
 
 // Says which case differs, counted from 0.
-fn differs(at: u32) {
-    io::write_all(STDOUT_FILENO, b"differs: ");
-    io::print_decimal(STDOUT_FILENO, at as u64);
-    io::write_all(STDOUT_FILENO, b"\n");
+fn differs(rt: &impl Print, at: u32) -> io::Result<()> {
+    println!(rt; "differs: {at}")
 }
 
 // The count of turns makes the loop end, whatever the input.
-fn run_cases(text: &mut [u8], want: &mut [u8]) {
+fn run_cases<R: Read>(
+    rt: &impl Print,
+    stdin: &mut R,
+    text: &mut [u8],
+    want: &mut [u8],
+) -> io::Result<()> {
     let mut agree = 0u32;
     let mut differ = 0u32;
     let mut turns = 1000000u32;
     while turns > 0 {
         turns -= 1;
-        let c = next(text, want);
+        let c = next(stdin, text, want)?;
         match c {
             Verdict::Ended => turns = 0,
             Verdict::Agrees => agree += 1,
             Verdict::Differs => {
-                differs(agree + differ);
+                differs(rt, agree + differ)?;
                 differ += 1;
             }
         }
     }
-    report(agree, differ);
+    report(rt, agree, differ)
 }
 
-fn main() {
-    let mut text = io::large_buffer();
+fn main(rt: HostRuntime) -> io::Result<()> {
+    let mut text = large_buffer();
     let mut want = [0u8; 8192];
-    run_cases(&mut text, &mut want);
+    run_cases(&rt, &mut rt.stdin(), &mut text, &mut want)
 }

@@ -8,8 +8,8 @@ mod tables;
 ghost use Rattle.std.specs.Prelude.{◌≤◌};
 
 use label::Labelling;
-use libc::STDOUT_FILENO;
 use referee::right;
+use std::io;
 use std::num::wrapping_add_u32;
 use tables::{Table, fill, fill_bytes};
 
@@ -197,21 +197,17 @@ fn start(seed: u64) -> Runs {
     }
 }
 
-fn tell(t: Runs) {
-    io::print_decimal(STDOUT_FILENO, t.good as u64);
-    io::write_all(STDOUT_FILENO, b" agree, ");
-    io::print_decimal(STDOUT_FILENO, t.bad as u64);
-    io::write_all(STDOUT_FILENO, b" differ\n");
+fn tell(rt: &impl Print, t: Runs) -> io::Result<()> {
+    let good = t.good;
+    let bad = t.bad;
+    println!(rt; "{good} agree, {bad} differ")
 }
 
-fn main() {
-    io::write_all(STDOUT_FILENO, b"random, 1 to 64 sites: ");
-    tell(small(start(88172645463325252)));
-    io::write_all(
-        STDOUT_FILENO,
-        b"spirals, combs and paths, 1 to 64 and 4096 sites: ",
-    );
-    tell(grids(start(1)));
-    io::write_all(STDOUT_FILENO, b"random, 4096 sites: ");
-    tell(directions(start(88172645463325252), 4096));
+fn main(rt: HostRuntime) -> io::Result<()> {
+    print!(rt; "random, 1 to 64 sites: ")?;
+    tell(&rt, small(start(88172645463325252)))?;
+    print!(rt; "spirals, combs and paths, 1 to 64 and 4096 sites: ")?;
+    tell(&rt, grids(start(1)))?;
+    print!(rt; "random, 4096 sites: ")?;
+    tell(&rt, directions(start(88172645463325252), 4096))
 }

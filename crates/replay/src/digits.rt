@@ -1,5 +1,5 @@
 // A list's text as bytes.
-ghost use Rattle.io.specs.Counts.{IsPrefixLen};
+ghost use Rattle.std.specs.Prelude.{◌≡◌, ◌≤◌, length, take};
 
 use std::num::wrapping_add_usize;
 
@@ -68,7 +68,8 @@ pub(crate) fn decode(text: &[u8], from: Digits, list: &mut [u8]) -> Digits {
 
 // How many bytes of the list are written.
 pub(crate) fn whole_bytes(t: Digits, list: &[u8]) -> usize
-    ensures { IsPrefixLen result list.now }
+    ensures bound { result ≤ length list.now }
+    ensures len { result ≡ length (take result list.now) }
 {
     let k = t.count / 2;
     if k < list.len() { k } else { list.len() }

@@ -10,44 +10,53 @@ mod head;
 mod panel;
 mod report;
 
+ghost use Rattle.std.specs.Prelude.{◌≡◌, length};
+
 use cases::Ending;
 use digits::Digits;
-use libc::STDIN_FILENO;
+use input::read_full;
+use std::io;
+
+// 65,536 zeros. The `ensures` gives only the length, which lending the array as a slice needs.
+fn large_buffer() -> [u8; 65536]
+    ensures { 65536 ≡ length result }
+{
+    [0; 65536]
+}
 
 // The bytes that the digits make, replayed.
-fn replay(list: &[u8], wrong: bool) {
+fn replay(rt: &impl Print, list: &[u8], wrong: bool) -> io::Result<()> {
     if wrong {
-        report::bad(b"a wrong digit, or half a byte");
-        return;
+        return report::bad(rt, b"a wrong digit, or half a byte");
     }
     let mut good = [0u32; 18];
     let mut all = [0u32; 18];
     let mut marks = [0u32; 5];
     let ending = cases::run_all(list, &mut good, &mut all, &mut marks);
     match ending {
-        Ending::Short => report::bad(b"too short"),
-        Ending::Long => report::bad(b"too long"),
-        Ending::Sizes => report::bad(b"sizes out of range"),
-        Ending::Whole => report::report(&good, &all, &marks),
+        Ending::Short => report::bad(rt, b"too short"),
+        Ending::Long => report::bad(rt, b"too long"),
+        Ending::Sizes => report::bad(rt, b"sizes out of range"),
+        Ending::Whole => report::report(rt, &good, &all, &marks),
     }
 }
 
 // The text is longer than one buffer, and its bytes are half of it: it is read in two parts. One that fills both is too long for any list.
-fn main() {
-    let mut text = io::large_buffer();
-    let mut list = io::large_buffer();
+fn main(rt: HostRuntime) -> io::Result<()> {
+    let mut text = large_buffer();
+    let mut list = large_buffer();
     let start = Digits {
         count: 0,
         wrong: false,
     };
-    let first = io::read_full(STDIN_FILENO, &mut text);
+    let mut stdin = rt.stdin();
+    let first = read_full(&mut stdin, &mut text)?;
     let half = digits::decode(&text[..first], start, &mut list);
-    let second = io::read_full(STDIN_FILENO, &mut text);
+    let second = read_full(&mut stdin, &mut text)?;
     let whole = digits::decode(&text[..second], half, &mut list);
     if second == 65536 {
-        report::bad(b"too long");
-        return;
+        return report::bad(&rt, b"too long");
     }
     let k = digits::whole_bytes(whole, &list);
-    replay(&list[..k], digits::misspelt(whole));
+    replay(&rt, &list[..k], digits::misspelt(whole))
 }

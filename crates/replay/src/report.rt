@@ -1,73 +1,74 @@
 // What the program writes.
-use libc::STDOUT_FILENO;
+use std::io;
 use std::num::wrapping_add_u32;
 
-fn text(b: &[u8]) {
-    io::write_all(STDOUT_FILENO, b);
+fn text(rt: &impl Print, b: &[u8]) -> io::Result<()> {
+    rt.write_all(b)
 }
 
-fn number(x: u32) {
-    io::print_decimal(STDOUT_FILENO, x as u64);
+fn number(rt: &impl Print, x: u32) -> io::Result<()> {
+    print!(rt; "{x}")
 }
 
 fn get(xs: &[u32], k: usize) -> u32 {
     if k < xs.len() { xs[k] } else { 0 }
 }
 
-pub(crate) fn bad(why: &[u8]) {
-    text(b"bad list: ");
-    text(why);
-    text(b"\n");
+pub(crate) fn bad(rt: &impl Print, why: &[u8]) -> io::Result<()> {
+    text(rt, b"bad list: ")?;
+    text(rt, why)?;
+    text(rt, b"\n")
 }
 
-fn mode_name(mode: usize) {
+fn mode_name(rt: &impl Print, mode: usize) -> io::Result<()> {
     match mode {
-        0 => text(b"houd"),
-        1 => text(b"pair"),
-        2 => text(b"perm"),
-        3 => text(b"gperm"),
-        4 => text(b"jorg"),
-        _ => text(b"cmr"),
+        0 => text(rt, b"houd"),
+        1 => text(rt, b"pair"),
+        2 => text(rt, b"perm"),
+        3 => text(rt, b"gperm"),
+        4 => text(rt, b"jorg"),
+        _ => text(rt, b"cmr"),
     }
 }
 
-fn form_name(form: usize) {
+fn form_name(rt: &impl Print, form: usize) -> io::Result<()> {
     match form {
-        0 => text(b" SW: "),
-        1 => text(b" Wolff: "),
-        _ => text(b" observe: "),
+        0 => text(rt, b" SW: "),
+        1 => text(rt, b" Wolff: "),
+        _ => text(rt, b" observe: "),
     }
 }
 
-fn share(part: u32, whole: u32) {
-    number(part);
-    text(b" of ");
-    number(whole);
+fn share(rt: &impl Print, part: u32, whole: u32) -> io::Result<()> {
+    number(rt, part)?;
+    text(rt, b" of ")?;
+    number(rt, whole)
 }
 
-fn rows(good: &[u32], all: &[u32]) {
+fn rows(rt: &impl Print, good: &[u32], all: &[u32]) -> io::Result<()> {
     let mut k = 0usize;
     while k < 18 {
-        mode_name(k / 3);
-        form_name(k % 3);
-        share(get(good, k), get(all, k));
-        text(b"\n");
+        mode_name(rt, k / 3)?;
+        form_name(rt, k % 3)?;
+        share(rt, get(good, k), get(all, k))?;
+        text(rt, b"\n")?;
         k += 1;
     }
+    Ok(())
 }
 
-fn marked(marks: &[u32]) {
-    text(b"agreeing cases with odd N: ");
-    number(get(marks, 0));
-    text(b", an idle task: ");
-    number(get(marks, 1));
-    text(b", an acting component of one site: ");
-    number(get(marks, 2));
-    text(b", a self-bond: ");
-    number(get(marks, 3));
-    text(b", a double bond: ");
-    number(get(marks, 4));
-    text(b"\n");
+fn marked(rt: &impl Print, marks: &[u32]) -> io::Result<()> {
+    text(rt, b"agreeing cases with odd N: ")?;
+    number(rt, get(marks, 0))?;
+    text(rt, b", an idle task: ")?;
+    number(rt, get(marks, 1))?;
+    text(rt, b", an acting component of one site: ")?;
+    number(rt, get(marks, 2))?;
+    text(rt, b", a self-bond: ")?;
+    number(rt, get(marks, 3))?;
+    text(rt, b", a double bond: ")?;
+    number(rt, get(marks, 4))?;
+    text(rt, b"\n")
 }
 
 fn sum(xs: &[u32]) -> u32 {
@@ -80,9 +81,9 @@ fn sum(xs: &[u32]) -> u32 {
     total
 }
 
-pub(crate) fn report(good: &[u32], all: &[u32], marks: &[u32]) {
-    rows(good, all);
-    marked(marks);
-    share(sum(good), sum(all));
-    text(b" agree\n");
+pub(crate) fn report(rt: &impl Print, good: &[u32], all: &[u32], marks: &[u32]) -> io::Result<()> {
+    rows(rt, good, all)?;
+    marked(rt, marks)?;
+    share(rt, sum(good), sum(all))?;
+    text(rt, b" agree\n")
 }
