@@ -145,12 +145,12 @@ module _
     }
 
 -- labels of a table that marks the grey bonds
-pub grey_labels :
+pub grey_labels_lem :
     (c : Call) (xs : List ℤ) (grey l : List ℕ) {found : List ℕ}
     → Marks c.lattice.n c.lattice.d (holds_grey c xs) grey
     → Numbered (graph c) (marked c.lattice.d grey) l found
     → Numbered (graph c) (holds_grey c xs) l found
-grey_labels c xs grey l h w =
+grey_labels_lem c xs grey l h w =
     record {
       labels =
           labels_ext (graph c) (marked c.lattice.d grey) (holds_grey c xs) l

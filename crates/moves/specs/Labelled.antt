@@ -23,7 +23,7 @@ use Rattle.moves.specs.Tested.{Tested}
 use Rattle.moves.specs.Steps.{LabelLeaves}
 use Rattle.moves.specs.Leaves.{beside_of}
 use Rattle.moves.specs.Labelling.{FreeAsks, held_seed, FreeLeaves, TaskAsks, Foretells, TaskLeaves}
-use Rattle.moves.specs.Held.{grey_labels}
+use Rattle.moves.specs.Held.{grey_labels_lem}
 
 -- in CMR every site acts
 acts_cmr : (m : Mode) (c : Call) (xs : List ℤ) → c.mode ≡ m → is_cmr m ≡ true → acts c xs 0 ≡ true
@@ -106,7 +106,7 @@ module _
         seen members = record {
           labels = d.labelled;
           grey_labels = λ e.
-              grey_labels c xs grey grey_labels (d.grey_held (and_right (moves t.form) (is_cmr t.mode) e) (and_left (moves t.form) _ e))
+              grey_labels_lem c xs grey grey_labels (d.grey_held (and_right (moves t.form) (is_cmr t.mode) e) (and_left (moves t.form) _ e))
               (f.greys.labels (taken e));
           grey_kept = λ e. f.greys.kept (left e);
           grey_found_kept = λ e. f.greys.found_kept (left e);

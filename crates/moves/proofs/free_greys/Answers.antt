@@ -4,7 +4,7 @@ use Rattle.laws.specs.Unique.{label_lt}
 use Rattle.moves.proofs.free_greys.Goals as goal
 
 pub hold_back-requires : goal.hold_back-requires
-hold_back-requires c =     let long = c.label.ensures.labels.long ∙ sym c.requires.pins_long in
+hold_back-requires c = let long = c.label.ensures.labels.long ∙ sym c.requires.pins_long in
     record {
       labelled = long;
       tallied = c.label.ensures.sized.long ∙ long;

@@ -1,6 +1,6 @@
 -- `free_task` meets its contract: where no site acts, where the form moves nothing, and where it moves.
 use mathlib.Core.Path.{◌≡◌, sym, ◌∙◌}
-use mathlib.Core.Bool.{true, false}
+use mathlib.Core.Bool.{true}
 use Rattle.paper.specs.Panel.Takes.{moves}
 use Rattle.moves.specs.Freeing.{free_moves}
 use mathlib.Core.Bool.{not}

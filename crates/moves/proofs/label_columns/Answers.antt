@@ -7,7 +7,7 @@ use Rattle.moves.specs.Held.{label_leaves}
 use Rattle.moves.proofs.label_columns.Goals as goal
 
 pub look_columns-some-requires : goal.look_columns-some-requires
-look_columns-some-requires c =     rows_look (sighted c.requires.tested c.requires.reference) c.requires.columns c.requires.lent.flags_long
+look_columns-some-requires c = rows_look (sighted c.requires.tested c.requires.reference) c.requires.columns c.requires.lent.flags_long
 
 pub count-requires : goal.count-requires
 count-requires c =
@@ -24,7 +24,7 @@ count-requires c =
     }
 
 pub returns : goal.returns
-returns c =  λ bwd pins xs tested w.
+returns c = λ bwd pins xs tested w.
     label_leaves bwd pins c.args.found.now c.hold.ensures tested
     (look_sights (sighted tested c.requires.reference) w c.look_columns-some.ensures) c.label-many.ensures c.count.ensures
     c.requires.lent.found_long
