@@ -3,7 +3,7 @@ use Rattle.std.specs.Prelude.{ℕ, ◌≤◌, ◌<◌, ◌≡◌, refl, Bool, tr
 use Rattle.std.proofs.Common.{sym, ◌∙◌, ap, subst, arith}
 use Rattle.lemmas.specs.Bools.{and_right}
 use Rattle.paper.specs.declared.Answer.{Answer}
-use Rattle.paper.specs.declared.Answer.TheVariants.{Idle, Held, Moved}
+use Rattle.paper.specs.declared.Answer.TheVariants.{Idle, Held, Moved, Refused}
 use Rattle.paper.specs.Panel.Input.{graph, Call, Choices, Buffers, pattern, spin, size, system}
 use Rattle.paper.specs.Panel.Takes.{is_cmr, is_perm, grows_by, moves}
 use Rattle.paper.specs.Site.Acting.{acts, SomeActs}
@@ -283,3 +283,4 @@ own_answers c p b k Moved moved b' w ys r = let v = valid_of c p b k in record {
   turned = λ t. turned_there v t (w.turned t) ys r;
   seen = seen_there v w.seen ys;
 }
+own_answers c p b k (Refused _) x4 b' w ys r = elim x4 [ ]

@@ -5,7 +5,7 @@ use Rattle.std.proofs.Math.IntN.{+ℤ_idr, +ℤ_invr}
 use Rattle.lemmas.specs.Places.{Placed, place}
 use Rattle.lemmas.specs.Sums.{sum_ext}
 use Rattle.paper.specs.declared.Answer.{Answer}
-use Rattle.paper.specs.declared.Answer.TheVariants.{Idle, Held, Moved}
+use Rattle.paper.specs.declared.Answer.TheVariants.{Idle, Held, Moved, Refused}
 use Rattle.paper.specs.Panel.Input.{Lattice, Call, Choices, Buffers, spin, size, system, bond_of, ahead_of}
 use Rattle.paper.specs.Site.Energy.{energy}
 use Rattle.paper.specs.Refusal.Rule.{Kept}
@@ -97,3 +97,4 @@ module _
     own_keep_answers Idle idle w = accepts Idle idle w
     own_keep_answers Held held w = accepts Held held w
     own_keep_answers Moved moved w = accepts Moved moved w
+    own_keep_answers (Refused _) x3 w = elim x3 [ ]
