@@ -11,7 +11,7 @@ use Rattle.paper.specs.Refusal.Rules.{Grouped}
 use Rattle.paper.specs.Refusal.Verdict.{verdict_kept}
 use Rattle.laws.specs.Forms.{labels_else}
 use Rattle.packing.specs.Bytes.{own_group, own_task}
-use Rattle.packing.specs.Laws.{own_grouped}
+use Rattle.packing.proofs.Laws.{own_grouped}
 use Rattle.task_steps.specs.Choose.{Found, found_of, choose_rules}
 use Rattle.task_choose.specs.Answered.{refused_by, grown_asks, grown_accepts, labelled_asks, labelled_accepts}
 use Rattle.task_choose.proofs.task_choose.Statement.{statement}
