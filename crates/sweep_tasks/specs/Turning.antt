@@ -1,7 +1,7 @@
 -- One turn of the sweep's loop.
 use Rattle.std.specs.Prelude.{ℕ, ◌+◌, ◌≤◌, ◌<◌, ◌≡◌, Bool, true, false, List, ℤ}
 use Rattle.std.proofs.Common.{arith}
-use Rattle.lemmas.specs.Counts.{bit, count_most}
+use Rattle.lemmas.specs.Counts.{count_most}
 use Rattle.paper.specs.declared.Answer.{Answer}
 use Rattle.paper.specs.declared.Keeps.{Keeps}
 use Rattle.paper.specs.Panel.Input.{Buffers}

@@ -1,0 +1,65 @@
+-- `overlap_update` meets its contract: the tests, then the tasks.
+use mathlib.Core.Bool.{Bool}
+use Rattle.paper.specs.Panel.Input.{Buffers}
+use Rattle.paper.specs.Answer.Task.{Sweep}
+use Rattle.paper.specs.Answer.Totals.{swept_rules}
+use Rattle.paper.specs.Panel.Takes.{keeps_by}
+use Rattle.paper.specs.Panel.Made.{buffers_of}
+use Rattle.paper.specs.Refusal.Rule.{Kept}
+use Rattle.paper.specs.Answer.Made.{sweep_of}
+use Rattle.paper.specs.Refusal.Verdict.{verdict_kept}
+use Rattle.sweep_tasks.specs.Updating.{refused_sweep, swept_kept, swept_asked, swept_answers}
+use Rattle.sweep.proofs.overlap_update.Goals as goal
+
+pub returns-then-fault-ne0 : goal.returns-then-fault-ne0
+returns-then-fault-ne0 c =
+    let a = c.args in
+    let W : Sweep =
+    sweep_of a.plan a.fwd.now a.bwd.now a.pins.now a.couplings.now a.order.now a.masks.now a.temperatures.now a.cuts.now
+    a.references.now a.seeds.now a.choices.now a.greys.now in
+    let B : Buffers =
+    buffers_of a.spins.now a.labels.now a.grey_labels.now a.counts.now a.sizes.now a.members.now a.found.now a.grey_found.now in
+    let keeping : Bool = keeps_by a.plan.keeps a.plan.form in
+    refused_sweep keeping W B a.totals.now c.test_sweep-fault.result c.if-fault-ne0.true c.test_sweep-fault.ensures
+
+pub run_tasks-requires-clause-kept : goal.run_tasks-requires-clause-kept
+run_tasks-requires-clause-kept c =
+    let a = c.args in
+    let W : Sweep =
+    sweep_of a.plan a.fwd.now a.bwd.now a.pins.now a.couplings.now a.order.now a.masks.now a.temperatures.now a.cuts.now
+    a.references.now a.seeds.now a.choices.now a.greys.now in
+    let B : Buffers =
+    buffers_of a.spins.now a.labels.now a.grey_labels.now a.counts.now a.sizes.now a.members.now a.found.now a.grey_found.now in
+    let keeping : Bool = keeps_by a.plan.keeps a.plan.form in
+    let kept : Kept (swept_rules keeping W B a.totals.now) =
+    verdict_kept (swept_rules keeping W B a.totals.now) c.test_sweep-fault.result c.if-fault-ne0.false c.test_sweep-fault.ensures in
+    swept_kept keeping W B a.totals.now kept
+
+pub run_tasks-requires-clause-totals_asked : goal.run_tasks-requires-clause-totals_asked
+run_tasks-requires-clause-totals_asked c =
+    let a = c.args in
+    let W : Sweep =
+    sweep_of a.plan a.fwd.now a.bwd.now a.pins.now a.couplings.now a.order.now a.masks.now a.temperatures.now a.cuts.now
+    a.references.now a.seeds.now a.choices.now a.greys.now in
+    let B : Buffers =
+    buffers_of a.spins.now a.labels.now a.grey_labels.now a.counts.now a.sizes.now a.members.now a.found.now a.grey_found.now in
+    let keeping : Bool = keeps_by a.plan.keeps a.plan.form in
+    let kept : Kept (swept_rules keeping W B a.totals.now) =
+    verdict_kept (swept_rules keeping W B a.totals.now) c.test_sweep-fault.result c.if-fault-ne0.false c.test_sweep-fault.ensures in
+    swept_asked keeping W B a.totals.now kept
+
+pub returns : goal.returns
+returns c =
+    let a = c.args in
+    let W : Sweep =
+    sweep_of a.plan a.fwd.now a.bwd.now a.pins.now a.couplings.now a.order.now a.masks.now a.temperatures.now a.cuts.now
+    a.references.now a.seeds.now a.choices.now a.greys.now in
+    let B : Buffers =
+    buffers_of a.spins.now a.labels.now a.grey_labels.now a.counts.now a.sizes.now a.members.now a.found.now a.grey_found.now in
+    let keeping : Bool = keeps_by a.plan.keeps a.plan.form in
+    let n = c.run_tasks.new in
+    let B' : Buffers = buffers_of n.spins n.labels n.grey_labels n.counts n.sizes n.members n.found n.grey_found in
+    let kept : Kept (swept_rules keeping W B a.totals.now) =
+    verdict_kept (swept_rules keeping W B a.totals.now) c.test_sweep-fault.result c.if-fault-ne0.false c.test_sweep-fault.ensures in
+    swept_answers keeping W B a.totals.now kept c.run_tasks.result B' n.totals c.run_tasks.ensures.sweep_answers
+    c.run_tasks.ensures.totals_after
