@@ -1,5 +1,5 @@
 -- Tests 8, 9 and 10 of unmasked tasks in ascending order.
-use Rattle.std.specs.Prelude.{ℕ, zero, suc, ◌+◌, ◌*◌, ◌/◌, ◌%◌, ◌<◌, ◌≡◌, refl, ◌⊎◌, true, false, cond, List, [], ltb, length, get_or, ℤ, Float}
+use Rattle.std.specs.Prelude.{ℕ, zero, suc, ◌+◌, ◌*◌, ◌/◌, ◌%◌, ◌<◌, ◌≡◌, refl, ◌⊎◌, true, false, cond, List, [], ltb, length, ℤ, Float}
 use Rattle.std.proofs.Common.{sym, ◌∙◌, inl, inr, arith, add-one, eq-or-lt_of_le, le_of_suc-le-suc, lt-ltb}
 use Rattle.lemmas.specs.Cells.{table_at}
 use Rattle.paper.specs.Panel.Input.{Buffers, member}

@@ -2,7 +2,7 @@
 use Rattle.std.specs.Prelude.{ℕ, ◌≤◌, ◌<◌, ◌≡◌, refl, ◌⊎◌, Bool, true, false, cond, List, length, get_or, ℤ}
 use Rattle.std.proofs.Common.{sym, ◌∙◌, ap, subst, inl, inr, arith}
 use Rattle.paper.specs.declared.Answer.{Answer}
-use Rattle.paper.specs.declared.Answer.TheVariants.{Idle, Held, Moved}
+use Rattle.paper.specs.declared.Answer.TheVariants.{Idle, Held, Moved, Refused}
 use Rattle.paper.specs.Panel.Input.{graph, Call, Choices, Buffers, size}
 use Rattle.paper.specs.Panel.Takes.{is_cmr, grows_by, labels_by, moves, takes_greys}
 use Rattle.paper.specs.Site.Acting.{acts, SomeActs}
@@ -34,6 +34,7 @@ pub accepts : (c : Call) (p : Choices) (b b₁ : Buffers) (blue blue₁ : List �
 accepts c p b b₁ blue blue₁ Idle idle w = w
 accepts c p b b₁ blue blue₁ Held held w = w
 accepts c p b b₁ blue blue₁ Moved moved w = w
+accepts c p b b₁ blue blue₁ (Refused _) x3 w = elim x3 [ ]
 
 -- the step's rules have the move's among them
 pub label_valid : (c : Call) (p : Choices) (b : Buffers) (blue : List ℕ) → Kept (label_rules c p b blue) → Valid c p b

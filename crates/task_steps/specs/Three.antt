@@ -9,7 +9,7 @@ use Rattle.paper.specs.declared.Group.{Group}
 use Rattle.paper.specs.declared.Mode.{Mode}
 use Rattle.paper.specs.declared.Mode.TheVariants.{Houd, Pair, Perm, Gperm, Jorg, Cmr}
 use Rattle.paper.specs.declared.Answer.{Answer}
-use Rattle.paper.specs.declared.Answer.TheVariants.{Idle, Held, Moved}
+use Rattle.paper.specs.declared.Answer.TheVariants.{Idle, Held, Moved, Refused}
 use Rattle.paper.specs.Panel.Input.{Call, Choices, Buffers, Pattern, pattern, member, size}
 use Rattle.paper.specs.Panel.Takes.{takes_greys}
 use Rattle.paper.specs.Site.Acting.{acts}
@@ -197,3 +197,4 @@ three_steps keeping c p b b₁ blue blue₁ area area₁ ts us ys Held own group
 })
 three_steps keeping c p b b₁ blue blue₁ area area₁ ts us ys Moved own group moved w q h =
     keeps_by own group w q h (goes_by w ys (rows_by own group w q h (λ i hi e. out_kept w w.says.some i hi e)))
+three_steps keeping c p b b₁ blue blue₁ area area₁ ts us ys (Refused _) own group x7 w q h = elim x7 [ ]

@@ -13,8 +13,9 @@ unfolding of_bits of_int
 one = refl
 
 pub returns : goal.returns
-returns c =     let o = c.overlap_step in
+returns c =
+    let o = c.overlap_step in
     let e = (keeps_none _ _ _ _ o.result _ _ o.ensures).answers in
-    let f = rw (empty o.new.1.1.1.1.1.1.1.1.1.1.1.0 o.auto.1.1.1.1.1.1.1.1.1.1.1.0) at e in
-    let g = rw (empty o.new.1.1.1.1.1.1.1.1.1.1.1.1.1.1.1.1.0 o.auto.1.1.1.1.1.1.1.1.1.1.1.1.1.1.1.1.0) at f in
-    rw one at (rw c.Mode-of.ensures at g)
+    let f = rw (empty o.new.grey_labels o.auto.grey_labels) at e in
+    let g = rw (empty o.new.grey_found o.auto.grey_found) at f in
+    rw one at (rw c.mode_of-mode.ensures at g)
