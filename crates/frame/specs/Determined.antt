@@ -2,7 +2,8 @@
 use Rattle.std.specs.Prelude.{◌≡◌, List, ℕ}
 use Rattle.laws.specs.FramesDetermined.{frames_determined}
 use Rattle.frame_lines.specs.declared.Written.{Written}
-use Rattle.frame_lines.specs.Determined.{SameWritten, written_same}
+use Rattle.frame_lines.specs.Determined.{SameWritten}
+use Rattle.frame_lines.proofs.Determined.{written_same}
 use Rattle.frame.specs.Run.{RunAs}
 
 pub run_determined : (text out : List ℕ) (w w' : Written) (a a' : List ℕ) → RunAs text out w a → RunAs text out w' a' → SameWritten w w' a a'

@@ -128,7 +128,7 @@ pub(crate) fn run_panel(
 ) -> Written
     requires { PanelGiven z group spins.old fwd.now perms.now bwd.old labels.old counts.old sizes.old }
     ensures { (text : List ℕ) (b : Held)
-        → Readout text b z group (record { spins = spins.entry.now; fwd = fwd.now; perms = perms.now })
+        → Readout text b z group (record { spins = spins.old; fwd = fwd.now; perms = perms.now })
         → RunAs text out.old result out.new }
 {
     let n = z.n;

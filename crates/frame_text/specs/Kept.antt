@@ -106,17 +106,6 @@ module _ (t : List ℕ) (s : ℕ) (h : LineStart t s) where
       unfolding part
       part_at k l = get_or-take (kept (length t - s)) (drop s t) k 0 l
 
-      alike : Alike (drop s t) part
-      alike = record {
-        digits = all_digits;
-        digits' = λ k l. rw (part_at k (omega (arith, part_long))) (all_digits k (omega (arith, part_long, length-drop s t)));
-        first = sym (part_at 0 (omega arith));
-        second = sym (part_at 1 (omega arith));
-        halves = omega (arith, part_long, length-drop s t);
-        long = omega (arith, length-drop s t);
-        long' = omega (arith, part_long);
-      }
-
       cut_split : (r : List ℕ) → take (s + kept (length t - s)) t ++ r ≡ take s t ++ (part ++ r)
       unfolding part
       cut_split r = ap (λ (u : List ℕ). u ++ r) (take-add s (kept (length t - s)) t) ∙ append_assoc (take s t) part r
@@ -136,3 +125,14 @@ module _ (t : List ℕ) (s : ℕ) (h : LineStart t s) where
         unended = record { full = full; within = h.within; early = early; begins = h.begins; digits = λ k l q. d.run.digits k l (omega arith) };
         cut = z;
       }
+        where
+          alike : Alike (drop s t) part
+          alike = record {
+            digits = all_digits;
+            digits' = λ k l. rw (part_at k (omega (arith, part_long))) (all_digits k (omega (arith, part_long, length-drop s t)));
+            first = sym (part_at 0 (omega arith));
+            second = sym (part_at 1 (omega arith));
+            halves = omega (arith, part_long, length-drop s t);
+            long = omega (arith, length-drop s t);
+            long' = omega (arith, part_long);
+          }

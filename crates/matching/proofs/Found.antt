@@ -17,7 +17,7 @@ use Rattle.matching.specs.Bits.{bit_in, repeated, repeated_bit, top_bit}
 use Rattle.matching.specs.Least.{Sound, Words, Settled}
 use Rattle.matching.specs.Sources.{Sites, Panel, NarrowedAll}
 use Rattle.matching.specs.Explain.{allowed, Settles, Explains}
-use Rattle.matching.specs.Allowed.{allowed_square}
+use Rattle.matching.proofs.Square.{allowed_square}
 use Rattle.matching.proofs.Alike.{fitted_alike, least_alike}
 
 -- a panel with other rows

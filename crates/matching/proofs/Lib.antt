@@ -7,3 +7,7 @@ pub mod Kept
 pub mod Alike
 pub mod Rows
 pub mod Found
+-- A square of places, which the edit one_permutation_for_all breaks.
+pub mod Square
+-- One answer, which the edit largest_place breaks.
+pub mod Determined

@@ -1,13 +1,12 @@
 -- What `allowed` tells of the bytes at each site, and that it tells alike of the places that may have come from one.
 use Rattle.std.specs.Prelude.{ℕ, zero, suc, ◌<◌, ◌≡◌, refl, Bool, true, false, not, ◌||◌, List, eqb, length, get_or}
-use Rattle.std.proofs.Common.{sym, ◌∙◌, arith, eq-eqb, eqb-true}
+use Rattle.std.proofs.Common.{sym, arith, eq-eqb, eqb-true}
 use Rattle.std.specs.Int.Bits.{bit_xor}
 use Rattle.lemmas.specs.Bools.{never, and_left, and_right, every, every_is}
 use Rattle.paper.specs.Component.Sizes.{label_of}
 use Rattle.columns.specs.Column.{bit_of}
 use Rattle.matching.specs.Bits.{alike}
 use Rattle.matching.specs.Sources.{may_come, at_site}
-use Rattle.matching.specs.Fitting.{Square}
 use Rattle.matching.specs.Explain.{allowed}
 
 -- ---- tests
@@ -68,18 +67,3 @@ module _ (gauge : ℕ) (olds news labels pins : List ℕ) (r : ℕ) where
   is_allowed k j at =
       every_all (length olds) (at_site gauge olds news labels pins r k j)
       (λ i h. is_then (eqb (label_of labels i) r) (may k j i) (λ q. is_comes _ _ _ k j (at i h (eqb-true (label_of labels i) r q))))
-
--- ---- two places that may both have come from one
-comes_square : (old new pin k l i j : ℕ) → Comes old new pin k i → Comes old new pin k j → Comes old new pin l i → Comes old new pin l j
-comes_square old new pin k l i j a b c = record {
-  shows = b.shows ∙ (sym a.shows ∙ c.shows);
-  stays = λ p. b.stays p ∙ (sym (a.stays p) ∙ c.stays p);
-}
-
-pub allowed_square : (m gauge : ℕ) (olds news labels pins : List ℕ) (r : ℕ) → Square m (allowed gauge olds news labels pins r)
-allowed_square m gauge olds news labels pins r k l i j hk hl hi hj a b c =
-    is_allowed gauge olds news labels pins r l j (λ s h q. comes_square _ _ _ k l i j (at k i a s h q) (at k j b s h q) (at l i c s h q))
-  where
-    at : (k j : ℕ) → allowed gauge olds news labels pins r k j ≡ true → (s : ℕ) → s < length olds → label_of labels s ≡ r
-        → ComesAt gauge olds news labels pins r k j s
-    at = allowed_is gauge olds news labels pins r

@@ -10,7 +10,7 @@ use Rattle.lemmas.specs.Stores.{Filled}
 use Rattle.paper.specs.Refusal.Rules.{Permutes}
 use Rattle.orders.specs.Table.{row}
 use Rattle.orders.specs.Answers.{row_of, word}
-use Rattle.orders.specs.Laws.{row_at}
+use Rattle.orders.proofs.Laws.{row_at}
 
 -- what `permutations_ok` tells of one row
 abbrev pub OneRow : List ℕ → Type 0

@@ -7,5 +7,3 @@ pub mod Rank
 pub mod Once
 pub mod Check
 pub mod Answers
-pub mod Laws
-pub mod Determined

@@ -22,7 +22,7 @@ use Rattle.laws.specs.Entries.{perm_of, reached_moves, perms_of, perms_grown}
 use Rattle.laws.specs.AnswersLocal.{with_spins}
 use Rattle.packing.specs.Bytes.{own_group}
 use Rattle.packing.specs.Gathered.{group_rows, length_group, own_of}
-use Rattle.packing.specs.Laws.{own_grouped}
+use Rattle.packing.proofs.Laws.{own_grouped}
 use Rattle.own_rows.specs.PutBack.{group_totals, length_totals, total_at, PutBack, own_sees, back_sees}
 use Rattle.own_rows.specs.Alike.{OwnAlike, acts_own, holds_own, grey_own, final_own}
 

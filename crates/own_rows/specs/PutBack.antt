@@ -8,7 +8,7 @@ use Rattle.paper.specs.Answer.Totals.{total}
 use Rattle.laws.specs.Unique.{Outside, OthersOf}
 use Rattle.laws.specs.Local.{Agree}
 use Rattle.packing.specs.Gathered.{group_rows, length_group, group_at, own_of}
-use Rattle.packing.specs.Laws.{rows_ext, own_pattern}
+use Rattle.packing.proofs.Laws.{rows_ext, own_pattern}
 
 -- the group's totals in its members' order
 unfoldable pub group_totals : Call → List ℤ → List ℤ

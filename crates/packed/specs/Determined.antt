@@ -9,7 +9,7 @@ use Rattle.paper.specs.Answer.Totals.{KeepAnswers}
 use Rattle.laws.specs.AnswersLocal.{with_spins}
 use Rattle.laws.specs.KeepDetermined.{SameKept, keep_determined}
 use Rattle.packing.specs.Bytes.{rows_of}
-use Rattle.packing.specs.Laws.{length_rows, rows_injective}
+use Rattle.packing.proofs.Laws.{length_rows, rows_injective}
 use Rattle.packed.specs.Lengths.{cancel}
 use Rattle.packed.specs.Packed.{lent_of, Bytes, PackedAnswers}
 
@@ -46,6 +46,7 @@ module _
     members Idle k idle = omega (arith, k.valid.0.size_low)
     members Held k held = omega (arith, k.valid.0.size_low)
     members Moved k moved = omega (arith, k.valid.0.size_low)
+    members (Refused _) k x3 = elim x3 [ ]
 
     -- the answer, the bytes, the buffers beside them with any spins, and the totals
     pub packed_step_determined : (xs' : List ℤ) → SamePacked a ys (lent_of l₁ g₁ q₁ s₁ e₁ f₁ h₁ xs') us a' zs (lent_of l₂ g₂ q₂ s₂ e₂ f₂ h₂ xs') vs

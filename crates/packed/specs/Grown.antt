@@ -15,7 +15,7 @@ use Rattle.columns.specs.Rows.{Written}
 use Rattle.grow.specs.Task.{Outputs, no_outputs, with_outputs, GrowAsks}
 use Rattle.perform.specs.Spinning.{spins_after, length_after}
 use Rattle.packing.specs.Bytes.{rows_of, bytes_of, Narrow, own_group}
-use Rattle.packing.specs.Laws.{member_own, rows_long, columns_bytes, bytes_narrow, pack_unpack, written_rows}
+use Rattle.packing.proofs.Laws.{member_own, rows_long, columns_bytes, bytes_narrow, pack_unpack, written_rows}
 
 -- the rows that the bytes stand for are tested, and the task is one on rows of its own
 pub record GrownAsks (c : Call) (p : Choices) (xs members : List ℕ) : Type 0 where

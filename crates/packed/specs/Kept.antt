@@ -12,7 +12,7 @@ use Rattle.paper.specs.Answer.Totals.{KeepAnswers}
 use Rattle.columns.specs.Column.{column_ext}
 use Rattle.laws.specs.HeldStill.{held_still}
 use Rattle.packing.specs.Bytes.{rows_of, bytes_of, Narrow, own_group}
-use Rattle.packing.specs.Laws.{pack_unpack, own_pattern, column_back}
+use Rattle.packing.proofs.Laws.{pack_unpack, own_pattern, column_back}
 use Rattle.packed.specs.Packed.{PackedAnswers}
 
 -- ---- through packing: the bytes of rows of spins are answered what the rows are

@@ -16,7 +16,7 @@ use Rattle.tests.specs.Choices.{chosen_rules}
 use Rattle.columns.specs.Column.{Columns, Inside, Spinning}
 use Rattle.column_rules.specs.Sight.{Sighted}
 use Rattle.packing.specs.Bytes.{rows_of, Narrow, own_group}
-use Rattle.packing.specs.Laws.{length_rows, rows_long, rows_spins, spins_narrow, member_own, own_inside, own_pattern, rows_columns}
+use Rattle.packing.proofs.Laws.{length_rows, rows_long, rows_spins, spins_narrow, member_own, own_inside, own_pattern, rows_columns}
 use Rattle.packed.specs.Lengths.{spins_for, with_spins, cancel, clipped_fits, fits_clipped}
 
 -- a task on rows of its own, and the lengths of what the tests look at

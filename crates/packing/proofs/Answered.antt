@@ -15,7 +15,7 @@ use Rattle.paper.specs.Refusal.Rules.{AllSystems, Spins}
 use Rattle.columns.specs.Column.{Columns}
 use Rattle.columns.specs.Rows.{Packable, Writable, Written}
 use Rattle.packing.specs.Bytes.{Narrow, own_group}
-use Rattle.packing.specs.Laws.{own_grouped, own_inside, columns_bytes, written_rows}
+use Rattle.packing.proofs.Laws.{own_grouped, own_inside, columns_bytes, written_rows}
 use Rattle.packing.specs.Answer.{Members, Sized, Exact, Answers, PackAnswers, UnpackAnswers}
 
 -- refused

@@ -10,7 +10,7 @@ use Rattle.orders.specs.Words.{Agree}
 use Rattle.orders.specs.Rank.{rank, rank_most, rank_tells}
 use Rattle.orders.specs.Once.{rank_of_row}
 use Rattle.orders.specs.Check.{orders_ruled}
-use Rattle.orders.specs.Laws.{row_permutes, moves_not_zero, not_zero_moves}
+use Rattle.orders.proofs.Laws.{row_permutes, moves_not_zero, not_zero_moves}
 use Rattle.spelling.specs.Rows.{spelt, rows_of, length_rows}
 
 -- ---- rows and numbers

@@ -17,7 +17,7 @@ use Rattle.laws.specs.Determined.{Same, buffers_equal, determined}
 use Rattle.laws.specs.MovesExist.{write, moves_exist}
 use Rattle.laws.specs.Unique.{members_unique}
 use Rattle.packing.specs.Bytes.{own_group}
-use Rattle.packing.specs.Laws.{own_pattern, rows_ext}
+use Rattle.packing.proofs.Laws.{own_pattern, rows_ext}
 use Rattle.totals.specs.Determined.{brought_determined}
 use Rattle.task_steps.specs.Label.{takes_blue, label_rules, LabelAccepts, LabelAnswers}
 use Rattle.task_steps.specs.Choose.{Found, first_of, second_of, has_column, choose_rules, ChooseAccepts, ChooseAnswers}

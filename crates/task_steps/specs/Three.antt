@@ -23,7 +23,7 @@ use Rattle.laws.specs.AnswersLocal.{with_spins}
 use Rattle.laws.specs.Unique.{OthersOf, spins_equal}
 use Rattle.columns.specs.Column.{shown, column_of, shown_column, column_ext}
 use Rattle.packing.specs.Bytes.{own_group}
-use Rattle.packing.specs.Laws.{own_at}
+use Rattle.packing.proofs.Laws.{own_at}
 use Rattle.moves.specs.Tested.{ready}
 use Rattle.moves.specs.Finish.{final_spin}
 use Rattle.task_steps.specs.Label.{LabelAccepts, LabelAnswers}

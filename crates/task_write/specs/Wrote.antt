@@ -17,7 +17,7 @@ use Rattle.columns.specs.Column.{shown, Columns, Inside, Spinning}
 use Rattle.columns.specs.Rows.{Written}
 use Rattle.columns.specs.Laws.{columns_shown}
 use Rattle.packing.specs.Bytes.{own_group, own_task}
-use Rattle.packing.specs.Laws.{own_grouped}
+use Rattle.packing.proofs.Laws.{own_grouped}
 use Rattle.totals.specs.Contract.{lattice_for, Bringable, Between, BringsAll}
 use Rattle.totals.specs.Listed.{SitesIn}
 use Rattle.turn.specs.Turned.{ListWritten}

@@ -31,7 +31,7 @@ use Rattle.edges.specs.Answer.{Net, net_of, ReadAnswers, listing_values}
 use Rattle.edges.specs.Determined.{read_edges_determined, write_edges_determined}
 use Rattle.orders.specs.declared.Numbered.{Numbered}
 use Rattle.orders.specs.Answers.{values, RowAnswers}
-use Rattle.orders.specs.Determined.{row_of_determined, number_of_determined}
+use Rattle.orders.proofs.Determined.{row_of_determined, number_of_determined}
 use Rattle.coded.specs.Takes.{numbers_by}
 use Rattle.laws.specs.Owners.{owned_both}
 use Rattle.coded.specs.Determined.{overlap_step_by_determined, overlap_update_by_determined}

@@ -17,7 +17,7 @@ use Rattle.paper.specs.Answer.Move.{Answers}
 use Rattle.laws.specs.KeepsPlain.{keeps_none}
 use Rattle.laws.specs.Observed.{observed_still}
 use Rattle.packing.specs.Bytes.{rows_of, Narrow, own_group}
-use Rattle.packing.specs.Laws.{own_grouped, length_rows, rows_long, rows_spins, rows_injective}
+use Rattle.packing.proofs.Laws.{own_grouped, length_rows, rows_long, rows_spins, rows_injective}
 use Rattle.packed.specs.Lengths.{cancel}
 use Rattle.packed.specs.Packed.{lent_of, Bytes, PackedAnswers}
 use Rattle.vendor.specs.Vendor.{asked_by}

@@ -13,7 +13,7 @@ use Rattle.laws.specs.Numbering.{found_le}
 use Rattle.laws.specs.Unique.{label_lt}
 use Rattle.columns.specs.Column.{Columns, Inside}
 use Rattle.packing.specs.Bytes.{rows_of, bytes_of, own_group}
-use Rattle.packing.specs.Laws.{own_pattern, own_inside, columns_bytes, bytes_narrow, pack_unpack}
+use Rattle.packing.proofs.Laws.{own_pattern, own_inside, columns_bytes, bytes_narrow, pack_unpack}
 use Rattle.matching.specs.Sources.{Panel}
 use Rattle.matching.specs.Explain.{Explains}
 use Rattle.vendor.specs.Vendor.{Fair, vendor_rules, Refuses, Denies, Accepts, asked_by}

@@ -18,7 +18,8 @@ use Rattle.matching.specs.Explain.{allowed}
 use Rattle.vendor.specs.Vendor.{Explains, Smallest, ActsIn, Unchanged, Fair, RowOf}
 use Rattle.vendor.specs.Components.{acts_or_not}
 use Rattle.vendor.specs.OwnFair.{identity, turned_same}
-use Rattle.matching.specs.Allowed.{Comes, allowed_is, is_allowed, allowed_square}
+use Rattle.matching.specs.Allowed.{Comes, allowed_is, is_allowed}
+use Rattle.matching.proofs.Square.{allowed_square}
 use Rattle.vendor.specs.Gauged.{up_same, gauge_spin, gauge_same, turned_seen, seen_turned, idle_same, least_same, before_agree}
 
 -- the spins before and after, and the byte of each site

@@ -16,7 +16,7 @@ use Rattle.laws.specs.Acting.{acts_same, gauge_ext}
 use Rattle.laws.specs.Unique.{HoldAlike, labels_ext}
 use Rattle.packing.specs.Bytes.{own_group}
 use Rattle.packing.specs.Gathered.{group_rows, group_at}
-use Rattle.packing.specs.Laws.{own_pattern}
+use Rattle.packing.proofs.Laws.{own_pattern}
 use Rattle.vendor.specs.Vendor.{asked_by}
 
 -- the vendor's task tells the move's mode, sizes and reference site

@@ -5,7 +5,7 @@ use Rattle.lemmas.specs.Tells.{Flagged}
 use Rattle.label.proofs.all_below.Given as goal
 
 abbrev pub invariant-loop-i : goal.invariant-loop-i
-invariant-loop-i l =  Flagged (length l.xs) (λ k. get_or l.xs k 0 < l.n) l.i l.ok
+invariant-loop-i l = Flagged (length l.xs) (λ k. get_or l.xs k 0 < l.n) l.i l.ok
 
 abbrev pub decreases-loop-i : goal.decreases-loop-i
-decreases-loop-i l =  length l.xs - l.i
+decreases-loop-i l = length l.xs - l.i

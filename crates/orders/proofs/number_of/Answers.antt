@@ -1,6 +1,6 @@
 -- `number_of` meets its contract: the rank of a permutation is its place in the table.
 use Rattle.lemmas.specs.Tells.{told}
-use Rattle.orders.specs.Laws.{rank_stands}
+use Rattle.orders.proofs.Laws.{rank_stands}
 use Rattle.orders.proofs.Rows.{row_alone}
 use Rattle.orders.proofs.number_of.Goals as goal
 

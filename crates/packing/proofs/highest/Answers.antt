@@ -3,4 +3,4 @@ use Rattle.packing.proofs.Answered.{top_is}
 use Rattle.packing.proofs.highest.Goals as goal
 
 pub returns : goal.returns
-returns c =  top_is c.args.members c.requires
+returns c = top_is c.args.members c.requires

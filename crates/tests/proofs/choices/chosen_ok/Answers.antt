@@ -11,7 +11,7 @@ use Rattle.tests.proofs.Chosen.{chosen_told}
 use Rattle.tests.proofs.choices.chosen_ok.Goals as goal
 
 pub returns : goal.returns
-returns c =     let a = c.args in
+returns c = let a = c.args in
     let t = a.t in
     chosen_told t a.choices.now a.greys.now c.requires
     (said c.perms_fit.result (When (perms_by t.mode t.form) (PermRows (entries t.form t.n) t.group.len a.choices.now))

@@ -6,7 +6,7 @@ use Rattle.tests.proofs.Seed.{seed_acts, seed_rests}
 use Rattle.tests.proofs.choices.seed_ok.Goals as goal
 
 pub returns-then-acts_at : goal.returns-then-acts_at
-returns-then-acts_at c =     let a = c.args in
+returns-then-acts_at c = let a = c.args in
     seed_acts a.t a.spins.now c.if-n-seed.false (sym c.acts_at.ensures ∙ c.if-acts_at.true)
 
 pub returns : goal.returns

@@ -14,7 +14,7 @@ use mathlib.Core.Path.{ap}
 use Rattle.tests.proofs.choices.test_choices.Goals as goal
 
 pub returns-then-chosen-ne0 : goal.returns-then-chosen-ne0
-returns-then-chosen-ne0 c =     let a = c.args in
+returns-then-chosen-ne0 c = let a = c.args in
     chosen_broken a.t a.cuts.now (choices_of a.choices.now a.greys.now) a.spins.now c.test_chosen-chosen.result c.if-chosen-ne0.true
     c.test_chosen-chosen.ensures
 

@@ -4,7 +4,7 @@ use Rattle.std.proofs.Common.{◌∙◌, ap}
 use Rattle.paper.specs.Refusal.Rule.{Rule, Kept}
 use Rattle.paper.specs.Refusal.Verdict.{verdict_unique}
 use Rattle.packing.specs.Bytes.{rows_of, bytes_of}
-use Rattle.packing.specs.Laws.{length_bytes, bytes_narrow, pack_unpack, rows_long, rows_spins, unpack_pack}
+use Rattle.packing.proofs.Laws.{length_bytes, bytes_narrow, pack_unpack, rows_long, rows_spins, unpack_pack}
 use Rattle.packing.specs.Answer.{pack_rules, unpack_rules, Answers, PackAnswers, UnpackAnswers}
 use Rattle.packing.specs.Determined.{Same}
 

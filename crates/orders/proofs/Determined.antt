@@ -6,7 +6,7 @@ use Rattle.orders.specs.declared.Numbered.{Numbered}
 use Rattle.orders.specs.declared.Numbered.TheVariants.{Refused, Number}
 use Rattle.orders.specs.Table.{orders, row}
 use Rattle.orders.specs.Answers.{row_rules, RowAnswers, number_rules, NumberAnswers}
-use Rattle.orders.specs.Laws.{rows_differ}
+use Rattle.orders.proofs.Laws.{rows_differ}
 
 pub table_determined : (t t' : List ℕ) → t ≡ orders → t' ≡ orders → t ≡ t'
 table_determined t t' f g = f ∙ sym g
