@@ -139,19 +139,20 @@ sorted (k ∷ ks) xs a o =
 module _ {Holding : Type 0} {Does : Steps Holding} where
   -- a task that has no step holds what it held
   untouched : {st st' : Key → Holding} (q : Key) (ks : List Key) → (In q ks → ⊥) → Run Does (in_turn ks) st st' → st' q ≡ st q
-  untouched q [] n Run.over = refl
-  untouched q (k ∷ ks) n (Run.first a (Run.first b (Run.first c rest))) =
+  untouched {st} {st'} q [] n Run.over = refl
+  untouched {st} {st'} q (k ∷ ks) n (Run.first a (Run.first b (Run.first {st₁ = st₃} c rest))) =
       let ne : q ≢ k = λ e. n (inl e) in
-      untouched q ks (λ h. n (inr h)) rest ∙ (c.others q ne ∙ (b.others q ne ∙ a.others q ne))
+      untouched {st = st₃} {st' = st'} q ks (λ h. n (inr h)) rest ∙ (c.others q ne ∙ (b.others q ne ∙ a.others q ne))
 
   alone : {st st' : Key → Holding} (q : Key) (ks : List Key) → Apart ks → In q ks → Run Does (in_turn ks) st st' → Alone (Does q) (st q) (st' q)
   alone {st} {st'} q (k ∷ ks) apart (inl e) (Run.first a (Run.first b (Run.first {st₁ = st₃} c rest))) =
       subst (λ (j : Key). Alone (Does j) (st j) (st' j)) (sym e)
       (subst (λ (h : Holding). Alone (Does k) (st k) h) (sym (untouched k ks apart.0 rest))
       (record { h₁ = _; h₂ = _; labels = a.own; chooses = b.own; writes = c.own }))
-  alone {st} {st'} q (k ∷ ks) apart (inr h) (Run.first a (Run.first b (Run.first c rest))) =
-      let ne : q ≢ k = λ e. apart.0 (rw e at h) in
-      subst (λ (z : Holding). Alone (Does q) z (st' q)) (c.others q ne ∙ (b.others q ne ∙ a.others q ne)) (alone q ks apart.1 h rest)
+  alone {st} {st'} q (k ∷ ks) apart (inr h) (Run.first a (Run.first b (Run.first {st₁ = st₃} c rest))) =
+      let ne : q ≢ k = λ e. apart.0 (subst (λ (j : Key). In j ks) e h) in
+      subst (λ (z : Holding). Alone (Does q) z (st' q)) (c.others q ne ∙ (b.others q ne ∙ a.others q ne)) (alone {st = st₃} {st' = st'} q ks apart.1 h rest)
+  alone {st} {st'} q [] apart h _ = elim h [ ]
 
   -- ---- and so in every order
   module _ {st st' : Key → Holding} (ks : List Key) (xs : List Turn) (apart : Apart ks) (o : Ordered ks xs) (r : Run Does xs st st') where

@@ -31,6 +31,7 @@ both_tasks o w e x = both_stepping 0 o w 0 e x
 in_left : (q : Key) (ks js : List Key) → In q ks → In q (ks ++ js)
 in_left q (k ∷ ks) js (inl e) = inl e
 in_left q (k ∷ ks) js (inr h) = inr (in_left q ks js h)
+in_left q [] js h = elim h [ ]
 
 in_right : (q : Key) (ks js : List Key) → In q js → In q (ks ++ js)
 in_right q [] js h = h

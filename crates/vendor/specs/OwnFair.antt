@@ -8,7 +8,7 @@ use Rattle.paper.specs.declared.Mode.TheVariants.{Houd, Pair, Perm, Gperm, Jorg,
 use Rattle.paper.specs.declared.Form.{Form}
 use Rattle.paper.specs.declared.Form.TheVariants.{Sw, Wolff, Observe, Grow}
 use Rattle.paper.specs.declared.Answer.{Answer}
-use Rattle.paper.specs.declared.Answer.TheVariants.{Idle, Held, Moved}
+use Rattle.paper.specs.declared.Answer.TheVariants.{Idle, Held, Moved, Refused}
 use Rattle.paper.specs.Panel.Input.{Call, Choices, Buffers, Pattern, graph, pattern, pinned, size}
 use Rattle.paper.specs.Panel.Takes.{is_perm, is_gperm, is_cmr, grows_by, labels_by, moves}
 use Rattle.paper.specs.Site.Acting.{acts}
@@ -199,6 +199,7 @@ pub own_valid : (c : Call) (p : Choices) (b b' : Buffers) (a : Answer) → Accep
 own_valid c p b b' Idle idle w = valid_of c p b w.valid
 own_valid c p b b' Held held w = valid_of c p b w.valid
 own_valid c p b b' Moved moved w = valid_of c p b w.valid
+own_valid c p b b' (Refused _) x3 w = elim x3 [ ]
 
 module _ (c : Call) (p : Choices) (b b' : Buffers) (perm : is_perm c.mode ≡ true) where
   kept : b'.spins ≡ b.spins → (i : ℕ) → Unchanged c b.spins b'.spins i
@@ -208,18 +209,21 @@ module _ (c : Call) (p : Choices) (b b' : Buffers) (perm : is_perm c.mode ≡ tr
   own_spins Idle idle w i hi = rw w.still (spin_of (valid_of c p b w.valid) i hi)
   own_spins Held held w i hi = rw w.still (spin_of (valid_of c p b w.valid) i hi)
   own_spins Moved moved w i hi = gone_spins c p b b'.spins (valid_of c p b w.valid) perm (moved_by c p b b' perm w) i hi
+  own_spins (Refused _) x4 w i hi = elim x4 [ ]
 
   module _ {found : ℕ} (l : List ℕ) (labels : Labels (graph c) (holds c b.spins) l found) (r : ℕ) where
     acting : (a : Answer) → Accepted a → Answers c p b a b' → ActsIn c b.spins l r → Explained c b.spins b'.spins l r
     acting Idle idle w s = stays c p b b'.spins (valid_of c p b w.valid) perm l r (λ i hi q. kept w.still i)
     acting Held held w s = stays c p b b'.spins (valid_of c p b w.valid) perm l r (λ i hi q. kept w.still i)
     acting Moved moved w s = gone_explained c p b b'.spins (valid_of c p b w.valid) perm (moved_by c p b b' perm w) l labels r s
+    acting (Refused _) x4 w s = elim x4 [ ]
 
     resting : (a : Answer) → Accepted a → Answers c p b a b' → (i : ℕ) → i < c.lattice.n → acts c b.spins i ≡ false
         → Unchanged c b.spins b'.spins i
     resting Idle idle w i hi e = kept w.still i
     resting Held held w i hi e = kept w.still i
     resting Moved moved w i hi e = idle_still c p b b'.spins (valid_of c p b w.valid) perm (moved_by c p b b' perm w) i hi e
+    resting (Refused _) x5 w i hi e = elim x5 [ ]
 
     -- no component of the move is at fault
     pub own_fair : (a : Answer) → Accepted a → Answers c p b a b' → Fair c b.spins b'.spins l r
