@@ -1,4 +1,4 @@
--- What a vendor's pair of spins is answered: that it is one answer, that what is written plays, that our own moves are accepted, and what bytes tell of it.
+-- What a vendor's pair of spins is answered, and that it is one answer; what our own move writes, what a played move leaves, and what bytes tell of a pair.
 pub mod Vendor
 pub mod Offered
 pub mod Observed
@@ -7,8 +7,6 @@ pub mod Determined
 pub mod Played
 pub mod GroupRows
 pub mod OwnFair
-pub mod Own
 pub mod Gauged
 pub mod FairBytes
-pub mod Compared
 pub mod Asked

@@ -2,7 +2,7 @@
 use Prim.Native.Nat.{◌≤◌}
 use lib.Seq.{length-take-le}
 use Rattle.vendor.specs.Observed.{packed_still, labelled_still, tables_kept}
-use Rattle.vendor.specs.Compared.{observable, panel, denies, accepts}
+use Rattle.vendor.proofs.Compared.{observable, panel, denies, accepts}
 use Rattle.vendor.proofs.compare.Goals as goal
 
 pub observe-refused-requires : goal.observe-refused-requires
