@@ -1,2 +1,2 @@
-// Tasks in any order (14/14): specs/ alone, read in the order of specs/Lib.antt. There is no code.
+// Tasks in any order (14/14): specs/ and proofs/, each read in the order of its Lib.antt. There is no code.
 #![tactic(auto)]

@@ -14,7 +14,7 @@ use Rattle.own_rows.specs.Totals.{own_keep_answers}
 use Rattle.any_order.specs.Schedule.{Alone}
 use Rattle.any_order.specs.Tasks.{Holding, DoesFor, Holds}
 use Rattle.any_order.specs.Sound.{task_kept}
-use Rattle.any_order.specs.NoRefusal.{none_refused, three_are_move}
+use Rattle.any_order.proofs.NoRefusal.{none_refused, three_are_move}
 
 accepts :
     (keeping : Bool) (c : Call) (p : Choices) (b : Buffers) (ts : List ℤ) (a : Answer) (b' : Buffers) (us : List ℤ)

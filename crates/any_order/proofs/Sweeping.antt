@@ -17,7 +17,7 @@ use Rattle.any_order.specs.Schedule.{Alone}
 use Rattle.any_order.specs.Tasks.{Holding, DoesFor, Holds, Handed, Merged, swept_by}
 use Rattle.any_order.specs.Whose.{in_group_lem, in_group, off_group, Owned, whose}
 use Rattle.any_order.specs.Sound.{sound, valid, leads, within}
-use Rattle.any_order.specs.InPanel.{in_panel}
+use Rattle.any_order.proofs.InPanel.{in_panel}
 
 -- a total is a row of one column
 pub as_row : (ts : List ℤ) (t : ℕ) → spin 1 ts t 0 ≡ total ts t

@@ -19,8 +19,8 @@ use Rattle.own_rows.specs.PutBack.{group_totals, total_at, PutBack, PutTotals}
 use Rattle.any_order.specs.Schedule.{Alone}
 use Rattle.any_order.specs.Tasks.{Holding, DoesFor, Holds, Handed, Merged}
 use Rattle.any_order.specs.Sound.{valid, asked, leads, within, distinct}
-use Rattle.any_order.specs.InPanel.{own_totals, in_panel}
-use Rattle.any_order.specs.Sweeping.{as_row}
+use Rattle.any_order.proofs.InPanel.{own_totals, in_panel}
+use Rattle.any_order.proofs.Sweeping.{as_row}
 
 -- ---- rows put back at their places, n columns each: the row k of `own` at g k
 abbrev placed : {m : ℕ} {g : ℕ → ℕ} {t : ℕ} → (ℕ → ℤ) → ℤ → Placed m g t ⊎ Unplaced m g t → ℤ
