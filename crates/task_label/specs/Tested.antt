@@ -5,13 +5,14 @@ use Rattle.lemmas.specs.Bools.{never}
 use Rattle.paper.specs.declared.Task.{Task}
 use Rattle.paper.specs.declared.Lengths.{Lengths}
 use Rattle.paper.specs.Panel.Input.{Call, Choices}
-use Rattle.paper.specs.Panel.Made.{call_of}
+use Rattle.paper.specs.Panel.Made.{call_of, lattice_of}
 use Rattle.paper.specs.Panel.Takes.{draws_bonds, grows_by, greys_by, keeps_by}
 use Rattle.paper.specs.Refusal.Rule.{Rule, rule, Kept, Broken}
 use Rattle.paper.specs.Refusal.Rules.{When, Ranged, HoudOfTwo, Fits, group_names, Named, Spins, Inverse, Pins, Grouped, SmallCouplings, Warm, choice_rules}
 use Rattle.paper.specs.Refusal.Verdict.{Verdict, broken_first, broken_later}
-use Rattle.tests.specs.Panel.{shape_rules}
-use Rattle.step_tests.specs.Call.{Measured, call_rules}
+use Rattle.paper.specs.Answer.Totals.{SmallTotals, TotalLengths}
+use Rattle.tests.specs.Panel.{shape_rules, content_rules}
+use Rattle.step_tests.specs.Call.{Measured, total_rules, call_rules}
 
 pub verdict_broken : (rs : List Rule) (r : ℕ) → (r ≡ 0 → ⊥) → Verdict rs r → Broken rs r
 verdict_broken rs zero e v = absurd (e refl)
@@ -100,6 +101,9 @@ module _ (t : Task) (fwd bwd pins : List ℕ) (couplings : List ℤ) (cuts : Lis
     pub call_tested : (r : ℕ) → blue_test.claim → Verdict (call_rules t c p xs [] l) r → Verdict label_tests r
     call_tested r h v =
         verdict_with shape_tests (table_tests ++ own_tests) blue_test r h
-        (verdict_without (shape_tests ++ (table_tests ++ own_tests)) [] _ r nothing
-        (verdict_without (shape_tests ++ table_tests) _ _ r nothing
-        (verdict_without shape_tests _ _ r nothing v)))
+        (verdict_without (shape_tests ++ (table_tests ++ own_tests)) []
+        (rule 14 (When (keeps_by t.keeps t.form) (SmallTotals (Named t.s (group_names t.group)) []))) r nothing
+        (verdict_without (shape_tests ++ table_tests) (own_tests ++ total_rules t [])
+        (rule 6 (When (keeps_by t.keeps t.form) (SmallCouplings couplings))) r nothing
+        (verdict_without shape_tests (content_rules t xs fwd bwd pins couplings ++ (choice_rules c p xs ++ total_rules t []))
+        (rule 2 (When (keeps_by t.keeps t.form) (TotalLengths (lattice_of t.n t.d t.s fwd bwd couplings) []))) r nothing v)))

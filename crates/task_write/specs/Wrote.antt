@@ -158,8 +158,8 @@ module _ {t : Task} {fwd bwd : List ℕ} {js xs : List ℤ} {area : List ℕ} {t
 pub refused_by :
     (keeping : Bool) (h : Shape) (l : Writing) (r : ℕ) → (r ≡ 0 → ⊥) → Verdict (write_rules keeping h l) r
     → WriteAnswers keeping h l r l.rows l.totals
-refused_by keeping h l zero e v = absurd (e refl)
-refused_by keeping h l (suc r) e v = record { why = v; kept = refl; totals_kept = refl }
+refused_by _ h l zero e v = absurd (e refl)
+refused_by _ h l (suc r) e v = record { why = v; kept = refl; totals_kept = refl }
 
 module _ (t : Task) (fwd bwd : List ℕ) (js xs : List ℤ) (members area : List ℕ) (ts ys us : List ℤ) (k : TestedKept t fwd bwd js xs members area ts)
     (after : TotalsAfter (keeping t fwd bwd js xs members area ts) (lattice_for (own_task t) fwd bwd js) xs ts ys us) where
