@@ -12,24 +12,21 @@ use coded::Coding;
 use paper::{Answer, Form, Group, Keeps, Mode, Task};
 
 // The rows of so many members, in their order, as bytes.
-#[unsafe(no_mangle)]
-pub extern "C" fn tsorvenk_pack(n: usize, members: usize, rows: &[i8], columns: &mut [u8]) -> u8
+pub fn tsorvenk_pack(n: usize, members: usize, rows: &[i8], columns: &mut [u8]) -> u8
     ensures { PackAnswers n members rows.now columns.old result columns.new }
 {
     packing::pack(n, members, rows, columns)
 }
 
 // The rows that the bytes stand for.
-#[unsafe(no_mangle)]
-pub extern "C" fn tsorvenk_unpack(n: usize, members: usize, columns: &[u8], rows: &mut [i8]) -> u8
+pub fn tsorvenk_unpack(n: usize, members: usize, columns: &[u8], rows: &mut [i8]) -> u8
     ensures { UnpackAnswers n members columns.now rows.old result rows.new }
 {
     packing::unpack(n, members, columns, rows)
 }
 
 // One move or observation of a group of `members` on its bytes, with a total for each member. No system is named. Otherwise as `tsorvenk_step`.
-#[unsafe(no_mangle)]
-pub extern "C" fn tsorvenk_packed_step<'a>(
+pub fn tsorvenk_packed_step<'a>(
     mode: u8,
     form: u8,
     coding: u8,

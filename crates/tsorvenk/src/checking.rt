@@ -36,8 +36,7 @@ fn roomless(mode: Mode, n: usize, d: usize, members: usize) -> u8
 
 // Spins before and after of so many members, in the group's order. Accepted, a row for each component number; else the first component at fault, into a
 // buffer of one number.
-#[unsafe(no_mangle)]
-pub extern "C" fn tsorvenk_check_vendor(
+pub fn tsorvenk_check_vendor(
     mode: u8,
     n: usize,
     d: usize,

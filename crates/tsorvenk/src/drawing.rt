@@ -32,8 +32,7 @@ fn hand_over(left: Left, words: &mut [u64]) -> u8
 }
 
 // The next word, into a buffer of one. In this file `source` is lent as four words, read and, unless refused, written.
-#[unsafe(no_mangle)]
-pub extern "C" fn tsorvenk_word(source: &mut [u64], word: &mut [u64]) -> u8
+pub fn tsorvenk_word(source: &mut [u64], word: &mut [u64]) -> u8
     ensures { Draws WordDrawn source.old word.old result source.new word.new }
 {
     if source.len() != 4 {
@@ -44,8 +43,7 @@ pub extern "C" fn tsorvenk_word(source: &mut [u64], word: &mut [u64]) -> u8
 }
 
 // A coin, into a buffer of one.
-#[unsafe(no_mangle)]
-pub extern "C" fn tsorvenk_coin(source: &mut [u64], coin: &mut [u8]) -> u8
+pub fn tsorvenk_coin(source: &mut [u64], coin: &mut [u8]) -> u8
     ensures { Draws CoinDrawn source.old coin.old result source.new coin.new }
 {
     if source.len() != 4 {
@@ -56,8 +54,7 @@ pub extern "C" fn tsorvenk_coin(source: &mut [u64], coin: &mut [u8]) -> u8
 }
 
 // A number below m, of 1 to 4,096, into a buffer of one.
-#[unsafe(no_mangle)]
-pub extern "C" fn tsorvenk_below(m: u32, source: &mut [u64], number: &mut [u32]) -> u8
+pub fn tsorvenk_below(m: u32, source: &mut [u64], number: &mut [u32]) -> u8
     ensures { Draws (BelowDrawn m) source.old number.old result source.new number.new }
 {
     if source.len() != 4 {
@@ -68,8 +65,7 @@ pub extern "C" fn tsorvenk_below(m: u32, source: &mut [u64], number: &mut [u32])
 }
 
 // A permutation of 2 to 8 members, into a buffer of so many.
-#[unsafe(no_mangle)]
-pub extern "C" fn tsorvenk_permutation(members: usize, source: &mut [u64], row: &mut [u8]) -> u8
+pub fn tsorvenk_permutation(members: usize, source: &mut [u64], row: &mut [u8]) -> u8
     ensures { Draws (PermutationDrawn members) source.old row.old result source.new row.new }
 {
     if source.len() != 4 {
@@ -80,8 +76,7 @@ pub extern "C" fn tsorvenk_permutation(members: usize, source: &mut [u64], row: 
 }
 
 // Coins.
-#[unsafe(no_mangle)]
-pub extern "C" fn tsorvenk_fill_flips(source: &mut [u64], flips: &mut [u8]) -> u8
+pub fn tsorvenk_fill_flips(source: &mut [u64], flips: &mut [u8]) -> u8
     ensures { Draws FlipsFilled source.old flips.old result source.new flips.new }
 {
     if source.len() != 4 {
@@ -92,8 +87,7 @@ pub extern "C" fn tsorvenk_fill_flips(source: &mut [u64], flips: &mut [u8]) -> u
 }
 
 // Numbers below m, of 1 to 4,096.
-#[unsafe(no_mangle)]
-pub extern "C" fn tsorvenk_fill_below(m: u32, source: &mut [u64], numbers: &mut [u32]) -> u8
+pub fn tsorvenk_fill_below(m: u32, source: &mut [u64], numbers: &mut [u32]) -> u8
     ensures { Draws (BelowFilled m) source.old numbers.old result source.new numbers.new }
 {
     if source.len() != 4 {
@@ -104,8 +98,7 @@ pub extern "C" fn tsorvenk_fill_below(m: u32, source: &mut [u64], numbers: &mut 
 }
 
 // Numbers below m, of 1 to 256.
-#[unsafe(no_mangle)]
-pub extern "C" fn tsorvenk_fill_bytes_below(m: u32, source: &mut [u64], bytes: &mut [u8]) -> u8
+pub fn tsorvenk_fill_bytes_below(m: u32, source: &mut [u64], bytes: &mut [u8]) -> u8
     ensures { Draws (BytesFilled m) source.old bytes.old result source.new bytes.new }
 {
     if source.len() != 4 {
@@ -116,12 +109,7 @@ pub extern "C" fn tsorvenk_fill_bytes_below(m: u32, source: &mut [u64], bytes: &
 }
 
 // Permutations, row after row.
-#[unsafe(no_mangle)]
-pub extern "C" fn tsorvenk_fill_permutations(
-    members: usize,
-    source: &mut [u64],
-    rows: &mut [u8],
-) -> u8
+pub fn tsorvenk_fill_permutations(members: usize, source: &mut [u64], rows: &mut [u8]) -> u8
     ensures { Draws (PermutationsFilled members) source.old rows.old result source.new rows.new }
 {
     if source.len() != 4 {
@@ -132,12 +120,7 @@ pub extern "C" fn tsorvenk_fill_permutations(
 }
 
 // Permutations other than the identity, row after row.
-#[unsafe(no_mangle)]
-pub extern "C" fn tsorvenk_wolff_permutation(
-    members: usize,
-    source: &mut [u64],
-    rows: &mut [u8],
-) -> u8
+pub fn tsorvenk_wolff_permutation(members: usize, source: &mut [u64], rows: &mut [u8]) -> u8
     ensures { Draws (WolffFilled members) source.old rows.old result source.new rows.new }
 {
     if source.len() != 4 {
@@ -148,8 +131,7 @@ pub extern "C" fn tsorvenk_wolff_permutation(
 }
 
 // Grey numbers of 1 to 3.
-#[unsafe(no_mangle)]
-pub extern "C" fn tsorvenk_wolff_grey(source: &mut [u64], greys: &mut [u8]) -> u8
+pub fn tsorvenk_wolff_grey(source: &mut [u64], greys: &mut [u8]) -> u8
     ensures { Draws GreysFilled source.old greys.old result source.new greys.new }
 {
     if source.len() != 4 {
@@ -160,8 +142,7 @@ pub extern "C" fn tsorvenk_wolff_grey(source: &mut [u64], greys: &mut [u8]) -> u
 }
 
 // Permutations of five as numbers, 0 to 119.
-#[unsafe(no_mangle)]
-pub extern "C" fn tsorvenk_fill_numbers(source: &mut [u64], perms: &mut [u8]) -> u8
+pub fn tsorvenk_fill_numbers(source: &mut [u64], perms: &mut [u8]) -> u8
     ensures { Draws NumbersFilled source.old perms.old result source.new perms.new }
 {
     if source.len() != 4 {
@@ -172,8 +153,7 @@ pub extern "C" fn tsorvenk_fill_numbers(source: &mut [u64], perms: &mut [u8]) ->
 }
 
 // The same without the identity, whose number is 0.
-#[unsafe(no_mangle)]
-pub extern "C" fn tsorvenk_wolff_numbers(source: &mut [u64], perms: &mut [u8]) -> u8
+pub fn tsorvenk_wolff_numbers(source: &mut [u64], perms: &mut [u8]) -> u8
     ensures { Draws WolffNumbersFilled source.old perms.old result source.new perms.new }
 {
     if source.len() != 4 {

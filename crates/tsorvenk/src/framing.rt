@@ -4,8 +4,7 @@ ghost use Rattle.tsorvenk.specs.Frames.{framed, FramesNumbers};
 use frame_lines::Written;
 
 // The answer's frames go to the front of `out`, and their number of bytes to `written`.
-#[unsafe(no_mangle)]
-pub extern "C" fn tsorvenk_frames(text: &[u8], out: &mut [u8], written: &mut [usize]) -> u8
+pub fn tsorvenk_frames(text: &[u8], out: &mut [u8], written: &mut [usize]) -> u8
     ensures { FramesNumbers
         text.now
         (framed out.old written.old)

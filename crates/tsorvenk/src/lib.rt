@@ -1,16 +1,16 @@
 // The library as C and Rust call it. Each function is a shell over a proved one: numbers in, a number out, and no caller is trusted.
 #![tactic(auto)]
 
-mod bytes;
-mod checking;
-mod drawing;
-mod framing;
-mod listing;
-mod numbering;
-mod owned;
-mod stepping;
-mod sweeping;
-mod testing;
+pub mod bytes;
+pub mod checking;
+pub mod drawing;
+pub mod framing;
+pub mod listing;
+pub mod numbering;
+pub mod owned;
+pub mod stepping;
+pub mod sweeping;
+pub mod testing;
 
 ghost use Rattle.std.specs.Prelude.{◌≡◌, ◌≤◌, get_or};
 ghost use Rattle.lemmas.specs.Tells.{Tells};
@@ -250,8 +250,7 @@ fn labelling_number(answer: Labelling) -> u8
 
 // The components of the bonds whose byte in `holds` is 1, and how many there are, into a buffer of one number. Counts and sizes are of those whose
 // smallest site has a byte 1 in `counted`.
-#[unsafe(no_mangle)]
-pub extern "C" fn tsorvenk_label(
+pub fn tsorvenk_label(
     n: usize,
     d: usize,
     fwd: &[u32],

@@ -5,8 +5,7 @@ ghost use Rattle.tsorvenk.specs.Edges.{lists, ListNumbers};
 use edges::Listing;
 
 // Fills the couplings from the text of a list.
-#[unsafe(no_mangle)]
-pub extern "C" fn tsorvenk_read_edges(
+pub fn tsorvenk_read_edges(
     n: usize,
     d: usize,
     fwd: &[u32],
@@ -25,8 +24,7 @@ pub extern "C" fn tsorvenk_read_edges(
 }
 
 // The list goes to the front of `text`, and its number of bytes to `written`.
-#[unsafe(no_mangle)]
-pub extern "C" fn tsorvenk_write_edges(
+pub fn tsorvenk_write_edges(
     n: usize,
     d: usize,
     fwd: &[u32],

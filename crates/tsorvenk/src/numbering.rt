@@ -5,16 +5,14 @@ ghost use Rattle.tsorvenk.specs.Numbering.{RowNumbers};
 use orders::Numbered;
 
 // The row of a number, into a buffer of five.
-#[unsafe(no_mangle)]
-pub extern "C" fn tsorvenk_row_of(number: u8, row: &mut [u8]) -> u8
+pub fn tsorvenk_row_of(number: u8, row: &mut [u8]) -> u8
     ensures { RowAnswers number row.old result row.new }
 {
     orders::row_of(number, row)
 }
 
 // The number of a row, into a buffer of one.
-#[unsafe(no_mangle)]
-pub extern "C" fn tsorvenk_number_of(row: &[u8], number: &mut [u8]) -> u8
+pub fn tsorvenk_number_of(row: &[u8], number: &mut [u8]) -> u8
     ensures { RowNumbers row.now number.old result number.new }
 {
     if number.len() != 1 {

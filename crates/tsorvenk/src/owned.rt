@@ -15,8 +15,7 @@ use paper::Group;
 use systems::owners::{read, read_group, test_owners};
 
 // One move or observation. The length of `group` is the number of its systems.
-#[unsafe(no_mangle)]
-pub extern "C" fn tsorvenk_step<'a>(
+pub fn tsorvenk_step<'a>(
     mode: u8,
     form: u8,
     coding: u8,
@@ -102,8 +101,7 @@ pub extern "C" fn tsorvenk_step<'a>(
 }
 
 // The first hand-over of a team's totals: 0, or the number of the first test that fails. Nothing is written.
-#[unsafe(no_mangle)]
-pub extern "C" fn tsorvenk_hand_over(
+pub fn tsorvenk_hand_over(
     n: usize,
     d: usize,
     s: usize,
@@ -124,8 +122,7 @@ pub extern "C" fn tsorvenk_hand_over(
 }
 
 // The energy of one system, into a buffer of one number.
-#[unsafe(no_mangle)]
-pub extern "C" fn tsorvenk_energy(
+pub fn tsorvenk_energy(
     n: usize,
     d: usize,
     s: usize,

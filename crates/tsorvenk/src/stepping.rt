@@ -14,8 +14,7 @@ use super::{codes_ok, form_of, keeps_of, mode_of, number_of, taken};
 use paper::{Answer, Form, Group, Keeps, Mode, Task};
 
 // The tests of a move of so many members, and what it writes beside the spins. The rows are only read.
-#[unsafe(no_mangle)]
-pub extern "C" fn tsorvenk_task_label<'a>(
+pub fn tsorvenk_task_label<'a>(
     mode: u8,
     form: u8,
     n: usize,
@@ -96,8 +95,7 @@ pub extern "C" fn tsorvenk_task_label<'a>(
 }
 
 // From what the first step wrote, each site's column after the move, into the area. Of grow at the members alone.
-#[unsafe(no_mangle)]
-pub extern "C" fn tsorvenk_task_choose<'a>(
+pub fn tsorvenk_task_choose<'a>(
     mode: u8,
     form: u8,
     n: usize,
@@ -157,8 +155,7 @@ pub extern "C" fn tsorvenk_task_choose<'a>(
 }
 
 // The rows become what the columns of the area show, of grow at the members, and where totals are kept they follow.
-#[unsafe(no_mangle)]
-pub extern "C" fn tsorvenk_task_write(
+pub fn tsorvenk_task_write(
     mode: u8,
     form: u8,
     keeps: u8,

@@ -142,8 +142,7 @@ fn sweep<'a>(
 
 // A sweep over t temperatures of r replicas, which are the team's systems, in groups of `members`. `outcomes` gets the number of idle tasks, then of
 // those that moved, then of those that were held.
-#[unsafe(no_mangle)]
-pub extern "C" fn tsorvenk_sweep<'a>(
+pub fn tsorvenk_sweep<'a>(
     mode: u8,
     form: u8,
     coding: u8,

@@ -98,8 +98,7 @@ fn test<'a>(
 
 // Whether a sweep by rows is accepted: 0, or the number that `tsorvenk_sweep` would refuse it with. Nothing is written, and of the outputs only the lengths
 // are looked at.
-#[unsafe(no_mangle)]
-pub extern "C" fn tsorvenk_test_sweep<'a>(
+pub fn tsorvenk_test_sweep<'a>(
     mode: u8,
     form: u8,
     keeps: u8,

@@ -1,0 +1,23 @@
+-- `metered` meets its contract: without room for the energy the sizes decide, else the meter answers.
+use borrow.Author.Rules.{rules}
+use mir.Val.{SFits}
+use mir.Syntax.{w64}
+use mir.ValLaws.{to_z-of_z}
+use Rattle.lemmas.specs.Tells.{told, denied}
+use Rattle.paper.specs.Panel.Input.{Lattice}
+use Rattle.paper.specs.Panel.Made.{lattice_of}
+use Rattle.tsorvenk.proofs.Told.{no_sizes, no_room, metered}
+use Rattle.tsorvenk.proofs.metered.Goals as goal
+
+pub returns-then-sizes_ok : goal.returns-then-sizes_ok
+returns-then-sizes_ok c = no_room _ _ _ _ (told c.if-sizes_ok.true c.sizes_ok.ensures) c.if-energy-ne1.true
+
+pub returns-then-energy-ne1 : goal.returns-then-energy-ne1
+returns-then-energy-ne1 c = no_sizes _ _ _ _ (denied c.if-sizes_ok.false c.sizes_ok.ensures)
+
+pub returns-in-Energy : goal.returns-in-Energy
+returns-in-Energy c =
+    let panel : Lattice = lattice_of c.args.n c.args.d c.args.s c.args.fwd.now c.args.bwd.now c.args.couplings.now in
+    let fits : SFits w64 c.in-Energy.e = search rules in
+    rw (to_z-of_z w64 c.in-Energy.e fits)
+    (metered panel c.args.spins.now c.args.system c.args.energy.now c.in-Energy.e c.if-energy-ne1.false c.in-Energy.ensures)
