@@ -13,12 +13,13 @@ use Rattle.tsorvenk.proofs.sweeping.tsorvenk_sweep.Goals as goal
 
 pub returns : goal.returns
 returns c =
-    let a = c.args in
-    let team : Team = team_of a.team a.owners.now in
-    let w : Sweep = sweep_of (plan_for (mode_of a.mode) (form_of a.form) (keeps_of a.keeps) a.n a.d a.s a.s a.t a.r a.members) a.fwd.now
+    let team : Team = team_of c.args.team c.args.owners.now in
+    let W : Sweep = let a = c.args in
+    sweep_of (plan_for (mode_of a.mode) (form_of a.form) (keeps_of a.keeps) a.n a.d a.s a.s a.t a.r a.members) a.fwd.now
     a.bwd.now a.pins.now a.couplings.now a.order.now a.masks.now a.temperatures.now a.cuts.now a.references.now
     a.seeds.now (taken_of (mode_of a.mode) a.flips.now a.perms.now) a.greys.now in
+    let a = c.args in
     owner_told team a.s c.test_owners-fault.result c.sweep.result c.if-fault-ne0.false c.test_owners-fault.ensures
-    (sweep_read team w a.mode a.form a.coding a.keeps _ _ c.sweep.result c.own_count-systems.result c.read_order-len.result _ _
-    (verdict_kept (owner_rules team a.s) c.test_owners-fault.result c.if-fault-ne0.false c.test_owners-fault.ensures) c.own_count-systems.ensures (length-replicate {A = ℕ} 64 0)
+    (sweep_read team W a.mode a.form a.coding a.keeps _ _ c.sweep.result c.own_count-systems.result c.read_order-len.result _ _
+    (verdict_kept (owner_rules team c.args.s) c.test_owners-fault.result c.if-fault-ne0.false c.test_owners-fault.ensures) c.own_count-systems.ensures (length-replicate {A = ℕ} 64 0)
     c.read_order-len.ensures c.sweep.ensures)

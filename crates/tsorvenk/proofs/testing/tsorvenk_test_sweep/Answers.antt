@@ -16,14 +16,16 @@ use Rattle.tsorvenk.proofs.testing.tsorvenk_test_sweep.Goals as goal
 
 pub returns : goal.returns
 returns c =
-    let a = c.args in
-    let team : Team = team_of a.team a.owners.now in
-    let w : Sweep = sweep_of (plan_for (mode_of a.mode) (form_of a.form) (keeps_of a.keeps) a.n a.d a.s a.s a.t a.r a.members) a.fwd.now
+    let team : Team = team_of c.args.team c.args.owners.now in
+    let W : Sweep = let a = c.args in
+    sweep_of (plan_for (mode_of a.mode) (form_of a.form) (keeps_of a.keeps) a.n a.d a.s a.s a.t a.r a.members) a.fwd.now
     a.bwd.now a.pins.now a.couplings.now a.order.now a.masks.now a.temperatures.now a.cuts.now a.references.now
     a.seeds.now (taken_of (mode_of a.mode) a.flips.now a.perms.now) a.greys.now in
-    let b : Buffers = buffers_of a.spins.now a.labels.now a.grey_labels.now a.counts.now a.sizes.now a.member_sites.now a.found.now
+    let B : Buffers = let a = c.args in
+    buffers_of a.spins.now a.labels.now a.grey_labels.now a.counts.now a.sizes.now a.member_sites.now a.found.now
     a.grey_found.now in
+    let a = c.args in
     owner_told team a.s c.test_owners-fault.result c.test.result c.if-fault-ne0.false c.test_owners-fault.ensures
-    (test_read team w a.mode a.form a.keeps b a.totals.now c.test.result c.own_count-systems.result c.read_order-len.result _ _
-    (verdict_kept (owner_rules team a.s) c.test_owners-fault.result c.if-fault-ne0.false c.test_owners-fault.ensures) c.own_count-systems.ensures (length-replicate {A = ℕ} 64 0)
+    (test_read team W a.mode a.form a.keeps B a.totals.now c.test.result c.own_count-systems.result c.read_order-len.result _ _
+    (verdict_kept (owner_rules team c.args.s) c.test_owners-fault.result c.if-fault-ne0.false c.test_owners-fault.ensures) c.own_count-systems.ensures (length-replicate {A = ℕ} 64 0)
     c.read_order-len.ensures c.test.ensures)
