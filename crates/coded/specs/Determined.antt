@@ -6,9 +6,8 @@ use Rattle.lemmas.specs.Bools.{never}
 use Rattle.lemmas.specs.Determined.{one_value}
 use Rattle.paper.specs.declared.Mode.{Mode}
 use Rattle.paper.specs.declared.Form.{Form}
-use Rattle.paper.specs.declared.Answer.{Answer}
-use Rattle.paper.specs.declared.Answer.TheVariants.{Refused}
-use Rattle.paper.specs.declared.SweepAnswer.{SweepAnswer}
+use Rattle.paper.specs.Answer.Cases.{Answer, Answer.Refused}
+use Rattle.paper.specs.Answer.Cases.{SweepAnswer}
 use Rattle.paper.specs.Panel.Input.{Call, Choices, Buffers, size}
 use Rattle.paper.specs.Answer.Task.{Sweep}
 use Rattle.laws.specs.AnswersLocal.{with_spins}

@@ -9,8 +9,7 @@ use Rattle.std.proofs.lemmas.List.{length-replicate, get_or-replicate}
 use Rattle.lemmas.specs.Cells.{table}
 use Rattle.lemmas.specs.Tells.{Tells}
 use Rattle.paper.specs.declared.Group.{Group}
-use Rattle.paper.specs.declared.Answer.{Answer}
-use Rattle.paper.specs.declared.Answer.TheVariants.{Refused, Idle, Held, Moved}
+use Rattle.paper.specs.Answer.Cases.{Answer, Answer.Refused, Answer.Idle, Answer.Held, Answer.Moved}
 use Rattle.paper.specs.declared.Mode.TheVariants.{Perm}
 use Rattle.paper.specs.declared.Form.TheVariants.{Sw}
 use Rattle.paper.specs.declared.Keeps.TheVariants.{Nothing}

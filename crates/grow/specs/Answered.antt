@@ -11,8 +11,7 @@ use Rattle.lemmas.specs.Places.{Placed, Unplaced, place}
 use Rattle.paper.specs.declared.Task.{Task}
 use Rattle.paper.specs.declared.Mode.{Mode}
 use Rattle.paper.specs.declared.Mode.TheVariants.{Houd, Pair, Perm, Gperm, Jorg, Cmr}
-use Rattle.paper.specs.declared.Answer.{Answer}
-use Rattle.paper.specs.declared.Answer.TheVariants.{Refused, Idle, Held, Moved}
+use Rattle.paper.specs.Answer.Cases.{Answer, Answer.Refused, Answer.Idle, Answer.Held, Answer.Moved}
 use Rattle.paper.specs.Panel.Input.{Call, Choices, Pattern, pinned, pattern, graph}
 use Rattle.paper.specs.Panel.Made.{call_of, choices_of}
 use Rattle.paper.specs.Panel.Takes.{is_cmr, perms_by, greys_by, takes_greys}

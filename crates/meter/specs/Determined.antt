@@ -1,6 +1,6 @@
 -- The meter's promise allows one answer, and so does the hand-over's.
 use Rattle.std.specs.Prelude.{ℕ, ◌≡◌, List, ℤ}
-use Rattle.paper.specs.declared.MeterAnswer.{MeterAnswer}
+use Rattle.paper.specs.Answer.Cases.{MeterAnswer}
 use Rattle.paper.specs.Answer.Meter.{MeterAnswers, meter_determined}
 use Rattle.paper.specs.Answer.Team.{hand_over_rules}
 use Rattle.paper.specs.Refusal.Rule.{Rule}

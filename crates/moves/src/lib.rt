@@ -2,7 +2,7 @@
 #![tactic(auto)]
 
 ghost use Rattle.std.specs.Prelude.{◌≡◌, true, cond, ◌&&◌, eqb, get_or};
-ghost use Rattle.paper.specs.declared.Answer.TheVariants.{Held, Moved};
+ghost use Rattle.paper.specs.Answer.Cases.{Answer.Held, Answer.Moved};
 ghost use Rattle.paper.specs.Panel.Takes.{is_cmr, one_cluster};
 ghost use Rattle.paper.specs.Panel.Made.{call_of, choices_of};
 ghost use Rattle.moves.specs.Leaves.{RunAsks, beside_of, changes, RunLeaves};

@@ -1,8 +1,7 @@
 -- One more task's answer, counted.
 use Rattle.std.specs.Prelude.{ℕ, ◌+◌, ◌≤◌, ◌≡◌}
 use Rattle.lemmas.specs.Counts.{bit}
-use Rattle.paper.specs.declared.Answer.{Answer}
-use Rattle.paper.specs.declared.Answer.TheVariants.{Refused, Idle, Held, Moved}
+use Rattle.paper.specs.Answer.Cases.{Answer, Answer.Refused, Answer.Idle, Answer.Held, Answer.Moved}
 use Rattle.paper.specs.Answer.Task.{is_idle, is_held}
 use Rattle.outcomes.specs.declared.Outcomes.{Outcomes}
 

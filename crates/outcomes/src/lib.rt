@@ -2,7 +2,7 @@
 #![tactic(auto)]
 
 ghost use Rattle.std.specs.Prelude.{◌≡◌};
-ghost use Rattle.paper.specs.declared.SweepAnswer.TheVariants.{Swept};
+ghost use Rattle.paper.specs.Answer.Cases.{SweepAnswer.Swept};
 ghost use Rattle.outcomes.specs.Adding.{Growable, Added};
 
 use paper::{Answer, SweepAnswer};

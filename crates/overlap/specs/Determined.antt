@@ -1,6 +1,6 @@
 -- A move's promise allows one answer, one content of every buffer and one of the totals.
 use Rattle.std.specs.Prelude.{Bool, List, ℤ}
-use Rattle.paper.specs.declared.Answer.{Answer}
+use Rattle.paper.specs.Answer.Cases.{Answer}
 use Rattle.paper.specs.Panel.Input.{Call, Choices, Buffers}
 use Rattle.paper.specs.Answer.Totals.{KeepAnswers}
 use Rattle.laws.specs.KeepDetermined.{SameKept, keep_determined}

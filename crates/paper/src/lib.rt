@@ -3,6 +3,7 @@
 
 ghost use Rattle.std.specs.Prelude.{◌≡◌};
 ghost use Rattle.paper.specs.Site.Bonds.{sampler_of};
+ghost use Rattle.paper.specs.Refusal.Numbers.{number_of};
 ghost use Rattle.paper.specs.Panel.Takes.{is_houd, is_perm, is_gperm, is_cmr, is_drawn, is_sw, one_cluster, grows_by, labels_by, moves};
 ghost use Rattle.paper.specs.Panel.Takes.{flips_by, perms_by, choices_by, greys_by, grey_labels_by, keeps_by, entries, choice_width};
 
@@ -279,9 +280,53 @@ pub struct Lengths {
     pub grey_found: usize,
 }
 
-#[derive(Clone, Copy)]
-pub enum Answer {
-    Refused(u8),
+// The refusals, each with its number: what is wrong with an input.
+#[derive(Clone, Copy, PartialEq, Eq, Debug)]
+pub enum Refusal {
+    Sizes,
+    Lengths,
+    Spins,
+    Tables,
+    Systems,
+    Couplings,
+    Temperature,
+    Cuts,
+    Choices,
+    Seed,
+    Frames,
+    Draws,
+    EdgeList,
+    Totals,
+    HoudOfMany,
+}
+
+impl Refusal {
+    pub fn number(self) -> u8
+        ensures { result ≡ number_of self }
+    {
+        match self {
+            Refusal::Sizes => 1,
+            Refusal::Lengths => 2,
+            Refusal::Spins => 3,
+            Refusal::Tables => 4,
+            Refusal::Systems => 5,
+            Refusal::Couplings => 6,
+            Refusal::Temperature => 7,
+            Refusal::Cuts => 8,
+            Refusal::Choices => 9,
+            Refusal::Seed => 10,
+            Refusal::Frames => 11,
+            Refusal::Draws => 12,
+            Refusal::EdgeList => 13,
+            Refusal::Totals => 14,
+            Refusal::HoudOfMany => 15,
+        }
+    }
+}
+
+// What becomes of an accepted move: no site acts, a pin holds the seed's component, or it moves.
+#[derive(Clone, Copy, PartialEq, Eq, Debug)]
+pub enum Outcome {
     Idle,
     Held,
     Moved,
@@ -314,16 +359,10 @@ impl Sampler {
     }
 }
 
-// A sweep's answer: a refusal, or how many unmasked tasks were idle, how many moved and how many were held.
-#[derive(Clone, Copy)]
-pub enum SweepAnswer {
-    Fault(u8),
-    Swept(u32, u32, u32),
-}
-
-// The meter's answer: a refusal, or the energy of one system.
-#[derive(Clone, Copy)]
-pub enum MeterAnswer {
-    Unmetered(u8),
-    Energy(i64),
+// Of an accepted sweep: how many unmasked tasks were idle, how many moved and how many were held.
+#[derive(Clone, Copy, PartialEq, Eq, Debug)]
+pub struct Counts {
+    pub idle: u32,
+    pub moved: u32,
+    pub held: u32,
 }

@@ -1,5 +1,5 @@
 -- A move's promise allows one answer and one content of every buffer.
-use Rattle.paper.specs.declared.Answer.{Answer}
+use Rattle.paper.specs.Answer.Cases.{Answer}
 use Rattle.paper.specs.Panel.Input.{Call, Choices, Buffers}
 use Rattle.paper.specs.Answer.Move.{Answers}
 use Rattle.laws.specs.Determined.{Same, determined}

@@ -1,6 +1,6 @@
 -- The sweep has one answer, and leaves one content of every buffer and of the totals.
 use Rattle.std.specs.Prelude.{Bool, List, ℤ}
-use Rattle.paper.specs.declared.SweepAnswer.{SweepAnswer}
+use Rattle.paper.specs.Answer.Cases.{SweepAnswer}
 use Rattle.paper.specs.Panel.Input.{Buffers}
 use Rattle.paper.specs.Answer.Task.{Sweep}
 use Rattle.paper.specs.Answer.Totals.{SweepKeepAnswers}

@@ -2,8 +2,7 @@
 use Rattle.std.specs.Prelude.{ℕ, zero, suc, ◌*◌, ◌<◌, ◌≡◌, refl, Bool, true, false, List, length, get_or, ℤ}
 use Rattle.std.proofs.Common.{sym, ◌∙◌, ap, subst, ext_get_or}
 use Rattle.paper.specs.declared.Group.{Group}
-use Rattle.paper.specs.declared.Answer.{Answer}
-use Rattle.paper.specs.declared.Answer.TheVariants.{Refused, Idle, Held, Moved}
+use Rattle.paper.specs.Answer.Cases.{Answer, Answer.Refused, Answer.Idle, Answer.Held, Answer.Moved}
 use Rattle.paper.specs.Panel.Input.{Lattice, graph, Call, Choices, Buffers, pattern_of, spin}
 use Rattle.paper.specs.Site.Bonds.{holds}
 use Rattle.paper.specs.Move.Moving.{final}

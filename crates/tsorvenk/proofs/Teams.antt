@@ -10,8 +10,7 @@ use lib.Dec.{leb}
 use lib.ListN.{length, take, length-take, length-map}
 use lib.IntN.{ℤ}
 use Rattle.lemmas.specs.Tells.{denied, both, test_le}
-use Rattle.paper.specs.declared.SweepAnswer.{SweepAnswer}
-use Rattle.paper.specs.declared.SweepAnswer.TheVariants.{Fault, Swept}
+use Rattle.paper.specs.Answer.Cases.{SweepAnswer, SweepAnswer.Fault, SweepAnswer.Swept}
 use Rattle.paper.specs.Panel.Input.{Buffers}
 use Rattle.paper.specs.Refusal.Rule.{Kept, Broken, broken_unique, broken_not_kept}
 use Rattle.paper.specs.Refusal.Verdict.{Verdict, verdict_kept}

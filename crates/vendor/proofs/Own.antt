@@ -3,7 +3,7 @@ use Rattle.std.specs.Prelude.{ℕ, ◌*◌, ◌<◌, ◌≡◌, refl, true, List
 use Rattle.std.proofs.Common.{sym, ◌∙◌, subst, arith}
 use Rattle.paper.specs.declared.Mode.{Mode}
 use Rattle.paper.specs.declared.Mode.TheVariants.{Houd, Pair, Perm, Gperm, Jorg, Cmr}
-use Rattle.paper.specs.declared.Answer.{Answer}
+use Rattle.paper.specs.Answer.Cases.{Answer}
 use Rattle.paper.specs.declared.Task.{Task}
 use Rattle.paper.specs.Panel.Input.{Call, Choices, Buffers, Pattern, graph, pattern, size, ahead}
 use Rattle.paper.specs.Panel.Takes.{is_perm, is_gperm}

@@ -11,8 +11,7 @@ use Rattle.paper.specs.declared.Mode.{Mode}
 use Rattle.paper.specs.declared.Mode.TheVariants.{Houd, Pair, Perm, Gperm, Jorg, Cmr}
 use Rattle.paper.specs.declared.Form.TheVariants.{Sw}
 use Rattle.paper.specs.declared.Task.{Task}
-use Rattle.paper.specs.declared.Answer.{Answer}
-use Rattle.paper.specs.declared.Answer.TheVariants.{Refused, Idle, Held, Moved}
+use Rattle.paper.specs.Answer.Cases.{Answer, Answer.Refused, Answer.Idle, Answer.Held, Answer.Moved}
 use Rattle.paper.specs.Panel.Input.{Call, Choices, Buffers, Pattern, graph, spin, pattern, size}
 use Rattle.paper.specs.Panel.Takes.{is_perm, is_houd, is_cmr, is_drawn, takes_perms, takes_greys}
 use Rattle.paper.specs.Site.Acting.{acts, NoneActs}

@@ -1,7 +1,7 @@
 -- `run_grow` meets its contract: the cluster is found, and if it moves its columns are chosen and written.
 use native.Mathlib.Nat.{le_refl}
 use mathlib.Core.Path.{refl, subst}
-use Rattle.paper.specs.declared.Answer.{Answer}
+use Rattle.paper.specs.Answer.Cases.{Answer}
 use Rattle.paper.specs.Panel.Made.{call_of}
 use Rattle.grow.specs.Finding.{FindsFree, Finds, lookable}
 use Rattle.grow.specs.Pinned.{turned_free}
