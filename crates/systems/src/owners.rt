@@ -5,23 +5,24 @@ ghost use Rattle.lemmas.specs.Tells.{Tells};
 ghost use Rattle.paper.specs.Refusal.Rules.{Spins};
 ghost use Rattle.paper.specs.Refusal.Verdict.{Verdict};
 ghost use Rattle.paper.specs.Answer.Team.{owner_rules, own, Ours, own_count, read, read_group};
+ghost use Rattle.paper.specs.Refusal.Numbers.{verdict_of};
 ghost use Rattle.systems.specs.Rows.{Rowed};
 ghost use Rattle.systems.specs.Owners.{team_of, read_at, read_length, OrderRead};
 
 use lemmas::wide;
-use paper::Group;
+use paper::{Group, Refusal};
 
-// The tests before all others: the number of the first that fails, or 0.
-pub fn test_owners(s: usize, team: u8, owners: &[u8]) -> u8
-    ensures { Verdict (owner_rules (team_of team owners.now) s) result }
+// The tests before all others: the refusal of the first that fails.
+pub fn test_owners(s: usize, team: u8, owners: &[u8]) -> Result<(), Refusal>
+    ensures { Verdict (owner_rules (team_of team owners.now) s) (verdict_of result) }
 {
     if owners.len() != s {
-        return 2;
+        return Err(Refusal::Lengths);
     }
     if !(lattice::bytes_at_most(owners, 1) & (team <= 1)) {
-        return 3;
+        return Err(Refusal::Spins);
     }
-    0
+    Ok(())
 }
 
 pub fn own(team: u8, owners: &[u8], t: usize) -> bool

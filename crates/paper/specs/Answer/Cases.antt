@@ -40,7 +40,7 @@ meter_answer_of (Ok e) = MeterAnswer.Energy e
 meter_answer_of (Err e) = MeterAnswer.Unmetered (number_of e)
 
 -- ---- each answer is of one result
-result_of : Answer → Result Outcome Refusal
+abbrev result_of : Answer → Result Outcome Refusal
 result_of (Answer.Refused r) = Err (refusal_of r)
 result_of Answer.Idle = Ok Outcome.Idle
 result_of Answer.Held = Ok Outcome.Held
@@ -55,7 +55,7 @@ result_again (Err e) = ap Err (refusal_of_number e)
 pub answer_of_injective : (a b : Result Outcome Refusal) → answer_of a ≡ answer_of b → a ≡ b
 answer_of_injective a b e = sym (result_again a) ∙ (ap result_of e ∙ result_again b)
 
-swept_of : SweepAnswer → Result Counts Refusal
+abbrev swept_of : SweepAnswer → Result Counts Refusal
 swept_of (SweepAnswer.Fault r) = Err (refusal_of r)
 swept_of (SweepAnswer.Swept idle moved held) = Ok (record { idle = idle; moved = moved; held = held })
 
@@ -66,7 +66,7 @@ swept_again (Err e) = ap Err (refusal_of_number e)
 pub sweep_answer_of_injective : (a b : Result Counts Refusal) → sweep_answer_of a ≡ sweep_answer_of b → a ≡ b
 sweep_answer_of_injective a b e = sym (swept_again a) ∙ (ap swept_of e ∙ swept_again b)
 
-metered_of : MeterAnswer → Result ℤ Refusal
+abbrev metered_of : MeterAnswer → Result ℤ Refusal
 metered_of (MeterAnswer.Unmetered r) = Err (refusal_of r)
 metered_of (MeterAnswer.Energy e) = Ok e
 

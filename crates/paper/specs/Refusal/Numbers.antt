@@ -1,5 +1,5 @@
 -- The number of each refusal, and the number that a test answers: 0 where it refuses nothing.
-use Rattle.std.specs.Prelude.{ℕ, zero, suc, ◌≡◌, refl, List, Result, Ok, Err}
+use Rattle.std.specs.Prelude.{ℕ, zero, suc, ◌-◌, ◌≡◌, refl, List, [], ◌∷◌, get_or, Result, Ok, Err}
 use Rattle.std.proofs.Common.{sym, ◌∙◌, ap}
 use Rattle.paper.specs.declared.Refusal.{Refusal}
 use Rattle.paper.specs.declared.Refusal.TheVariants.{Sizes, Lengths, Spins, Tables, Systems, Couplings, Temperature, Cuts, Choices, Seed}
@@ -64,22 +64,12 @@ refuses rs Totals v = v
 refuses rs HoudOfMany v = v
 
 -- ---- no two have one number
+abbrev refusals : List Refusal
+refusals =
+    Sizes ∷ Lengths ∷ Spins ∷ Tables ∷ Systems ∷ Couplings ∷ Temperature ∷ Cuts ∷ Choices ∷ Seed ∷ Frames ∷ Draws ∷ EdgeList ∷ Totals ∷ HoudOfMany ∷ []
+
 abbrev pub refusal_of : ℕ → Refusal
-refusal_of 1 = Sizes
-refusal_of 2 = Lengths
-refusal_of 3 = Spins
-refusal_of 4 = Tables
-refusal_of 5 = Systems
-refusal_of 6 = Couplings
-refusal_of 7 = Temperature
-refusal_of 8 = Cuts
-refusal_of 9 = Choices
-refusal_of 10 = Seed
-refusal_of 11 = Frames
-refusal_of 12 = Draws
-refusal_of 13 = EdgeList
-refusal_of 14 = Totals
-refusal_of r = HoudOfMany
+refusal_of r = get_or refusals (r - 1) HoudOfMany
 
 pub refusal_of_number : (e : Refusal) → refusal_of (number_of e) ≡ e
 refusal_of_number Sizes = refl
