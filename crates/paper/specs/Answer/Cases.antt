@@ -25,10 +25,13 @@ pub data MeterAnswer : Type 0 where
   Energy : ℤ → MeterAnswer
 
 -- ---- which answer a result is
+abbrev pub answer_by : Outcome → Answer
+answer_by Outcome.Idle = Answer.Idle
+answer_by Outcome.Held = Answer.Held
+answer_by Outcome.Moved = Answer.Moved
+
 abbrev pub answer_of : Result Outcome Refusal → Answer
-answer_of (Ok Outcome.Idle) = Answer.Idle
-answer_of (Ok Outcome.Held) = Answer.Held
-answer_of (Ok Outcome.Moved) = Answer.Moved
+answer_of (Ok o) = answer_by o
 answer_of (Err e) = Answer.Refused (number_of e)
 
 abbrev pub sweep_answer_of : Result Counts Refusal → SweepAnswer
@@ -54,6 +57,9 @@ result_again (Err e) = ap Err (refusal_of_number e)
 
 pub answer_of_injective : (a b : Result Outcome Refusal) → answer_of a ≡ answer_of b → a ≡ b
 answer_of_injective a b e = sym (result_again a) ∙ (ap result_of e ∙ result_again b)
+
+pub answer_by_injective : (a b : Outcome) → answer_by a ≡ answer_by b → a ≡ b
+answer_by_injective a b e = cc (answer_of_injective (Ok a) (Ok b) e)
 
 abbrev swept_of : SweepAnswer → Result Counts Refusal
 swept_of (SweepAnswer.Fault r) = Err (refusal_of r)

@@ -1,11 +1,11 @@
 -- The number of each refusal, and the number that a test answers: 0 where it refuses nothing.
-use Rattle.std.specs.Prelude.{ℕ, zero, suc, ◌-◌, ◌≡◌, refl, List, [], ◌∷◌, get_or, Result, Ok, Err}
+use Rattle.std.specs.Prelude.{ℕ, zero, suc, ◌-◌, ◌≡◌, refl, List, [], ◌∷◌, ◌++◌, get_or, Result, Ok, Err}
 use Rattle.std.proofs.Common.{sym, ◌∙◌, ap}
 use Rattle.paper.specs.declared.Refusal.{Refusal}
 use Rattle.paper.specs.declared.Refusal.TheVariants.{Sizes, Lengths, Spins, Tables, Systems, Couplings, Temperature, Cuts, Choices, Seed}
 use Rattle.paper.specs.declared.Refusal.TheVariants.{Frames, Draws, EdgeList, Totals, HoudOfMany}
 use Rattle.paper.specs.Refusal.Rule.{Rule, Kept, Broken}
-use Rattle.paper.specs.Refusal.Verdict.{Verdict}
+use Rattle.paper.specs.Refusal.Verdict.{Verdict, broken_first}
 
 abbrev pub number_of : Refusal → ℕ
 number_of Sizes = 1
@@ -62,6 +62,10 @@ refuses rs Draws v = v
 refuses rs EdgeList v = v
 refuses rs Totals v = v
 refuses rs HoudOfMany v = v
+
+-- a test before others refuses as they all do
+pub refused_first : (rs qs : List Rule) (e : Refusal) → Verdict rs (number_of e) → Verdict (rs ++ qs) (number_of e)
+refused_first rs qs e v = refuses (rs ++ qs) e (broken_first rs qs (number_of e) (refused rs e v))
 
 -- ---- no two have one number
 abbrev refusals : List Refusal
