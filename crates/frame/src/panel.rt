@@ -2,12 +2,13 @@
 ghost use Rattle.std.specs.Prelude.{List, [], ◌∷◌, ℕ, ◌*◌};
 ghost use Rattle.neighbours.specs.Backward.{Turnable};
 ghost use Rattle.paper.specs.Panel.Made.{buffers_of};
+ghost use Rattle.paper.specs.Answer.Cases.{answer_of};
 ghost use Rattle.frame_lines.specs.Reading.{Held, Readout};
 ghost use Rattle.frame_lines.specs.Writing.{WrittenAs};
 ghost use Rattle.frame.specs.Run.{PermMoved, Writable, answer_text, PanelWritten, PanelGiven, RunAs};
 
 use frame_lines::{Sizes, Written};
-use paper::{Answer, Form, Group, Keeps, Mode, Task};
+use paper::{Form, Group, Keeps, Mode, Outcome, Refusal, Task};
 
 // The move keeps no totals, and takes no couplings, cuts, grey numbers or members: they are empty. No site is pinned. How many components it finds is
 // not written out.
@@ -23,11 +24,11 @@ fn perm_move(
     labels: &mut [u32],
     counts: &mut [u32],
     sizes: &mut [u32],
-) -> Answer
+) -> Result<Outcome, Refusal>
     requires { Turnable n d fwd.now bwd.old }
     ensures { PermMoved n d s group fwd.now perms.now
         (buffers_of spins.old labels.old [] counts.old sizes.old [] (0 ∷ []) [])
-        result bwd.new spins.new labels.new counts.new sizes.new }
+        (answer_of result) bwd.new spins.new labels.new counts.new sizes.new }
 {
     neighbours::backward(n, d, fwd, bwd);
     let mut totals = [0i64; 1];
@@ -72,15 +73,19 @@ fn perm_move(
 }
 
 // Idle, held and moved are written alike.
-fn write_answer(r: Answer, labels: &[u32], counts: &[u32], spins: &[i8], out: &mut [u8]) -> Written
-    requires { Writable r labels.now counts.now }
-    ensures { WrittenAs (answer_text r labels.now counts.now spins.now) out.old result out.new }
+fn write_answer(
+    r: Result<Outcome, Refusal>,
+    labels: &[u32],
+    counts: &[u32],
+    spins: &[i8],
+    out: &mut [u8],
+) -> Written
+    requires { Writable (answer_of r) labels.now counts.now }
+    ensures { WrittenAs (answer_text (answer_of r) labels.now counts.now spins.now) out.old result out.new }
 {
     match r {
-        Answer::Refused(c) => frame_lines::write_refusal(c, out),
-        Answer::Idle => frame_lines::write(labels, counts, spins, out),
-        Answer::Held => frame_lines::write(labels, counts, spins, out),
-        Answer::Moved => frame_lines::write(labels, counts, spins, out),
+        Ok(_) => frame_lines::write(labels, counts, spins, out),
+        Err(refusal) => frame_lines::write_refusal(refusal.number(), out),
     }
 }
 
@@ -105,7 +110,7 @@ fn move_and_write(
         out.old result out.new }
 {
     if !lattice::spins_ok(spins) {
-        return frame_lines::write_refusal(3, out);
+        return frame_lines::write_refusal(Refusal::Spins.number(), out);
     }
     let r = perm_move(
         n, d, s, group, spins, fwd, perms, bwd, labels, counts, sizes,

@@ -7,7 +7,6 @@ mod tables;
 
 ghost use Rattle.std.specs.Prelude.{◌≤◌};
 
-use label::Labelling;
 use referee::right;
 use std::io;
 use std::num::wrapping_add_u32;
@@ -19,13 +18,6 @@ struct Runs {
     seed: u64,
     good: u32,
     bad: u32,
-}
-
-fn written(a: Labelling) -> bool {
-    match a {
-        Labelling::Written => true,
-        Labelling::Unlabelled(_) => false,
-    }
 }
 
 fn noted(t: Runs, seed: u64, ok: bool) -> Runs {
@@ -58,9 +50,9 @@ fn agrees(
     tally: &mut [u32],
 ) -> bool {
     let mut found = [0u32; 1];
-    let a = label::components(n, d, fwd, holds, counted, labels, counts, sizes, &mut found);
+    let answer = label::components(n, d, fwd, holds, counted, labels, counts, sizes, &mut found);
     let m = found[0];
-    written(a)
+    answer.is_ok()
         & right(
             d, fwd, holds, counted, labels, counts, sizes, m, marks, tally,
         )

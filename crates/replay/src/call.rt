@@ -5,7 +5,7 @@ use crate::fields::{
     same_spins, same_words, word,
 };
 use crate::head::{Head, Sizes, form_of, mode_of, sizes_of};
-use paper::{Answer, Group, Keeps, Plan, SweepAnswer, Task};
+use paper::{Counts, Group, Keeps, Outcome, Plan, Refusal, Task};
 
 // How many tasks were idle and how many moved; a refusal is neither, and no case of the list has 255 of both. A held task is neither too, and would
 // differ: the list has none.
@@ -15,25 +15,28 @@ struct Outcomes {
     moved: u32,
 }
 
-fn of_step(a: Answer) -> Outcomes {
-    match a {
-        Answer::Refused(_) => Outcomes {
+fn of_step(answer: Result<Outcome, Refusal>) -> Outcomes {
+    match answer {
+        Err(_) => Outcomes {
             idle: 255,
             moved: 255,
         },
-        Answer::Idle => Outcomes { idle: 1, moved: 0 },
-        Answer::Held => Outcomes { idle: 0, moved: 0 },
-        Answer::Moved => Outcomes { idle: 0, moved: 1 },
+        Ok(Outcome::Idle) => Outcomes { idle: 1, moved: 0 },
+        Ok(Outcome::Held) => Outcomes { idle: 0, moved: 0 },
+        Ok(Outcome::Moved) => Outcomes { idle: 0, moved: 1 },
     }
 }
 
-fn of_sweep(a: SweepAnswer) -> Outcomes {
-    match a {
-        SweepAnswer::Fault(_) => Outcomes {
+fn of_sweep(answer: Result<Counts, Refusal>) -> Outcomes {
+    match answer {
+        Err(_) => Outcomes {
             idle: 255,
             moved: 255,
         },
-        SweepAnswer::Swept(idle, moved, _) => Outcomes { idle, moved },
+        Ok(counts) => Outcomes {
+            idle: counts.idle,
+            moved: counts.moved,
+        },
     }
 }
 

@@ -8,10 +8,11 @@ ghost use Rattle.paper.specs.Answer.Sweep.{sweep_rules, SweepAnswers};
 ghost use Rattle.paper.specs.Answer.Totals.{TotalsAsked, TotalsAfter};
 ghost use Rattle.paper.specs.Panel.Made.{lattice_of, buffers_of};
 ghost use Rattle.paper.specs.Answer.Made.{sweep_of};
+ghost use Rattle.paper.specs.Answer.Cases.{sweep_answer_by};
 ghost use Rattle.sweep_tasks.specs.Turning.{Turn, Turned};
 
 use outcomes::{Outcomes, add, told};
-use paper::{Plan, SweepAnswer};
+use paper::{Counts, Plan};
 
 // The task k, unless it is masked, with its parts of the inputs and its areas of the outputs.
 fn step(
@@ -128,7 +129,7 @@ pub fn run_tasks(
     members: &mut [u8],
     found: &mut [u32],
     grey_found: &mut [u32],
-) -> SweepAnswer
+) -> Counts
     requires kept { Kept (sweep_rules
         (sweep_of plan fwd.now bwd.now pins.now couplings.now order.now masks.now temperatures.now cuts.now
         references.now seeds.now choices.now greys.now)
@@ -140,7 +141,7 @@ pub fn run_tasks(
         temperatures.now cuts.now references.now seeds.now
         choices.now greys.now)
         (buffers_of spins.old labels.old grey_labels.old counts.old sizes.old
-        members.old found.old grey_found.old) result
+        members.old found.old grey_found.old) (sweep_answer_by result)
         (buffers_of spins.new labels.new grey_labels.new counts.new sizes.new
         members.new found.new grey_found.new) }
     ensures totals_after { TotalsAfter (keeps_by plan.keeps plan.form)

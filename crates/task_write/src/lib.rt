@@ -9,10 +9,11 @@ mod tested;
 ghost use Rattle.std.specs.Prelude.{[]};
 ghost use Rattle.paper.specs.Panel.Made.{call_of};
 ghost use Rattle.paper.specs.Panel.Takes.{keeps_by};
+ghost use Rattle.paper.specs.Refusal.Numbers.{verdict_of};
 ghost use Rattle.packing.specs.Bytes.{own_task};
 ghost use Rattle.task_steps.specs.Write.{shape_of, writing_of, WriteAnswers};
 
-use paper::{Form, Group, Keeps, Mode, Task};
+use paper::{Form, Group, Keeps, Mode, Refusal, Task};
 
 // Of the group only its size is looked at, and not the number of systems: the rows are the members' own, in their order. The form that grows reads the
 // area at its members alone; where no totals are kept, tables, couplings and totals are not looked at.
@@ -25,12 +26,12 @@ pub fn task_write(
     couplings: &[i32],
     members: &[u8],
     area: &[u8],
-) -> u8
+) -> Result<(), Refusal>
     ensures { WriteAnswers
         (keeps_by t.keeps t.form)
         (shape_of (call_of (own_task t) fwd.now bwd.now [] couplings.now []))
         (writing_of rows.old members.now area.now totals.old)
-        result rows.new totals.new }
+        (verdict_of result) rows.new totals.new }
 {
     let mode = t.mode;
     let form = t.form;
@@ -52,14 +53,11 @@ pub fn task_write(
         reference: t.reference,
         seed: t.seed,
     };
-    let fault = tested::test_write(own, rows, totals, fwd, bwd, couplings, members, area);
-    if fault != 0 {
-        return fault;
-    }
+    tested::test_write(own, rows, totals, fwd, bwd, couplings, members, area)?;
     if form.grows() {
         grown::write_grown(own, rows, totals, fwd, bwd, couplings, members, area);
-        return 0;
+        return Ok(());
     }
     labelled::write_labelled(own, rows, totals, fwd, bwd, couplings, area);
-    0
+    Ok(())
 }

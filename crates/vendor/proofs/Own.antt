@@ -16,8 +16,7 @@ use Rattle.paper.specs.Refusal.Kept.{Valid}
 use Rattle.paper.specs.Answer.Move.{Answers, Accepted}
 use Rattle.laws.specs.Patterns.{Spinning}
 use Rattle.laws.specs.Entries.{spin_of}
-use Rattle.vendor.specs.declared.Checked.{Checked}
-use Rattle.vendor.specs.declared.Checked.TheVariants.{Refused, No, Yes}
+use Rattle.vendor.specs.Checked.{Checked, Checked.Refused, Checked.No, Checked.Yes}
 use Rattle.vendor.specs.Vendor.{asked_by, turned_by, Explained, Unchanged, Fair, Lent, vendor_rules, number, VendorAnswers}
 use Rattle.packing.specs.Gathered.{group_rows, length_group, group_at}
 use Rattle.vendor.specs.GroupRows.{SameMove, alone, asked_alone, alone_pattern, alone_acts, alone_labels}

@@ -25,7 +25,7 @@ use Rattle.paper.specs.Answer.Move.{Goes, Answers, Accepted.idle, Accepted.moved
 use Rattle.laws.specs.Unique.{GroupIs, HoldAlike, label_lt, labels_unique, labels_ext}
 use Rattle.laws.specs.GrowsAsWolff.{with_form}
 use Rattle.packing.proofs.Laws.{rows_ext, own_grouped, own_pattern}
-use Rattle.vendor.specs.declared.Checked.TheVariants.{Yes}
+use Rattle.vendor.specs.Checked.{Checked.Yes}
 use Rattle.orders.specs.Words.{word_at}
 use Rattle.vendor.specs.Vendor.{asked_by, turned_by, Explains, Fair, Lent, Accepts, VendorAnswers}
 use Rattle.vendor.specs.Components.{row_permutes}

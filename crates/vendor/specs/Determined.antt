@@ -6,8 +6,7 @@ use Rattle.paper.specs.Panel.Input.{Call, graph, size}
 use Rattle.paper.specs.Site.Bonds.{holds}
 use Rattle.paper.specs.Refusal.Rule.{broken_unique, broken_not_kept}
 use Rattle.laws.specs.Unique.{labels_unique, found_unique}
-use Rattle.vendor.specs.declared.Checked.{Checked}
-use Rattle.vendor.specs.declared.Checked.TheVariants.{Refused, No, Yes}
+use Rattle.vendor.specs.Checked.{Checked, Checked.Refused, Checked.No, Checked.Yes}
 use Rattle.vendor.specs.Vendor.{vendor_rules, Denies, Accepts, VendorAnswers}
 use Rattle.vendor.specs.Components.{row_same}
 use Rattle.matching.specs.Determined.{words_ext}

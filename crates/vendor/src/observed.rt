@@ -1,20 +1,8 @@
 // The components of the spins before.
-ghost use Rattle.std.specs.Prelude.{◌≡◌};
-ghost use Rattle.paper.specs.Answer.Number.{number};
+ghost use Rattle.paper.specs.Refusal.Numbers.{verdict_of};
 ghost use Rattle.vendor.specs.Observed.{Observable, Observes};
 
-use paper::{Answer, Form, Keeps, Task};
-
-fn number(answer: Answer) -> u8
-    ensures { result ≡ number answer }
-{
-    match answer {
-        Answer::Refused(k) => k,
-        Answer::Idle => 0,
-        Answer::Held => 0,
-        Answer::Moved => 0,
-    }
-}
+use paper::{Form, Keeps, Refusal, Task};
 
 // Tests the tables, the pins and the reference, and labels the columns, by an observation of them. They stay as they are.
 pub(crate) fn observe(
@@ -24,10 +12,10 @@ pub(crate) fn observe(
     bwd: &[u32],
     pins: &[u8],
     labels: &mut [u32],
-) -> u8
+) -> Result<(), Refusal>
     requires { Observable t columns.old fwd.now bwd.now pins.now labels.old }
     ensures { Observes t columns.old fwd.now bwd.now pins.now
-        result columns.new labels.new }
+        (verdict_of result) columns.new labels.new }
 {
     let named = t.group;
     let mode = t.mode;
@@ -56,7 +44,7 @@ pub(crate) fn observe(
     let mut found = [0u32; 1];
     let mut grey_found = [0u32; 1];
     let last = n + 1;
-    let answer = packed::packed_step(
+    packed::packed_step(
         o,
         columns,
         &mut totals[..0],
@@ -74,6 +62,6 @@ pub(crate) fn observe(
         &mut members[..0],
         &mut found,
         &mut grey_found[..0],
-    );
-    number(answer)
+    )?;
+    Ok(())
 }

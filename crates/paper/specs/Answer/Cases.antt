@@ -34,8 +34,11 @@ abbrev pub answer_of : Result Outcome Refusal → Answer
 answer_of (Ok o) = answer_by o
 answer_of (Err e) = Answer.Refused (number_of e)
 
+abbrev pub sweep_answer_by : Counts → SweepAnswer
+sweep_answer_by c = SweepAnswer.Swept c.idle c.moved c.held
+
 abbrev pub sweep_answer_of : Result Counts Refusal → SweepAnswer
-sweep_answer_of (Ok c) = SweepAnswer.Swept c.idle c.moved c.held
+sweep_answer_of (Ok c) = sweep_answer_by c
 sweep_answer_of (Err e) = SweepAnswer.Fault (number_of e)
 
 abbrev pub meter_answer_of : Result ℤ Refusal → MeterAnswer
@@ -71,6 +74,9 @@ swept_again (Err e) = ap Err (refusal_of_number e)
 
 pub sweep_answer_of_injective : (a b : Result Counts Refusal) → sweep_answer_of a ≡ sweep_answer_of b → a ≡ b
 sweep_answer_of_injective a b e = sym (swept_again a) ∙ (ap swept_of e ∙ swept_again b)
+
+pub sweep_answer_by_injective : (a b : Counts) → sweep_answer_by a ≡ sweep_answer_by b → a ≡ b
+sweep_answer_by_injective a b e = cc (sweep_answer_of_injective (Ok a) (Ok b) e)
 
 abbrev metered_of : MeterAnswer → Result ℤ Refusal
 metered_of (MeterAnswer.Unmetered r) = Err (refusal_of r)
