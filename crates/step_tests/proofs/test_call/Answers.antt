@@ -45,7 +45,7 @@ returns-in_err-test_choices c =
     let e : Refusal = c.in_err-test_choices.field-0.0 in
     let own : Verdict own_at (number_of e) = let a = c.args in
     c.in_err-test_choices.ensures a.t.d a.t.s a.t.temperature a.fwd.now a.bwd.now a.pins.now a.couplings.now in
-    let back : c.from_residual.result ≡ Err e = grind (arith, common_steps) in
+    let back : c.from_residual-in_err-test_choices.result ≡ Err e = grind (arith, common_steps) in
     rw back (verdict_later soundAt (own_at ++ last_at) (number_of e) sound (refused_first own_at last_at e own))
 
 pub returns-then-not-group_totals_fit : goal.returns-then-not-group_totals_fit
