@@ -68,7 +68,7 @@ pub fn overlap_update(
         found,
         grey_found,
     )?;
-    Ok(sweep_tasks::run_tasks(
+    let counts = sweep_tasks::run_tasks(
         plan,
         spins,
         totals,
@@ -91,5 +91,6 @@ pub fn overlap_update(
         members,
         found,
         grey_found,
-    ))
+    );
+    Ok(counts)
 }

@@ -35,8 +35,8 @@ returns-in_err-test_sweep c =
     let keeping : Bool = keeps_by a.plan.keeps a.plan.form in
     rw back (refused_sweep keeping W B a.totals.now (number_of e) (not_zero e) c.in_err-test_sweep.ensures)
 
-pub run_tasks-requires-clause-kept : goal.run_tasks-requires-clause-kept
-run_tasks-requires-clause-kept c =
+pub run_tasks-counts-requires-clause-kept : goal.run_tasks-counts-requires-clause-kept
+run_tasks-counts-requires-clause-kept c =
     let a = c.args in
     let W : Sweep =
     sweep_of a.plan a.fwd.now a.bwd.now a.pins.now a.couplings.now a.order.now a.masks.now a.temperatures.now a.cuts.now
@@ -48,8 +48,8 @@ run_tasks-requires-clause-kept c =
     c.in_ok-test_sweep.ensures in
     swept_kept keeping W B a.totals.now kept
 
-pub run_tasks-requires-clause-totals_asked : goal.run_tasks-requires-clause-totals_asked
-run_tasks-requires-clause-totals_asked c =
+pub run_tasks-counts-requires-clause-totals_asked : goal.run_tasks-counts-requires-clause-totals_asked
+run_tasks-counts-requires-clause-totals_asked c =
     let a = c.args in
     let W : Sweep =
     sweep_of a.plan a.fwd.now a.bwd.now a.pins.now a.couplings.now a.order.now a.masks.now a.temperatures.now a.cuts.now
@@ -70,9 +70,9 @@ returns c =
     let B : Buffers =
     buffers_of a.spins.now a.labels.now a.grey_labels.now a.counts.now a.sizes.now a.members.now a.found.now a.grey_found.now in
     let keeping : Bool = keeps_by a.plan.keeps a.plan.form in
-    let n = c.run_tasks.new in
+    let n = c.run_tasks-counts.new in
     let B' : Buffers = buffers_of n.spins n.labels n.grey_labels n.counts n.sizes n.members n.found n.grey_found in
     let kept : Kept (swept_rules keeping W B a.totals.now) =
     c.in_ok-test_sweep.ensures in
-    swept_answers keeping W B a.totals.now kept (sweep_answer_by c.run_tasks.result) B' n.totals c.run_tasks.ensures.sweep_answers
-    c.run_tasks.ensures.totals_after
+    swept_answers keeping W B a.totals.now kept (sweep_answer_by c.run_tasks-counts.result) B' n.totals c.run_tasks-counts.ensures.sweep_answers
+    c.run_tasks-counts.ensures.totals_after
