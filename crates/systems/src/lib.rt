@@ -31,11 +31,9 @@ pub fn group_rows_ok(n: usize, s: usize, spins: &[i8], group: Group) -> bool
     requires len_bound { group.len ≤ 8 }
     ensures { Tells result (Spins n (Named s (group_names group)) spins.now) }
 {
-    let systems = group.systems;
-    let len = group.len;
     let mut ok = true;
-    for k in 0..len {
-        ok = ok & row_ok(n, s, spins, systems[k]);
+    for &t in &group.systems[..group.len] {
+        ok = ok & row_ok(n, s, spins, t);
     }
     ok
 }
@@ -71,11 +69,9 @@ pub fn group_totals_fit(keeping: bool, totals: &[i64], group: Group) -> bool
     if !keeping {
         return true;
     }
-    let systems = group.systems;
-    let len = group.len;
     let mut ok = true;
-    for k in 0..len {
-        ok = ok & total_ok(totals, systems[k]);
+    for &t in &group.systems[..group.len] {
+        ok = ok & total_ok(totals, t);
     }
     ok
 }

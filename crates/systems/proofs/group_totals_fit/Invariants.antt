@@ -4,5 +4,5 @@ use Rattle.lemmas.specs.Tells.{Flagged}
 use Rattle.systems.specs.Rows.{SmallTotal}
 use Rattle.systems.proofs.group_totals_fit.Given as goal
 
-abbrev pub invariant-loop-k : goal.invariant-loop-k
-invariant-loop-k l = Flagged l.len (λ j. SmallTotal l.totals (get_or l.systems j 0)) l.k l.ok
+abbrev pub invariant-loop-t : goal.invariant-loop-t
+invariant-loop-t l = Flagged l.fn.group.len (λ j. SmallTotal l.totals (get_or l.fn.group.systems j 0)) l.t-index l.ok
