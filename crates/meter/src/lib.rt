@@ -56,10 +56,8 @@ fn site_sum(n: usize, d: usize, fwd: &[u32], js: &[i32], row: &[i8], i: usize) -
     ensures { result ≡ site_term d fwd.now js.now row.now i }
 {
     let mut total: i64 = 0;
-    let mut e = 0;
-    while e < d {
+    for e in 0..d {
         total = total + bond_at(n, d, fwd, js, row, i, e);
-        e += 1;
     }
     total
 }
@@ -69,10 +67,8 @@ fn row_sum(n: usize, d: usize, fwd: &[u32], js: &[i32], row: &[i8]) -> i64
     ensures { RowSum n d fwd.now js.now row.now result }
 {
     let mut total: i64 = 0;
-    let mut i = 0;
-    while i < n {
+    for i in 0..n {
         total = total + site_sum(n, d, fwd, js, row, i);
-        i += 1;
     }
     total
 }
@@ -172,10 +168,8 @@ fn all_current(
         spins.now totals.now) }
 {
     let mut ok = true;
-    let mut t = 0;
-    while t < s {
+    for t in 0..s {
         ok = ok & settled(n, d, team, owners, fwd, js, spins, totals, t);
-        t += 1;
     }
     ok
 }

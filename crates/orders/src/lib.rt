@@ -71,10 +71,8 @@ pub fn row_of(number: u8, row: &mut [u8]) -> u8
         return 9;
     }
     let table = table();
-    let mut k = 0;
-    while k < 5 {
+    for k in 0..5 {
         row[k] = entry_in(&table, number, k);
-        k += 1;
     }
     0
 }
@@ -92,10 +90,8 @@ fn later(row: &[u8], i: usize) -> u8
 {
     let x = row[i];
     let mut n = 0;
-    let mut k = 0;
-    while k < 4 - i {
+    for k in 0..4 - i {
         n = n + less(row[i + 1 + k], x);
-        k += 1;
     }
     n
 }

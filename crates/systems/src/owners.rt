@@ -96,10 +96,8 @@ pub fn read_order(s: usize, team: u8, owners: &[u8], order: &[u32], named: &mut 
     ensures { OrderRead (team_of team owners.now) s order.now named.old result named.new }
 {
     let len = read_length(s, order.len());
-    let mut k = 0;
-    while k < len {
+    for k in 0..len {
         named[k] = read_word(s, team, owners, order[k]);
-        k += 1;
     }
     len
 }
@@ -115,10 +113,8 @@ pub fn own_count(team: u8, owners: &[u8]) -> usize
     ensures { result ≡ own_count (team_of team owners.now) (length owners.now) }
 {
     let mut count = 0;
-    let mut t = 0;
-    while t < owners.len() {
+    for t in 0..owners.len() {
         count += one_if(own(team, owners, t));
-        t += 1;
     }
     count
 }
@@ -129,10 +125,8 @@ pub fn own_rows_ok(n: usize, s: usize, team: u8, owners: &[u8], spins: &[i8]) ->
     ensures { Tells result (Spins n (Ours (team_of team owners.now) s) spins.now) }
 {
     let mut ok = true;
-    let mut t = 0;
-    while t < s {
+    for t in 0..s {
         ok = ok & (!own(team, owners, t) | super::row_ok(n, s, spins, t));
-        t += 1;
     }
     ok
 }

@@ -8,6 +8,3 @@ use Rattle.orders.proofs.later.Given as goal
 
 abbrev pub invariant-loop-k : goal.invariant-loop-k
 invariant-loop-k l = (l.k ≤ 4 - l.i) × (l.n ≡ count_where (λ j. ltb (get_or l.row (l.i + 1 + j) 0) (get_or l.row l.i 0)) l.k)
-
-abbrev pub decreases-loop-k : goal.decreases-loop-k
-decreases-loop-k l = 4 - l.i - l.k

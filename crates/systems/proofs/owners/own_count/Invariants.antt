@@ -1,5 +1,5 @@
 -- `owners::own_count` meets its contract: after t turns the team's systems below t are counted.
-use Prim.Native.Nat.{◌-◌, ◌≤◌}
+use Prim.Native.Nat.{◌≤◌}
 use mathlib.Core.Path.{◌≡◌}
 use lib.ListN.{length}
 use Rattle.lemmas.specs.Counts.{count_where}
@@ -9,6 +9,3 @@ use Rattle.systems.proofs.owners.own_count.Given as goal
 
 abbrev pub invariant-loop-t : goal.invariant-loop-t
 invariant-loop-t l = (l.t ≤ length l.owners) × (l.count ≡ count_where (own (team_of l.team l.owners)) l.t)
-
-abbrev pub decreases-loop-t : goal.decreases-loop-t
-decreases-loop-t l = length l.owners - l.t
