@@ -19,7 +19,7 @@ fn low(column: u8, len: usize) -> u8
     requires { len ≤ 8 }
     ensures { result ≡ column % 2 ^ len }
 {
-    (column as usize % (1usize << len)) as u8
+    (usize::from(column) % (1usize << len)) as u8
 }
 
 // The bits of each pair (0 1), (2 3), .. change places. 85 has every second bit.
@@ -78,11 +78,7 @@ fn acts_entry(mode: Mode, group: Group, column: u8) -> u8
     requires { Sized group }
     ensures { result ≡ acts_entry mode group.len column }
 {
-    if acts_column(mode, group, column) {
-        1
-    } else {
-        0
-    }
+    u8::from(acts_column(mode, group, column))
 }
 
 // Which columns act.
@@ -91,12 +87,9 @@ pub fn acts_table(mode: Mode, group: Group) -> [u8; 256]
     ensures { Table group.len (acts_entry mode group.len) result }
 {
     let mut table = [0u8; 256];
-    let len = group.len;
-    let end = 1usize << len;
-    let mut x: usize = 0;
-    while x < end {
+    let end = 1usize << group.len;
+    for x in 0..end {
         table[x] = acts_entry(mode, group, x as u8);
-        x += 1;
     }
     table
 }
@@ -132,12 +125,9 @@ pub fn flip_table(mode: Mode, group: Group) -> [u8; 256]
     ensures { Table group.len (flip_entry mode group.len) result }
 {
     let mut table = [0u8; 256];
-    let len = group.len;
-    let end = 1usize << len;
-    let mut x: usize = 0;
-    while x < end {
+    let end = 1usize << group.len;
+    for x in 0..end {
         table[x] = flip_group_site(x as u8, group, mode);
-        x += 1;
     }
     table
 }
@@ -147,16 +137,12 @@ pub fn mark_active(table: [u8; 256], gauge: u8, cols: &[u8], acts: &mut [u8]) ->
     requires { length cols.now ≡ length acts.old }
     ensures { Looked table gauge cols.now acts.new result }
 {
-    let n = cols.len();
     let mut found = false;
-    let mut i: usize = 0;
-    while i < n {
-        let a = table[(cols[i] ^ gauge) as usize];
-        acts[i] = a;
-        if a == 1 {
+    for (i, act) in acts.iter_mut().enumerate() {
+        *act = table[usize::from(cols[i] ^ gauge)];
+        if *act == 1 {
             found = true;
         }
-        i += 1;
     }
     found
 }
