@@ -1,5 +1,5 @@
 -- How tight the promise is: what it allows for one input is one answer and one content of every lent buffer.
-use Rattle.std.specs.Prelude.{ℕ, ◌≡◌, refl, List, Result}
+use Rattle.std.specs.Prelude.{ℕ, ◌≡◌, refl, Result}
 use Rattle.paper.specs.declared.Refusal.{Refusal}
 use Rattle.label.specs.Labelling.{labelling_of, labelling_of_injective}
 use Rattle.std.proofs.Common.{sym, ◌∙◌, ap}

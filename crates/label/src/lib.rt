@@ -41,10 +41,8 @@ fn all_below(xs: &[u32], n: usize) -> bool
     ensures { Tells result (Below n xs.now) }
 {
     let mut ok = true;
-    let mut i = 0;
-    while i < xs.len() {
-        ok = ok & (wide(xs[i]) < n);
-        i += 1;
+    for &x in xs {
+        ok &= wide(x) < n;
     }
     ok
 }
@@ -85,9 +83,9 @@ pub fn components(
 ) -> Result<(), Refusal>
     ensures { Answers
         (record { n = n; d = d; fwd = fwd.now; holds = holds.now; counted = counted.now })
-        (record { labels = labels.entry.now; counts = counts.old; sizes = sizes.old; found = found.old })
+        (record { labels = labels.old; counts = counts.old; sizes = sizes.old; found = found.old })
         (labelling_of result)
-        (record { labels = labels.exit.now; counts = counts.new; sizes = sizes.new; found = found.new }) }
+        (record { labels = labels.new; counts = counts.new; sizes = sizes.new; found = found.new }) }
 {
     if !lattice::sizes_ok(n, d, 1) {
         return Err(Refusal::Sizes);
