@@ -191,8 +191,7 @@ fn test_tasks(
         cuts.now references.now seeds.now choices.now greys.now result }
 {
     let count = tasks::task_count(plan);
-    let mut k: usize = 0;
-    while k < count {
+    for k in 0..count {
         let fault = test_task(
             plan,
             k,
@@ -209,7 +208,6 @@ fn test_tasks(
         if fault != 0 {
             return fault;
         }
-        k += 1;
     }
     0
 }
