@@ -35,7 +35,6 @@ module _ (lent : Source) (n : ℕ) (s : Source) (r : Row) (e : r ≡ permuted n 
   row_moved zero p h i = absurd (omega arith)
   row_moved (suc k) p h i = rw (← e, eq-eqb r.refusal 0 h, i)
 
-  pub row_again : (k : ℕ) → 0 < k → r.refusal ≡ 0 → is_identity n r.row ≡ true → retried lent (k - 1) n r.source ≡ retried lent k n s
+  pub row_again : (k j : ℕ) → k ≡ suc j → r.refusal ≡ 0 → is_identity n r.row ≡ true → retried lent j n r.source ≡ retried lent k n s
   unfolding retried
-  row_again zero p h i = absurd (omega arith)
-  row_again (suc k) p h i = rw (sub-one (suc k), ← e, eq-eqb r.refusal 0 h, i)
+  row_again k j p h i = rw (p, ← e, eq-eqb r.refusal 0 h, i)

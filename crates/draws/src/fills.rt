@@ -1,14 +1,14 @@
 // Fills of lent buffers, for any caller. All draws are tried before any is written, so that a refusal writes nothing.
 ghost use Rattle.std.specs.Prelude.{◌≤◌, true, length};
 ghost use Rattle.draws.specs.Draw.{number, flipped};
-ghost use Rattle.draws.specs.Fill.{FillsBy, FillsRows, from_one_lem, word_rules, number_rules, row_rules};
+ghost use Rattle.draws.specs.Fill.{FillsBy, FillsRows, number_from_one, word_rules, number_rules, row_rules};
 ghost use Rattle.draws.specs.Promise.{WordDrawn, CoinDrawn, BelowDrawn, PermutationDrawn, FlipsFilled, BelowFilled, BytesFilled};
 ghost use Rattle.draws.specs.Promise.{PermutationsFilled, WolffFilled, GreysFilled, NumbersFilled, WolffNumbersFilled};
 
 use super::passes::{
     number_verdict, row_verdict, word_verdict, write_bytes, write_flips, write_numbers, write_rows,
 };
-use super::{Drawn, Left, Source, limit_of, step, wide};
+use super::{Drawn, Left, Source, limit_of, step};
 
 // A word, into a buffer of one.
 pub fn one_word(source: Source, word: &mut [u64]) -> Left
@@ -67,7 +67,7 @@ fn below_if(fits: bool, source: Source, m: u32, numbers: &mut [u32]) -> Left
     if refusal != 0 {
         return Left { refusal, source };
     }
-    let n = wide(m);
+    let n = u64::from(m);
     let top = limit_of(n);
     Left {
         refusal: 0,
@@ -97,7 +97,7 @@ pub fn fill_bytes_below(source: Source, m: u32, bytes: &mut [u8]) -> Left
     if refusal != 0 {
         return Left { refusal, source };
     }
-    let n = wide(m);
+    let n = u64::from(m);
     let top = limit_of(n);
     Left {
         refusal: 0,
@@ -108,7 +108,7 @@ pub fn fill_bytes_below(source: Source, m: u32, bytes: &mut [u8]) -> Left
 // Numbers from 1 to m: each is 1 plus a number below m.
 fn from_one(source: Source, m: u32, bytes: &mut [u8]) -> Left
     requires { m ≤ 255 }
-    ensures { FillsBy (from_one_lem m)
+    ensures { FillsBy (number_from_one m)
         (number_rules true m m (length bytes.old) source)
         source
         bytes.old
@@ -119,7 +119,7 @@ fn from_one(source: Source, m: u32, bytes: &mut [u8]) -> Left
     if refusal != 0 {
         return Left { refusal, source };
     }
-    let n = wide(m);
+    let n = u64::from(m);
     let top = limit_of(n);
     Left {
         refusal: 0,

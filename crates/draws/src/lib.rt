@@ -44,35 +44,11 @@ pub struct Left {
 
 // ---- a word
 
-fn by_five(x: u64) -> u64
-    ensures { result ≡ x * 5 % 2 ^ 64 }
-{
-    std::num::wrapping_add_u64(x << 2, x)
-}
-
-fn by_nine(x: u64) -> u64
-    ensures { result ≡ x * 9 % 2 ^ 64 }
-{
-    std::num::wrapping_add_u64(x << 3, x)
-}
-
-fn turned_7(x: u64) -> u64
-    ensures { result ≡ rotl x 7 }
-{
-    (x << 7) | (x >> 57)
-}
-
-fn turned_45(x: u64) -> u64
-    ensures { result ≡ rotl x 45 }
-{
-    (x << 45) | (x >> 19)
-}
-
 // The next word, of a source that is known to be no blank one.
 fn step(s: Source) -> Drawn
     ensures { result ≡ stepped s }
 {
-    let value = by_nine(turned_7(by_five(s.s1)));
+    let value = s.s1.wrapping_mul(5).rotate_left(7).wrapping_mul(9);
     let t = s.s1 << 17;
     let a = s.s2 ^ s.s0;
     let b = s.s3 ^ s.s1;
@@ -80,7 +56,7 @@ fn step(s: Source) -> Drawn
         s0: s.s0 ^ b,
         s1: s.s1 ^ a,
         s2: a ^ t,
-        s3: turned_45(b),
+        s3: b.rotate_left(45),
     };
     Drawn {
         refusal: 0,
@@ -116,8 +92,7 @@ fn number(budget: usize, m: u64, top: u64, s: Source) -> Drawn
     ensures { result ≡ tried s budget m s }
 {
     let mut source = s;
-    let mut left = budget;
-    while 0 < left {
+    for _ in 0..budget {
         let d = step(source);
         let high = d.value >> 32;
         let rest = high % m;
@@ -129,7 +104,6 @@ fn number(budget: usize, m: u64, top: u64, s: Source) -> Drawn
                 source,
             };
         }
-        left -= 1;
     }
     refuse(s)
 }
@@ -137,13 +111,7 @@ fn number(budget: usize, m: u64, top: u64, s: Source) -> Drawn
 fn number_ok(top: u32, m: u32) -> bool
     ensures { result ≡ within 1 top m }
 {
-    (1 <= m) & (m <= top)
-}
-
-fn wide(m: u32) -> u64
-    ensures { result ≡ m }
-{
-    m as u64
+    (1..=top).contains(&m)
 }
 
 fn refuse(s: Source) -> Drawn
@@ -215,7 +183,7 @@ impl Source {
         if !number_ok(4096, m) {
             return refuse(self);
         }
-        let n = wide(m);
+        let n = u64::from(m);
         number(budget, n, limit_of(n), self)
     }
 

@@ -5,11 +5,11 @@ ghost use Rattle.paper.specs.Refusal.Verdict.{Verdict};
 ghost use Rattle.draws.specs.Draw.{number, flipped, Topped};
 ghost use Rattle.draws.specs.Rows.{Members};
 ghost use Rattle.draws.specs.Fill.{stop, go_on, NumbersGo, number_at, go_down, RowsGo, entry_at, Written};
-ghost use Rattle.draws.specs.Fill.{word_rules, number_rules, rows_fit_lem, row_rules};
+ghost use Rattle.draws.specs.Fill.{word_rules, number_rules, row_length_fits, row_rules};
 ghost use Rattle.draws.specs.Writing.{Numbering, Rowing, RowAt, RowPut};
 
 use super::rows::{members_ok, row_by};
-use super::{Drawn, Row, Source, coin_step, limit_of, number, number_ok, wide};
+use super::{Drawn, Row, Source, coin_step, limit_of, number, number_ok};
 
 // ---- tests
 
@@ -30,14 +30,12 @@ fn numbers_go(count: usize, m: u64, top: u64, s: Source) -> bool
     ensures { Tells result (NumbersGo (number m) count s) }
 {
     let mut source = s;
-    let mut i = 0;
-    while i < count {
+    for _ in 0..count {
         let d = number(64, m, top, source);
         if d.refusal != 0 {
             return false;
         }
         source = d.source;
-        i += 1;
     }
     true
 }
@@ -54,7 +52,7 @@ pub fn number_verdict(fits: bool, most: u32, m: u32, count: usize, s: Source) ->
     if !fits {
         return 2;
     }
-    let n = wide(m);
+    let n = u64::from(m);
     let top = limit_of(n);
     if !numbers_go(count, n, top, s) {
         return 12;
@@ -67,21 +65,19 @@ fn rows_go(moving: bool, members: usize, count: usize, s: Source) -> bool
     ensures { Tells result (RowsGo moving members count s) }
 {
     let mut source = s;
-    let mut i = 0;
-    while i < count {
+    for _ in 0..count {
         let r = row_by(moving, members, source);
         if r.refusal != 0 {
             return false;
         }
         source = r.source;
-        i += 1;
     }
     true
 }
 
 fn rows_fit(single: bool, members: usize, len: usize) -> bool
     requires { Members members }
-    ensures { result ≡ rows_fit_lem single members len }
+    ensures { result ≡ row_length_fits single members len }
 {
     if single {
         return len == members;
@@ -119,12 +115,10 @@ pub fn write_flips(s: Source, flips: &mut [u8]) -> Source
         flips.new }
 {
     let mut source = s;
-    let mut i = 0;
-    while i < flips.len() {
+    for slot in flips.iter_mut() {
         let d = coin_step(source);
-        flips[i] = d.value as u8;
+        *slot = d.value as u8;
         source = d.source;
-        i += 1;
     }
     source
 }
@@ -139,12 +133,10 @@ pub fn write_numbers(m: u64, top: u64, s: Source, numbers: &mut [u32]) -> Source
         numbers.new }
 {
     let mut source = s;
-    let mut i = 0;
-    while i < numbers.len() {
+    for slot in numbers.iter_mut() {
         let d = number(64, m, top, source);
-        numbers[i] = d.value as u32;
+        *slot = d.value as u32;
         source = d.source;
-        i += 1;
     }
     source
 }
@@ -160,12 +152,10 @@ pub fn write_bytes(plus: u64, m: u64, top: u64, s: Source, bytes: &mut [u8]) -> 
         bytes.new }
 {
     let mut source = s;
-    let mut i = 0;
-    while i < bytes.len() {
+    for slot in bytes.iter_mut() {
         let d = number(64, m, top, source);
-        bytes[i] = (d.value + plus) as u8;
+        *slot = (d.value + plus) as u8;
         source = d.source;
-        i += 1;
     }
     source
 }
@@ -174,11 +164,7 @@ fn put_row(members: usize, at: usize, row: [u8; 8], rows: &mut [u8])
     requires { RowAt members at rows.old }
     ensures { RowPut members at row rows.old rows.new }
 {
-    let mut k = 0;
-    while k < members {
-        rows[at + k] = row[k];
-        k += 1;
-    }
+    rows[at..at + members].copy_from_slice(&row[..members]);
 }
 
 pub fn write_rows(moving: bool, members: usize, count: usize, s: Source, rows: &mut [u8]) -> Source
@@ -191,13 +177,11 @@ pub fn write_rows(moving: bool, members: usize, count: usize, s: Source, rows: &
         rows.new }
 {
     let mut source = s;
-    let mut i = 0;
-    while i < count {
+    for i in 0..count {
         let r = row_by(moving, members, source);
         let row = r.row;
         put_row(members, i * members, row, rows);
         source = r.source;
-        i += 1;
     }
     source
 }

@@ -8,7 +8,7 @@ use super::{Drawn, Row, Source, number};
 pub fn members_ok(members: usize) -> bool
     ensures { result ≡ within 2 8 members }
 {
-    (2 <= members) & (members <= 8)
+    (2..=8).contains(&members)
 }
 
 pub fn refused_row(s: Source) -> Row
@@ -61,19 +61,15 @@ pub fn shuffle(members: usize, s: Source) -> Row
 {
     let mut row = first_row(members);
     let mut source = s;
-    let mut i = members - 1;
-    while 0 < i {
+    for i in (1..members).rev() {
         let m = (i + 1) as u64;
         let d = number(64, m, small_limit(m), source);
         if d.refusal != 0 {
             return refused_row(s);
         }
         let j = d.value as usize;
-        let x = row[i];
-        row[i] = row[j];
-        row[j] = x;
+        row.swap(i, j);
         source = d.source;
-        i -= 1;
     }
     Row {
         refusal: 0,
@@ -87,10 +83,8 @@ fn identity(members: usize, row: [u8; 8]) -> bool
     ensures { result ≡ is_identity members row }
 {
     let mut same = true;
-    let mut k = 0;
-    while k < members {
-        same = same & (row[k] == k as u8);
-        k += 1;
+    for k in 0..members {
+        same &= row[k] == k as u8;
     }
     same
 }
@@ -101,8 +95,7 @@ fn moving_row(budget: usize, members: usize, s: Source) -> Row
     ensures { result ≡ retried s budget members s }
 {
     let mut source = s;
-    let mut left = budget;
-    while 0 < left {
+    for _ in 0..budget {
         let r = shuffle(members, source);
         if r.refusal != 0 {
             return refused_row(s);
@@ -112,7 +105,6 @@ fn moving_row(budget: usize, members: usize, s: Source) -> Row
             return r;
         }
         source = r.source;
-        left -= 1;
     }
     refused_row(s)
 }

@@ -63,26 +63,12 @@ fn step(
     }
     let n = plan.n;
     let label = tasks::bounds(labels.len(), k, n);
-    let a = label.start;
-    let b = label.end;
     let grey = tasks::bounds(grey_labels.len(), k, n);
-    let c = grey.start;
-    let d = grey.end;
     let count = tasks::bounds(counts.len(), k, n + 1);
-    let e = count.start;
-    let f = count.end;
     let size = tasks::bounds(sizes.len(), k, 4);
-    let g = size.start;
-    let h = size.end;
     let member = tasks::bounds(members.len(), k, n);
-    let i = member.start;
-    let j = member.end;
     let number = tasks::bounds(found.len(), k, 1);
-    let o = number.start;
-    let p = number.end;
     let grey_number = tasks::bounds(grey_found.len(), k, 1);
-    let q = grey_number.start;
-    let r = grey_number.end;
     let answer = perform::run_form(
         tasks::task_of(plan, order, temperatures, references, seeds, k),
         spins,
@@ -94,13 +80,13 @@ fn step(
         tasks::task_cuts(plan, cuts, k),
         tasks::task_choices(plan, choices, k),
         tasks::task_greys(plan, greys, k),
-        &mut labels[a..b],
-        &mut grey_labels[c..d],
-        &mut counts[e..f],
-        &mut sizes[g..h],
-        &mut members[i..j],
-        &mut found[o..p],
-        &mut grey_found[q..r],
+        &mut labels[label.start..label.end],
+        &mut grey_labels[grey.start..grey.end],
+        &mut counts[count.start..count.end],
+        &mut sizes[size.start..size.end],
+        &mut members[member.start..member.end],
+        &mut found[number.start..number.end],
+        &mut grey_found[grey_number.start..grey_number.end],
     );
     add(outcomes, answer)
 }
@@ -154,8 +140,7 @@ pub fn run_tasks(
         moved: 0,
         held: 0,
     };
-    let mut k: usize = 0;
-    while k < count {
+    for k in 0..count {
         outcomes = step(
             outcomes,
             plan,
@@ -182,7 +167,6 @@ pub fn run_tasks(
             found,
             grey_found,
         );
-        k += 1;
     }
     told(outcomes)
 }

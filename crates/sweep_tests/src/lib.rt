@@ -204,8 +204,7 @@ fn test_tasks(
         cuts.now references.now seeds.now choices.now greys.now (verdict_of result) }
 {
     let count = tasks::task_count(plan);
-    let mut k: usize = 0;
-    while k < count {
+    for k in 0..count {
         test_task(
             plan,
             k,
@@ -219,7 +218,6 @@ fn test_tasks(
             choices,
             greys,
         )?;
-        k += 1;
     }
     Ok(())
 }

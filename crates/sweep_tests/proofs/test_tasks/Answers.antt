@@ -20,7 +20,7 @@ returns-in_err-test_task c =
     let e : Refusal = c.in_err-test_task.field-0.0 in
     let back : c.from_residual.result ≡ Err e = grind (arith, common_steps) in
     let below : c.loop-k.k < tasks_of c.args.plan = rw c.task_count-count.ensures at c.loop-k-test.true in
-    rw back (told_broken below c.loop-k.invariant.1 (not_zero e) c.in_err-test_task.ensures)
+    rw back (told_broken below c.loop-k.invariant (not_zero e) c.in_err-test_task.ensures)
 
 pub loop-k-preserved : goal.loop-k-preserved
-loop-k-preserved c = (omega (arith, c.loop-k-test.true), told_more c.loop-k.invariant.1 refl c.in_ok-test_task.ensures)
+loop-k-preserved c = told_more c.loop-k.invariant refl c.in_ok-test_task.ensures

@@ -7,27 +7,27 @@ use Rattle.draws.specs.Numbers.{tried_below}
 use Rattle.draws.proofs.Filling.{stop_none, stop_more, fill_none, fill_more}
 use Rattle.draws.proofs.passes.write_bytes.Goals as goal
 
-pub loop-i-init : goal.loop-i-init
-loop-i-init c = (stop_none, fill_none _)
+pub loop-slot-init : goal.loop-slot-init
+loop-slot-init c = (stop_none, fill_none _)
 
-pub overflow_add-bytes : goal.overflow_add-bytes
-overflow_add-bytes c =
+pub overflow_add-slot : goal.overflow_add-slot
+overflow_add-slot c =
     let below : c.number-d.result.value < c.args.m = let m = c.args.m in
-    let s = c.loop-i.source in
+    let s = c.loop-slot.source in
     subst (λ (d : Drawn). d.value < m) (sym c.number-d.ensures) (tried_below s 64 m s c.requires.topped.some) in
     record { fits = omega (arith, below, c.requires.room) }
 
-pub overflow_cast-bytes : goal.overflow_cast-bytes
-overflow_cast-bytes c =
+pub overflow_cast-slot : goal.overflow_cast-slot
+overflow_cast-slot c =
     let below : c.number-d.result.value < c.args.m = let m = c.args.m in
-    let s = c.loop-i.source in
+    let s = c.loop-slot.source in
     subst (λ (d : Drawn). d.value < m) (sym c.number-d.ensures) (tried_below s 64 m s c.requires.topped.some) in
     record { fits = omega (arith, below, c.requires.room) }
 
-pub loop-i-preserved : goal.loop-i-preserved
-loop-i-preserved c = let h = c.loop-i in (
+pub loop-slot-preserved : goal.loop-slot-preserved
+loop-slot-preserved c = let h = c.loop-slot in (
   stop_more c.number-d.result.source h.invariant.0 (ap (λ (d : Drawn). d.source) c.number-d.ensures),
-  fill_more (c.number-d.result.value + c.args.plus) h.invariant.1 c.loop-i-test.true
+  fill_more (c.number-d.result.value + c.args.plus) h.invariant.1 (omega arith)
       (ap (λ (d : Drawn). d.value + c.args.plus) c.number-d.ensures ∙ ap
       (λ (t : Source). (number c.args.m t).value + c.args.plus) h.invariant.0.is),
 )
