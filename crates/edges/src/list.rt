@@ -8,12 +8,7 @@ ghost use Rattle.edges.specs.Listing.{Tabled, Bond, Told, BondRoom, ListRoom, Co
 
 use edge_text::Edge;
 use edge_text::writing::{line_length, put_line};
-
-fn wide(x: u32) -> usize
-    ensures { result ≡ x }
-{
-    x as usize
-}
+use lemmas::wide;
 
 // A coupling that is 0 has no line.
 fn is_zero(j: i32) -> bool
@@ -81,10 +76,8 @@ pub(crate) fn count(n: usize, d: usize, fwd: &[u32], js: &[i32]) -> usize
 {
     let m = n * d;
     let mut total = 0;
-    let mut b = 0;
-    while b < m {
+    for b in 0..m {
         total += entry_count(n, d, fwd, js, b);
-        b += 1;
     }
     total
 }
@@ -95,10 +88,8 @@ pub(crate) fn bytes(n: usize, d: usize, fwd: &[u32], js: &[i32]) -> usize
 {
     let m = n * d;
     let mut total = 0;
-    let mut b = 0;
-    while b < m {
+    for b in 0..m {
         total += entry_length(n, d, fwd, js, b);
-        b += 1;
     }
     total
 }
@@ -116,10 +107,8 @@ pub(crate) fn put_all(
 {
     let m = n * d;
     let mut p = at;
-    let mut b = 0;
-    while b < m {
+    for b in 0..m {
         p = put_entry(n, d, fwd, js, b, out, p);
-        b += 1;
     }
     p
 }

@@ -1,6 +1,10 @@
 -- `edges::fill::find_rising` meets its contract.
+use Rattle.lemmas.specs.Cells.{cell_lt}
 use Rattle.edges.proofs.Find.{found_first}
 use Rattle.edges.proofs.fill.find_rising.Goals as goal
 
-pub returns-then-e-d : goal.returns-then-e-d
-returns-then-e-d c = found_first c.requires _ c.scan-e.ensures c.if-e-d.true
+pub returns-in-Some : goal.returns-in-Some
+returns-in-Some c =
+    let a = c.args in
+    let s = c.in-Some.ensures in
+    (cell_lt a.n a.d a.i c.in-Some.way c.requires.pair.first s.0, found_first c.requires _ s.1 s.0)

@@ -10,4 +10,4 @@ returns-in_default c =
 pub returns : goal.returns
 returns c =
     let a = c.args in
-    load_as a.n a.d a.fwd.now a.text.now _ c.in-At.ensures c.fill.result c.fill.ensures
+    load_as a.n a.d a.fwd.now a.text.now _ c.in-Some.ensures c.fill.result c.fill.ensures
