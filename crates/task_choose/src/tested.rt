@@ -57,10 +57,8 @@ fn words_below(xs: &[u32], top: u32) -> bool
     ensures { Tells result (Each (length xs.now) (λ i. get_or xs.now i 0 < top)) }
 {
     let mut ok = true;
-    let mut i = 0;
-    while i < xs.len() {
-        ok = ok & (xs[i] < top);
-        i += 1;
+    for &x in xs {
+        ok &= x < top;
     }
     ok
 }

@@ -15,10 +15,8 @@ fn mark_listed(list: &[u32], len: usize, marks: &mut [u8])
     ensures { MarksListed (length marks.old) list.now len marks.new }
 {
     clear(marks);
-    let mut x: usize = 0;
-    while x < len {
-        marks[wide(list[x])] = 1;
-        x += 1;
+    for &site in &list[..len] {
+        marks[wide(site)] = 1;
     }
 }
 

@@ -13,7 +13,8 @@ ghost use Rattle.paper.specs.Refusal.Numbers.{verdict_of};
 ghost use Rattle.packing.specs.Bytes.{own_task};
 ghost use Rattle.task_steps.specs.Write.{shape_of, writing_of, WriteAnswers};
 
-use paper::{Form, Group, Keeps, Mode, Refusal, Task};
+use packing::own_group;
+use paper::{Refusal, Task};
 
 // Of the group only its size is looked at, and not the number of systems: the rows are the members' own, in their order. The form that grows reads the
 // area at its members alone; where no totals are kept, tables, couplings and totals are not looked at.
@@ -33,28 +34,14 @@ pub fn task_write(
         (writing_of rows.old members.now area.now totals.old)
         (verdict_of result) rows.new totals.new }
 {
-    let mode = t.mode;
-    let form = t.form;
-    let keeps = t.keeps;
-    let named = t.group;
-    let size = named.len;
+    let size = t.group.len;
     let own = Task {
-        mode,
-        form,
-        keeps,
-        n: t.n,
-        d: t.d,
         s: size,
-        group: Group {
-            len: size,
-            systems: [0, 1, 2, 3, 4, 5, 6, 7],
-        },
-        temperature: t.temperature,
-        reference: t.reference,
-        seed: t.seed,
+        group: own_group(size),
+        ..t
     };
     tested::test_write(own, rows, totals, fwd, bwd, couplings, members, area)?;
-    if form.grows() {
+    if t.form.grows() {
         grown::write_grown(own, rows, totals, fwd, bwd, couplings, members, area);
         return Ok(());
     }

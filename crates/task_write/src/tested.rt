@@ -81,10 +81,8 @@ fn marked_at_most(members: &[u8], area: &[u8], top: u8) -> bool
     ensures { Tells result ((k : ℕ) → k < length area.now → get_or members.now k 0 ≡ 1 → get_or area.now k 0 ≤ top) }
 {
     let mut ok = true;
-    let mut i = 0;
-    while i < area.len() {
-        ok = ok & ((members[i] != 1) | (area[i] <= top));
-        i += 1;
+    for (i, &column) in area.iter().enumerate() {
+        ok &= (members[i] != 1) | (column <= top);
     }
     ok
 }
