@@ -156,7 +156,13 @@ pub fn test_chosen(t: Task, cuts: &[f32], choices: &[u8], greys: &[u8]) -> Resul
 }
 
 // The refusal of the first test that fails.
-pub fn test_choices(t: Task, spins: &[i8], cuts: &[f32], choices: &[u8], greys: &[u8]) -> Result<(), Refusal>
+pub fn test_choices(
+    t: Task,
+    spins: &[i8],
+    cuts: &[f32],
+    choices: &[u8],
+    greys: &[u8],
+) -> Result<(), Refusal>
     requires { Tested t spins.now choices.now greys.now }
     ensures { EveryCall t cuts.now
         (λ c. Verdict (choice_rules c (choices_of choices.now greys.now) spins.now) (verdict_of result)) }

@@ -87,7 +87,13 @@ pub fn test_shape(t: Task, totals: usize, l: Lengths) -> Result<(), Refusal>
 }
 
 // Tests 4 to 7, which read no spin: the refusal of the first that fails.
-pub fn test_tables(t: Task, fwd: &[u32], bwd: &[u32], pins: &[u8], couplings: &[i32]) -> Result<(), Refusal>
+pub fn test_tables(
+    t: Task,
+    fwd: &[u32],
+    bwd: &[u32],
+    pins: &[u8],
+    couplings: &[i32],
+) -> Result<(), Refusal>
     requires { TablesLong t fwd.now bwd.now }
     ensures { Verdict (table_rules t fwd.now bwd.now pins.now couplings.now) (verdict_of result) }
 {

@@ -117,9 +117,7 @@ pub fn tsorvenk_hand_over(
         spins.now totals.now)
         result }
 {
-    verdict_of(meter::hand_over(
-        n, d, s, team, owners, spins, totals, fwd, bwd, couplings,
-    ))
+    verdict_of(meter::hand_over(n, d, s, team, owners, spins, totals, fwd, bwd, couplings))
 }
 
 // The energy of one system, into a buffer of one number.

@@ -194,7 +194,5 @@ pub fn tsorvenk_task_write(
         reference: 0,
         seed: 0,
     };
-    verdict_of(task_write::task_write(
-        t, rows, totals, fwd, bwd, couplings, member_sites, area,
-    ))
+    verdict_of(task_write::task_write(t, rows, totals, fwd, bwd, couplings, member_sites, area))
 }
