@@ -84,7 +84,9 @@ fn write_answer(
     ensures { WrittenAs (answer_text (answer_of r) labels.now counts.now spins.now) out.old result out.new }
 {
     match r {
-        Ok(_) => frame_lines::write(labels, counts, spins, out),
+        Ok(Outcome::Idle) => frame_lines::write(labels, counts, spins, out),
+        Ok(Outcome::Held) => frame_lines::write(labels, counts, spins, out),
+        Ok(Outcome::Moved) => frame_lines::write(labels, counts, spins, out),
         Err(refusal) => frame_lines::write_refusal(refusal.number(), out),
     }
 }

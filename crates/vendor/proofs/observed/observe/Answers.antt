@@ -29,6 +29,6 @@ returns-in_err-packed_step c =
 pub returns : goal.returns
 returns c =
     let room : c.args.t.n + 1 ≤ 4097 = omega (arith, c.requires.ranged.lattice.n_high) in
-    let o : Outcome = c.in_ok-packed_step.val in
+    let o : Outcome = c.in_ok-packed_step.field-0 in
     rw (accepted_number o) at
     (observes _ _ _ _ _ _ _ _ _ c.requires (length-take-le _ _ room) refl refl _ _ _ _ _ _ _ _ _ _ (answer_by o) c.in_ok-packed_step.ensures)
