@@ -7,7 +7,7 @@ ghost use Rattle.paper.specs.Panel.Takes.{keeps_by};
 ghost use Rattle.paper.specs.Refusal.Kept.{Valid};
 ghost use Rattle.paper.specs.Answer.Move.{Answers};
 ghost use Rattle.paper.specs.Answer.Totals.{TotalsReady, TotalsAfter};
-ghost use Rattle.moves.specs.Leaves.{RunAsks, beside_of, changes, RunLeaves};
+ghost use Rattle.moves.specs.Leaves.{RunAsks, beside_of, RunLeaves};
 ghost use Rattle.perform.specs.Kept.{KeepsFor, RowsAsk};
 
 use paper::{Answer, Form, Group, Keeps, Task};
@@ -79,18 +79,6 @@ pub fn run_labelled(
     answer
 }
 
-// May a task of the form that gave this answer have changed columns?
-fn changed(form: Form, answer: Answer) -> bool
-    ensures { result ≡ changes form answer }
-{
-    match answer {
-        Answer::Refused(_) => false,
-        Answer::Idle => false,
-        Answer::Held => false,
-        Answer::Moved => form.moves(),
-    }
-}
-
 // The same on rows: they are packed, and written from the columns where these may have changed.
 fn run_rows(
     t: Task,
@@ -156,7 +144,7 @@ fn run_rows(
         grey_found,
     );
     let form = t.form;
-    if changed(form, answer) {
+    if moves::changed(form, answer) {
         columns::write_rows(spins, n, group, news);
     }
     answer
