@@ -46,15 +46,13 @@ fn hold(
         } else {
             bonds::blue_bonds(t.n, t.d, fwd, couplings, cuts, sampler, cols, holds);
         }
+    } else if mode.is_drawn() {
+        let group = t.group;
+        bonds::jorg_bonds(
+            t.n, t.d, fwd, couplings, cuts, group, sampler, acts, cols, holds,
+        );
     } else {
-        if mode.is_drawn() {
-            let group = t.group;
-            bonds::jorg_bonds(
-                t.n, t.d, fwd, couplings, cuts, group, sampler, acts, cols, holds,
-            );
-        } else {
-            bonds::active_bonds(t.n, t.d, fwd, acts, holds);
-        }
+        bonds::active_bonds(t.n, t.d, fwd, acts, holds);
     }
 }
 
@@ -129,10 +127,7 @@ fn seed_held(form: Form, seed: usize, labels: &[u32], tally: &[u32]) -> bool
     requires { one_cluster form ≡ true → SeedAsks seed labels.now tally.now }
     ensures { result ≡ (one_cluster form && eqb (get_or tally.now (get_or labels.now seed 0) 0) 0) }
 {
-    if form.one_cluster() {
-        return tally[wide(labels[seed])] == 0;
-    }
-    false
+    form.one_cluster() && tally[wide(labels[seed])] == 0
 }
 
 // The answer where some site acts.
@@ -273,7 +268,7 @@ pub fn choose_task(
 }
 
 // May a task of the form that gave this answer have changed columns?
-fn changed(form: Form, answer: Outcome) -> bool
+pub fn changed(form: Form, answer: Outcome) -> bool
     ensures { result ≡ changes form (answer_by answer) }
 {
     match answer {

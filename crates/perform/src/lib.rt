@@ -8,7 +8,7 @@ ghost use Rattle.paper.specs.Refusal.Kept.{Valid};
 ghost use Rattle.paper.specs.Answer.Move.{Answers};
 ghost use Rattle.paper.specs.Answer.Totals.{TotalsReady, TotalsAfter};
 ghost use Rattle.paper.specs.Answer.Cases.{answer_by};
-ghost use Rattle.moves.specs.Leaves.{RunAsks, beside_of, changes, RunLeaves};
+ghost use Rattle.moves.specs.Leaves.{RunAsks, beside_of, RunLeaves};
 ghost use Rattle.perform.specs.Kept.{KeepsFor, RowsAsk};
 
 use paper::{Form, Group, Keeps, Outcome, Task};
@@ -80,17 +80,6 @@ pub fn run_labelled(
     answer
 }
 
-// May a task of the form that gave this answer have changed columns?
-fn changed(form: Form, answer: Outcome) -> bool
-    ensures { result ≡ changes form (answer_by answer) }
-{
-    match answer {
-        Outcome::Idle => false,
-        Outcome::Held => false,
-        Outcome::Moved => form.moves(),
-    }
-}
-
 // The same on rows: they are packed, and written from the columns where these may have changed.
 fn run_rows(
     t: Task,
@@ -156,7 +145,7 @@ fn run_rows(
         grey_found,
     );
     let form = t.form;
-    if changed(form, answer) {
+    if moves::changed(form, answer) {
         columns::write_rows(spins, n, group, news);
     }
     answer
