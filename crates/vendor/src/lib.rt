@@ -33,8 +33,7 @@ fn compare(
         (asked_by t fwd.now bwd.now pins.now)
         before.now after.now rows.old result rows.new }
 {
-    let named = t.group;
-    let size = named.len;
+    let size = t.group.len;
     let group = Group {
         len: size,
         systems: [0, 1, 2, 3, 4, 5, 6, 7],
@@ -52,8 +51,7 @@ fn compare(
     if refused != 0 {
         return Checked::Refused(refused);
     }
-    let mode = t.mode;
-    let gauge = columns::gauge(mode, group, t.reference, olds);
+    let gauge = columns::gauge(t.mode, group, t.reference, olds);
     let r = matching::explain(size, gauge, olds, news, labels, pins, rows);
     if r < n {
         return Checked::No(r as u32);

@@ -10,9 +10,7 @@ fn number(answer: Answer) -> u8
 {
     match answer {
         Answer::Refused(k) => k,
-        Answer::Idle => 0,
-        Answer::Held => 0,
-        Answer::Moved => 0,
+        Answer::Idle | Answer::Held | Answer::Moved => 0,
     }
 }
 
@@ -29,20 +27,10 @@ pub(crate) fn observe(
     ensures { Observes t columns.old fwd.now bwd.now pins.now
         result columns.new labels.new }
 {
-    let named = t.group;
-    let mode = t.mode;
-    let n = t.n;
     let o = Task {
-        mode,
         form: Form::Observe,
         keeps: Keeps::Nothing,
-        n,
-        d: t.d,
-        s: t.s,
-        group: named,
-        temperature: t.temperature,
-        reference: t.reference,
-        seed: t.seed,
+        ..t
     };
     let mut totals = [0i64; 1];
     let couplings = [0i32; 1];
@@ -55,7 +43,6 @@ pub(crate) fn observe(
     let mut members = [0u8; 1];
     let mut found = [0u32; 1];
     let mut grey_found = [0u32; 1];
-    let last = n + 1;
     let answer = packed::packed_step(
         o,
         columns,
@@ -69,7 +56,7 @@ pub(crate) fn observe(
         &greys[..0],
         labels,
         &mut grey_labels[..0],
-        &mut counts[..last],
+        &mut counts[..t.n + 1],
         &mut sizes,
         &mut members[..0],
         &mut found,

@@ -36,13 +36,11 @@ pub(crate) fn test_offer(t: Task, l: Offer, before: &[i8], after: &[i8]) -> u8
     requires { Handed l before.now after.now }
     ensures { Verdict (offer_rules t l before.now after.now) result }
 {
-    let mode = t.mode;
-    let group = t.group;
-    let size = group.len;
-    if !lattice::ranged(t.n, t.d, size, mode, size) {
+    let size = t.group.len;
+    if !lattice::ranged(t.n, t.d, size, t.mode, size) {
         return 1;
     }
-    if !mode.is_perm() {
+    if !t.mode.is_perm() {
         return 1;
     }
     if !fitting(t.n, t.d, size, l) {
