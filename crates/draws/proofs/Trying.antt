@@ -3,7 +3,8 @@ use Rattle.std.proofs.Common.{◌≡◌, ℕ, zero, suc, ◌/◌, ◌%◌, ◌^�
 use Rattle.draws.specs.declared.Source.{Source}
 use Rattle.draws.specs.declared.Drawn.{Drawn}
 use Rattle.draws.specs.Words.{word, next, drawn, stepped}
-use Rattle.draws.specs.Draw.{high, limit, tried}
+use Rattle.draws.specs.Draw.{high, limit, tried, number}
+use Rattle.draws.specs.Numbers.{tried_below}
 
 module _ (lent : Source) (m : ℕ) (s : Source) where
   taken : (k : ℕ) → 0 < k → high (word s) < limit m → tried lent k m s ≡ drawn 0 (high (word s) % m) (next s)
@@ -26,3 +27,7 @@ module _ (lent : Source) (m : ℕ) (s : Source) where
       (k j : ℕ) (d : Drawn) → k ≡ suc j → d ≡ stepped s → limit m ≤ d.value / 2 ^ 32 → tried lent j m d.source ≡ tried lent k m s
   word_again k j d p e h = rw p
       (ap (λ (x : Drawn). tried lent j m x.source) e ∙ sym (again j (subst (λ (x : Drawn). limit m ≤ x.value / 2 ^ 32) e h)))
+
+-- a number that is drawn is below m
+pub drawn_below : (m : ℕ) (s : Source) (d : Drawn) → d ≡ number m s → 1 ≤ m → d.value < m
+drawn_below m s d e l = subst (λ (x : Drawn). x.value < m) (sym e) (tried_below s 64 m s l)

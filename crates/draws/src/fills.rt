@@ -5,10 +5,8 @@ ghost use Rattle.draws.specs.Fill.{FillsBy, FillsRows, number_from_one, word_rul
 ghost use Rattle.draws.specs.Promise.{WordDrawn, CoinDrawn, BelowDrawn, PermutationDrawn, FlipsFilled, BelowFilled, BytesFilled};
 ghost use Rattle.draws.specs.Promise.{PermutationsFilled, WolffFilled, GreysFilled, NumbersFilled, WolffNumbersFilled};
 
-use super::passes::{
-    number_verdict, row_verdict, word_verdict, write_bytes, write_flips, write_numbers, write_rows,
-};
-use super::{Drawn, Left, Source, limit_of, step};
+use super::passes::{number_verdict, row_verdict, word_verdict, write, write_rows};
+use super::{Drawn, Left, Source, coin_step, limit_of, number, step};
 
 // A word, into a buffer of one.
 pub fn one_word(source: Source, word: &mut [u64]) -> Left
@@ -35,9 +33,13 @@ fn flips_if(fits: bool, source: Source, flips: &mut [u8]) -> Left
     if refusal != 0 {
         return Left { refusal, source };
     }
+    let coin = |t| {
+        let d = coin_step(t);
+        (d.value as u8, d.source)
+    };
     Left {
         refusal: 0,
-        source: write_flips(source, flips),
+        source: write(coin, source, flips),
     }
 }
 
@@ -69,9 +71,13 @@ fn below_if(fits: bool, source: Source, m: u32, numbers: &mut [u32]) -> Left
     }
     let n = u64::from(m);
     let top = limit_of(n);
+    let below = |t| {
+        let d = number(64, n, top, t);
+        (d.value as u32, d.source)
+    };
     Left {
         refusal: 0,
-        source: write_numbers(n, top, source, numbers),
+        source: write(below, source, numbers),
     }
 }
 
@@ -99,9 +105,13 @@ pub fn fill_bytes_below(source: Source, m: u32, bytes: &mut [u8]) -> Left
     }
     let n = u64::from(m);
     let top = limit_of(n);
+    let below = |t| {
+        let d = number(64, n, top, t);
+        (d.value as u8, d.source)
+    };
     Left {
         refusal: 0,
-        source: write_bytes(0, n, top, source, bytes),
+        source: write(below, source, bytes),
     }
 }
 
@@ -121,9 +131,13 @@ fn from_one(source: Source, m: u32, bytes: &mut [u8]) -> Left
     }
     let n = u64::from(m);
     let top = limit_of(n);
+    let above = |t| {
+        let d = number(64, n, top, t);
+        (d.value as u8 + 1, d.source)
+    };
     Left {
         refusal: 0,
-        source: write_bytes(1, n, top, source, bytes),
+        source: write(above, source, bytes),
     }
 }
 

@@ -2,14 +2,14 @@
 ghost use Rattle.std.specs.Prelude.{◌≡◌, ◌+◌, length};
 ghost use Rattle.lemmas.specs.Tells.{Tells};
 ghost use Rattle.paper.specs.Refusal.Verdict.{Verdict};
-ghost use Rattle.draws.specs.Draw.{number, flipped, Topped};
+ghost use Rattle.draws.specs.Draw.{number, Topped};
 ghost use Rattle.draws.specs.Rows.{Members};
-ghost use Rattle.draws.specs.Fill.{stop, go_on, NumbersGo, number_at, go_down, RowsGo, entry_at, Written};
+ghost use Rattle.draws.specs.Fill.{stop, NumbersGo, go_down, RowsGo, entry_at, Written};
 ghost use Rattle.draws.specs.Fill.{word_rules, number_rules, row_length_fits, row_rules};
-ghost use Rattle.draws.specs.Writing.{Numbering, Rowing, RowAt, RowPut};
+ghost use Rattle.draws.specs.Writing.{DrawnInto, Rowing, RowAt, RowPut};
 
 use super::rows::{members_ok, row_by};
-use super::{Drawn, Row, Source, coin_step, limit_of, number, number_ok};
+use super::{Drawn, Row, Source, limit_of, number, number_ok};
 
 // ---- tests
 
@@ -106,56 +106,16 @@ pub fn row_verdict(single: bool, moving: bool, members: usize, len: usize, s: So
 
 // ---- writing
 
-pub fn write_flips(s: Source, flips: &mut [u8]) -> Source
-    ensures { Written
-        (number_at flipped s)
-        (stop (go_on flipped) (length flips.old) s)
-        flips.old
-        result
-        flips.new }
+// Each place takes what is drawn for it.
+pub fn write<T: Copy, F: Fn(Source) -> (T, Source)>(draw: F, s: Source, places: &mut [T]) -> Source
+    requires { F.IsAlwaysCallable draw }
+    ensures { DrawnInto (F.post draw) s places.old result places.new }
 {
     let mut source = s;
-    for slot in flips.iter_mut() {
-        let d = coin_step(source);
-        *slot = d.value as u8;
-        source = d.source;
-    }
-    source
-}
-
-pub fn write_numbers(m: u64, top: u64, s: Source, numbers: &mut [u32]) -> Source
-    requires { Numbering 0 4095 m top }
-    ensures { Written
-        (number_at (number m) s)
-        (stop (go_on (number m)) (length numbers.old) s)
-        numbers.old
-        result
-        numbers.new }
-{
-    let mut source = s;
-    for slot in numbers.iter_mut() {
-        let d = number(64, m, top, source);
-        *slot = d.value as u32;
-        source = d.source;
-    }
-    source
-}
-
-// `plus` is added to each number.
-pub fn write_bytes(plus: u64, m: u64, top: u64, s: Source, bytes: &mut [u8]) -> Source
-    requires { Numbering plus 255 m top }
-    ensures { Written
-        (λ j. number_at (number m) s j + plus)
-        (stop (go_on (number m)) (length bytes.old) s)
-        bytes.old
-        result
-        bytes.new }
-{
-    let mut source = s;
-    for slot in bytes.iter_mut() {
-        let d = number(64, m, top, source);
-        *slot = (d.value + plus) as u8;
-        source = d.source;
+    for place in places.iter_mut() {
+        let (value, next) = draw(source);
+        *place = value;
+        source = next;
     }
     source
 }

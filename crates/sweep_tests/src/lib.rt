@@ -29,6 +29,19 @@ pub struct SweepLengths {
     pub seeds: usize,
 }
 
+// The inputs of which each task takes its part.
+#[derive(Clone, Copy)]
+struct Inputs<'a> {
+    order: &'a [u32],
+    masks: &'a [u8],
+    temperatures: &'a [f32],
+    cuts: &'a [f32],
+    references: &'a [u32],
+    seeds: &'a [u32],
+    choices: &'a [u8],
+    greys: &'a [u8],
+}
+
 // Test 1. The product is asked for once it cannot wrap.
 pub fn plan_ok(plan: Plan) -> bool
     ensures { Tells result (Planned plan) }
@@ -157,67 +170,41 @@ fn test_heat(
 }
 
 // Tests 8, 9 and 10 of the task k; a masked task's areas are not read.
-fn test_task(
-    plan: Plan,
-    k: usize,
-    spins: &[i8],
-    order: &[u32],
-    masks: &[u8],
-    temperatures: &[f32],
-    cuts: &[f32],
-    references: &[u32],
-    seeds: &[u32],
-    choices: &[u8],
-    greys: &[u8],
-) -> Result<(), Refusal>
-    requires { TaskTested plan k spins.now order.now cuts.now choices.now greys.now }
-    ensures { TaskTold plan k spins.now order.now masks.now temperatures.now
-        cuts.now references.now seeds.now choices.now greys.now (verdict_of result) }
+fn test_task(plan: Plan, k: usize, spins: &[i8], inputs: &Inputs) -> Result<(), Refusal>
+    requires { TaskTested plan k spins.now inputs.now.order.now inputs.now.cuts.now inputs.now.choices.now inputs.now.greys.now }
+    ensures { TaskTold plan k spins.now inputs.now.order.now inputs.now.masks.now inputs.now.temperatures.now
+        inputs.now.cuts.now inputs.now.references.now inputs.now.seeds.now inputs.now.choices.now inputs.now.greys.now
+        (verdict_of result) }
 {
-    if tasks::masked(plan, masks, k) {
+    if tasks::masked(plan, inputs.masks, k) {
         return Ok(());
     }
     tests::choices::test_choices(
-        tasks::task_of(plan, order, temperatures, references, seeds, k),
+        tasks::task_of(
+            plan,
+            inputs.order,
+            inputs.temperatures,
+            inputs.references,
+            inputs.seeds,
+            k,
+        ),
         spins,
-        tasks::task_cuts(plan, cuts, k),
-        tasks::task_choices(plan, choices, k),
-        tasks::task_greys(plan, greys, k),
+        tasks::task_cuts(plan, inputs.cuts, k),
+        tasks::task_choices(plan, inputs.choices, k),
+        tasks::task_greys(plan, inputs.greys, k),
     )
 }
 
 // Unmasked tasks in ascending order: the refusal of the first test that fails.
-fn test_tasks(
-    plan: Plan,
-    spins: &[i8],
-    order: &[u32],
-    masks: &[u8],
-    temperatures: &[f32],
-    cuts: &[f32],
-    references: &[u32],
-    seeds: &[u32],
-    choices: &[u8],
-    greys: &[u8],
-) -> Result<(), Refusal>
-    requires { SweepTested plan spins.now order.now cuts.now choices.now greys.now }
-    ensures { TasksTold plan (tasks_of plan) spins.now order.now masks.now temperatures.now
-        cuts.now references.now seeds.now choices.now greys.now (verdict_of result) }
+fn test_tasks(plan: Plan, spins: &[i8], inputs: &Inputs) -> Result<(), Refusal>
+    requires { SweepTested plan spins.now inputs.now.order.now inputs.now.cuts.now inputs.now.choices.now inputs.now.greys.now }
+    ensures { TasksTold plan (tasks_of plan) spins.now inputs.now.order.now inputs.now.masks.now inputs.now.temperatures.now
+        inputs.now.cuts.now inputs.now.references.now inputs.now.seeds.now inputs.now.choices.now inputs.now.greys.now
+        (verdict_of result) }
 {
     let count = tasks::task_count(plan);
     for k in 0..count {
-        test_task(
-            plan,
-            k,
-            spins,
-            order,
-            masks,
-            temperatures,
-            cuts,
-            references,
-            seeds,
-            choices,
-            greys,
-        )?;
+        test_task(plan, k, spins, inputs)?;
     }
     Ok(())
 }
@@ -231,37 +218,21 @@ fn test_values(
     bwd: &[u32],
     pins: &[u8],
     couplings: &[i32],
-    order: &[u32],
-    masks: &[u8],
-    temperatures: &[f32],
-    cuts: &[f32],
-    references: &[u32],
-    seeds: &[u32],
-    choices: &[u8],
-    greys: &[u8],
+    inputs: &Inputs,
 ) -> Result<(), Refusal>
-    requires { Sized plan spins.now totals.now fwd.now bwd.now order.now masks.now temperatures.now cuts.now choices.now greys.now }
+    requires { Sized plan spins.now totals.now fwd.now bwd.now
+        inputs.now.order.now inputs.now.masks.now inputs.now.temperatures.now inputs.now.cuts.now
+        inputs.now.choices.now inputs.now.greys.now }
     ensures { ValuesTold plan spins.now totals.now fwd.now bwd.now pins.now
-        couplings.now order.now masks.now temperatures.now cuts.now references.now
-        seeds.now choices.now greys.now (verdict_of result) }
+        couplings.now inputs.now.order.now inputs.now.masks.now inputs.now.temperatures.now inputs.now.cuts.now inputs.now.references.now
+        inputs.now.seeds.now inputs.now.choices.now inputs.now.greys.now (verdict_of result) }
 {
-    test_panel(plan, spins, fwd, bwd, pins, order)?;
-    test_heat(plan, couplings, temperatures, masks)?;
-    test_tasks(
-        plan,
-        spins,
-        order,
-        masks,
-        temperatures,
-        cuts,
-        references,
-        seeds,
-        choices,
-        greys,
-    )?;
+    test_panel(plan, spins, fwd, bwd, pins, inputs.order)?;
+    test_heat(plan, couplings, inputs.temperatures, inputs.masks)?;
+    test_tasks(plan, spins, inputs)?;
     let form = plan.form;
     let keeps = plan.keeps;
-    if !systems::order_totals_fit(keeps.totals(form), totals, order) {
+    if !systems::order_totals_fit(keeps.totals(form), totals, inputs.order) {
         return Err(Refusal::Totals);
     }
     Ok(())
@@ -325,14 +296,7 @@ pub fn test_sweep(
         seeds: seeds.len(),
     };
     test_lengths(plan, l, o)?;
-    test_values(
-        plan,
-        spins,
-        totals,
-        fwd,
-        bwd,
-        pins,
-        couplings,
+    let inputs = Inputs {
         order,
         masks,
         temperatures,
@@ -341,5 +305,6 @@ pub fn test_sweep(
         seeds,
         choices,
         greys,
-    )
+    };
+    test_values(plan, spins, totals, fwd, bwd, pins, couplings, &inputs)
 }

@@ -27,8 +27,7 @@ fn compare(
         (asked_by t fwd.now bwd.now pins.now)
         before.now after.now rows.old (checked_of result) rows.new }
 {
-    let named = t.group;
-    let size = named.len;
+    let size = t.group.len;
     let group = Group {
         len: size,
         systems: [0, 1, 2, 3, 4, 5, 6, 7],
@@ -43,8 +42,7 @@ fn compare(
     columns::pack(before, n, group, olds);
     columns::pack(after, n, group, news);
     observed::observe(t, olds, fwd, bwd, pins, labels)?;
-    let mode = t.mode;
-    let gauge = columns::gauge(mode, group, t.reference, olds);
+    let gauge = columns::gauge(t.mode, group, t.reference, olds);
     let r = matching::explain(size, gauge, olds, news, labels, pins, rows);
     if r < n {
         return Ok(Some(r as u32));

@@ -17,20 +17,10 @@ pub(crate) fn observe(
     ensures { Observes t columns.old fwd.now bwd.now pins.now
         (verdict_of result) columns.new labels.new }
 {
-    let named = t.group;
-    let mode = t.mode;
-    let n = t.n;
     let o = Task {
-        mode,
         form: Form::Observe,
         keeps: Keeps::Nothing,
-        n,
-        d: t.d,
-        s: t.s,
-        group: named,
-        temperature: t.temperature,
-        reference: t.reference,
-        seed: t.seed,
+        ..t
     };
     let mut totals = [0i64; 1];
     let couplings = [0i32; 1];
@@ -43,7 +33,6 @@ pub(crate) fn observe(
     let mut members = [0u8; 1];
     let mut found = [0u32; 1];
     let mut grey_found = [0u32; 1];
-    let last = n + 1;
     packed::packed_step(
         o,
         columns,
@@ -57,7 +46,7 @@ pub(crate) fn observe(
         &greys[..0],
         labels,
         &mut grey_labels[..0],
-        &mut counts[..last],
+        &mut counts[..t.n + 1],
         &mut sizes,
         &mut members[..0],
         &mut found,

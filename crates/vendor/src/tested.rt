@@ -37,13 +37,11 @@ pub(crate) fn test_offer(t: Task, l: Offer, before: &[i8], after: &[i8]) -> Resu
     requires { Handed l before.now after.now }
     ensures { Verdict (offer_rules t l before.now after.now) (verdict_of result) }
 {
-    let mode = t.mode;
-    let group = t.group;
-    let size = group.len;
-    if !lattice::ranged(t.n, t.d, size, mode, size) {
+    let size = t.group.len;
+    if !lattice::ranged(t.n, t.d, size, t.mode, size) {
         return Err(Refusal::Sizes);
     }
-    if !mode.is_perm() {
+    if !t.mode.is_perm() {
         return Err(Refusal::Sizes);
     }
     if !fitting(t.n, t.d, size, l) {

@@ -69,9 +69,9 @@ returns-in_err-test_heat c =
     let back : c.from_residual-in_err-test_heat.result ≡ Err e = grind (arith, common_steps) in
     let a = c.args in
     let W : Sweep =
-    sweep_of a.plan a.fwd.now a.bwd.now a.pins.now a.couplings.now a.order.now a.masks.now a.temperatures.now a.cuts.now
-    a.references.now a.seeds.now a.choices.now a.greys.now in
-    let panel : Kept (panel_rules a.plan a.spins.now a.fwd.now a.bwd.now a.pins.now a.order.now) =
+    sweep_of a.plan a.fwd.now a.bwd.now a.pins.now a.couplings.now a.inputs.now.order.now a.inputs.now.masks.now a.inputs.now.temperatures.now a.inputs.now.cuts.now
+    a.inputs.now.references.now a.inputs.now.seeds.now a.inputs.now.choices.now a.inputs.now.greys.now in
+    let panel : Kept (panel_rules a.plan a.spins.now a.fwd.now a.bwd.now a.pins.now a.inputs.now.order.now) =
     c.in_ok-test_panel.ensures in
     rw back
     (record {
@@ -84,11 +84,11 @@ returns-in_err-test_tasks c =
     let back : c.from_residual-in_err-test_tasks.result ≡ Err e = grind (arith, common_steps) in
     let a = c.args in
     let W : Sweep =
-    sweep_of a.plan a.fwd.now a.bwd.now a.pins.now a.couplings.now a.order.now a.masks.now a.temperatures.now a.cuts.now
-    a.references.now a.seeds.now a.choices.now a.greys.now in
-    let panel : Kept (panel_rules a.plan a.spins.now a.fwd.now a.bwd.now a.pins.now a.order.now) =
+    sweep_of a.plan a.fwd.now a.bwd.now a.pins.now a.couplings.now a.inputs.now.order.now a.inputs.now.masks.now a.inputs.now.temperatures.now a.inputs.now.cuts.now
+    a.inputs.now.references.now a.inputs.now.seeds.now a.inputs.now.choices.now a.inputs.now.greys.now in
+    let panel : Kept (panel_rules a.plan a.spins.now a.fwd.now a.bwd.now a.pins.now a.inputs.now.order.now) =
     c.in_ok-test_panel.ensures in
-    let heat : Kept (heat_rules a.plan a.couplings.now a.temperatures.now a.masks.now) =
+    let heat : Kept (heat_rules a.plan a.couplings.now a.inputs.now.temperatures.now a.inputs.now.masks.now) =
     c.in_ok-test_heat.ensures in
     let told : (labels grey_labels counts sizes members found grey_found : List ℕ) → Verdict (K a.plan.keeps W a.spins.now a.totals.now labels grey_labels counts sizes members found grey_found) (number_of e) =
     c.in_err-test_tasks.ensures.is a.fwd.now a.bwd.now a.pins.now a.couplings.now in
@@ -101,16 +101,16 @@ pub returns-then-not-order_totals_fit : goal.returns-then-not-order_totals_fit
 returns-then-not-order_totals_fit c =
     let a = c.args in
     let W : Sweep =
-    sweep_of a.plan a.fwd.now a.bwd.now a.pins.now a.couplings.now a.order.now a.masks.now a.temperatures.now a.cuts.now
-    a.references.now a.seeds.now a.choices.now a.greys.now in
-    let panel : Kept (panel_rules a.plan a.spins.now a.fwd.now a.bwd.now a.pins.now a.order.now) =
+    sweep_of a.plan a.fwd.now a.bwd.now a.pins.now a.couplings.now a.inputs.now.order.now a.inputs.now.masks.now a.inputs.now.temperatures.now a.inputs.now.cuts.now
+    a.inputs.now.references.now a.inputs.now.seeds.now a.inputs.now.choices.now a.inputs.now.greys.now in
+    let panel : Kept (panel_rules a.plan a.spins.now a.fwd.now a.bwd.now a.pins.now a.inputs.now.order.now) =
     c.in_ok-test_panel.ensures in
-    let heat : Kept (heat_rules a.plan a.couplings.now a.temperatures.now a.masks.now) =
+    let heat : Kept (heat_rules a.plan a.couplings.now a.inputs.now.temperatures.now a.inputs.now.masks.now) =
     c.in_ok-test_heat.ensures in
     let kept : (labels grey_labels counts sizes members found grey_found : List ℕ) → Kept (K a.plan.keeps W a.spins.now a.totals.now labels grey_labels counts sizes members found grey_found) =
     c.in_ok-test_tasks.ensures.is a.fwd.now a.bwd.now a.pins.now a.couplings.now in
-    let tell : Tells c.order_totals_fit.result (When (keeps_by a.plan.keeps a.plan.form) (SmallTotals (Named a.plan.s (order_names a.order.now)) a.totals.now)) =
-    small_named (keeps_by a.plan.keeps a.plan.form) a.plan.s (order_names a.order.now) a.totals.now c.requires.totals_long
+    let tell : Tells c.order_totals_fit.result (When (keeps_by a.plan.keeps a.plan.form) (SmallTotals (Named a.plan.s (order_names a.inputs.now.order.now)) a.totals.now)) =
+    small_named (keeps_by a.plan.keeps a.plan.form) a.plan.s (order_names a.inputs.now.order.now) a.totals.now c.requires.totals_long
     c.order_totals_fit.result (rw c.totals.ensures at c.order_totals_fit.ensures) in
     record {
       is = λ l g n z m f y. at_last a.plan.keeps W a.spins.now a.totals.now l g n z m f y panel heat (kept l g n z m f y) 14 (inl (refused c.order_totals_fit.result (ap not c.if-not-order_totals_fit.true) tell, refl));
@@ -120,16 +120,16 @@ pub returns : goal.returns
 returns c =
     let a = c.args in
     let W : Sweep =
-    sweep_of a.plan a.fwd.now a.bwd.now a.pins.now a.couplings.now a.order.now a.masks.now a.temperatures.now a.cuts.now
-    a.references.now a.seeds.now a.choices.now a.greys.now in
-    let panel : Kept (panel_rules a.plan a.spins.now a.fwd.now a.bwd.now a.pins.now a.order.now) =
+    sweep_of a.plan a.fwd.now a.bwd.now a.pins.now a.couplings.now a.inputs.now.order.now a.inputs.now.masks.now a.inputs.now.temperatures.now a.inputs.now.cuts.now
+    a.inputs.now.references.now a.inputs.now.seeds.now a.inputs.now.choices.now a.inputs.now.greys.now in
+    let panel : Kept (panel_rules a.plan a.spins.now a.fwd.now a.bwd.now a.pins.now a.inputs.now.order.now) =
     c.in_ok-test_panel.ensures in
-    let heat : Kept (heat_rules a.plan a.couplings.now a.temperatures.now a.masks.now) =
+    let heat : Kept (heat_rules a.plan a.couplings.now a.inputs.now.temperatures.now a.inputs.now.masks.now) =
     c.in_ok-test_heat.ensures in
     let kept : (labels grey_labels counts sizes members found grey_found : List ℕ) → Kept (K a.plan.keeps W a.spins.now a.totals.now labels grey_labels counts sizes members found grey_found) =
     c.in_ok-test_tasks.ensures.is a.fwd.now a.bwd.now a.pins.now a.couplings.now in
-    let tell : Tells c.order_totals_fit.result (When (keeps_by a.plan.keeps a.plan.form) (SmallTotals (Named a.plan.s (order_names a.order.now)) a.totals.now)) =
-    small_named (keeps_by a.plan.keeps a.plan.form) a.plan.s (order_names a.order.now) a.totals.now c.requires.totals_long
+    let tell : Tells c.order_totals_fit.result (When (keeps_by a.plan.keeps a.plan.form) (SmallTotals (Named a.plan.s (order_names a.inputs.now.order.now)) a.totals.now)) =
+    small_named (keeps_by a.plan.keeps a.plan.form) a.plan.s (order_names a.inputs.now.order.now) a.totals.now c.requires.totals_long
     c.order_totals_fit.result (rw c.totals.ensures at c.order_totals_fit.ensures) in
     record {
       is = λ l g n z m f y. at_last a.plan.keeps W a.spins.now a.totals.now l g n z m f y panel heat (kept l g n z m f y) 0 (passed c.order_totals_fit.result (ap not c.if-not-order_totals_fit.false) tell, tt);
