@@ -5,6 +5,7 @@ pub mod Lines
 pub mod Spelling
 pub mod Entries
 pub mod Fill
+pub mod Outcome
 pub mod Scan
 pub mod Reading
 pub mod Writing

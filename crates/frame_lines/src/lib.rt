@@ -55,23 +55,11 @@ struct Places {
     perms: usize,
 }
 
+// A line: so many bytes are behind its tag, and where the next begins.
 #[derive(Clone, Copy)]
-enum Scanned {
-    Wrong(u8),
-    Whole(Places),
-}
-
-// A line at a place of the text: no frame of the tag asked for, or one of so many bytes behind the tag, and where the next begins.
-#[derive(Clone, Copy)]
-enum Line {
-    Bad,
-    Good(usize, usize),
-}
-
-#[derive(Clone, Copy)]
-enum Next {
-    Nowhere,
-    At(usize),
+struct FrameLine {
+    count: usize,
+    next: usize,
 }
 
 fn faulty(r: u8) -> Frames
@@ -97,9 +85,9 @@ fn read_places(
     requires { LinesFit text.now p (length spins.old) (length fwd.old) (length perms.old) }
     ensures { ReadAs
         text.now
-        (record { spins = spins.entry.now; fwd = fwd.old; perms = perms.old })
+        (record { spins = spins.old; fwd = fwd.old; perms = perms.old })
         result
-        (record { spins = spins.exit.now; fwd = fwd.new; perms = perms.new }) }
+        (record { spins = spins.new; fwd = fwd.new; perms = perms.new }) }
 {
     let sizes = p.sizes;
     let len = p.len;
@@ -118,13 +106,13 @@ pub fn read(text: &[u8], spins: &mut [i8], fwd: &mut [u32], perms: &mut [u8]) ->
     requires { AnyPanelFits (length spins.old) (length fwd.old) (length perms.old) }
     ensures { ReadAs
         text.now
-        (record { spins = spins.entry.now; fwd = fwd.old; perms = perms.old })
+        (record { spins = spins.old; fwd = fwd.old; perms = perms.old })
         result
-        (record { spins = spins.exit.now; fwd = fwd.new; perms = perms.new }) }
+        (record { spins = spins.new; fwd = fwd.new; perms = perms.new }) }
 {
     match scan(text) {
-        Scanned::Wrong(r) => faulty(r),
-        Scanned::Whole(p) => read_places(text, p, spins, fwd, perms),
+        Err(r) => faulty(r),
+        Ok(p) => read_places(text, p, spins, fwd, perms),
     }
 }
 
