@@ -9,7 +9,8 @@ ghost use Rattle.paper.specs.Panel.Made.{call_of, choices_of, buffers_of};
 ghost use Rattle.packing.specs.Bytes.{own_task};
 ghost use Rattle.task_steps.specs.Label.{LabelAnswers};
 
-use paper::{Answer, Form, Group, Keeps, Lengths, Mode, Task};
+use packing::own_group;
+use paper::{Answer, Keeps, Lengths, Task};
 
 // The tests of a move of the group's rows, in its members' order, then labels, counts and sizes, or of the form that grows the members. The answer is what
 // the move will answer. Of the group only its size is looked at, and not what the task keeps; no row is written.
@@ -43,24 +44,12 @@ pub fn task_label(
         members.new found.new grey_found.new)
         blue.new }
 {
-    let mode = t.mode;
-    let form = t.form;
-    let named = t.group;
-    let size = named.len;
+    let size = t.group.len;
     let own = Task {
-        mode,
-        form,
         keeps: Keeps::Nothing,
-        n: t.n,
-        d: t.d,
         s: size,
-        group: Group {
-            len: size,
-            systems: [0, 1, 2, 3, 4, 5, 6, 7],
-        },
-        temperature: t.temperature,
-        reference: t.reference,
-        seed: t.seed,
+        group: own_group(size),
+        ..t
     };
     let l = Lengths {
         spins: rows.len(),
@@ -95,7 +84,7 @@ pub fn task_label(
     if fault != 0 {
         return Answer::Refused(fault);
     }
-    if form.grows() {
+    if t.form.grows() {
         return grown::label_grown(own, rows, fwd, bwd, pins, couplings, cuts, members, blue);
     }
     labelled::label_rows(

@@ -14,4 +14,4 @@ returns-then-fault-ne0 c =
     let choicesAt : Choices = choices_of a.choices.now a.greys.now in
     let found_at : Found = found_of a.labels.now a.grey_labels.now a.members.now a.blue.now in
     refused_by call_at choicesAt a.rows.now found_at a.area.now c.test_choose-fault.result c.if-fault-ne0.true
-    c.test_choose-fault.ensures
+    (rw c.own_group.ensures at c.test_choose-fault.ensures)

@@ -26,7 +26,7 @@ returns-then-fault-ne0 c =
     let rulesAt : List Rule = label_rules call_at choicesAt lent_at a.blue.now in
     let r = c.test_label-fault.result in
     refused_by call_at choicesAt lent_at a.blue.now r
-    (verdict_broken rulesAt r c.if-fault-ne0.true c.test_label-fault.ensures)
+    (verdict_broken rulesAt r c.if-fault-ne0.true (rw c.own_group.ensures at c.test_label-fault.ensures))
 
 pub returns-then-grows : goal.returns-then-grows
 returns-then-grows c =
@@ -37,7 +37,7 @@ returns-then-grows c =
     buffers_of a.rows.now a.labels.now a.grey_labels.now a.counts.now a.sizes.now a.members.now a.found.now
     a.grey_found.now in
     let rulesAt : List Rule = label_rules call_at choicesAt lent_at a.blue.now in
-    let kept : Kept rulesAt = verdict_kept rulesAt c.test_label-fault.result c.if-fault-ne0.false c.test_label-fault.ensures in
+    let kept : Kept rulesAt = verdict_kept rulesAt c.test_label-fault.result c.if-fault-ne0.false (rw c.own_group.ensures at c.test_label-fault.ensures) in
     let others : Outputs =
     record {
       labels = a.labels.now;
@@ -49,7 +49,7 @@ returns-then-grows c =
     } in
     let grows : grows_by c.args.t.form ≡ true = sym c.grows.ensures ∙ c.if-grows.true in
     grown_answers call_at choicesAt others a.rows.now a.members.now a.blue.now _ _ c.label_grown.result grows kept
-    c.label_grown.ensures
+    (rw c.own_group.ensures at c.label_grown.ensures)
 
 pub returns : goal.returns
 returns c =
@@ -60,9 +60,9 @@ returns c =
     buffers_of a.rows.now a.labels.now a.grey_labels.now a.counts.now a.sizes.now a.members.now a.found.now
     a.grey_found.now in
     let rulesAt : List Rule = label_rules call_at choicesAt lent_at a.blue.now in
-    let kept : Kept rulesAt = verdict_kept rulesAt c.test_label-fault.result c.if-fault-ne0.false c.test_label-fault.ensures in
+    let kept : Kept rulesAt = verdict_kept rulesAt c.test_label-fault.result c.if-fault-ne0.false (rw c.own_group.ensures at c.test_label-fault.ensures) in
     let labels : labels_by c.args.t.form ≡ true = labels_else c.args.t.form (sym c.grows.ensures ∙ c.if-grows.false) in
-    let w = c.label_rows.ensures a.bwd.now in
+    let w = (rw c.own_group.ensures at c.label_rows.ensures) a.bwd.now in
     let n = c.label_rows.new in
     let after : Buffers =
     buffers_of a.rows.now n.labels n.grey_labels n.counts n.sizes a.members.now n.found n.grey_found in
