@@ -40,7 +40,7 @@ returns-then-fault-ne0 c =
     record {
       rows =
           refused_by keepingAt call_at choicesAt (lent_at rows_at) c.args.totals.now r
-          (verdict_broken rulesAt r c.if-fault-ne0.true c.test_packed-fault.ensures);
+          (verdict_broken rulesAt r c.if-fault-ne0.true (rw c.own_group.ensures at c.test_packed-fault.ensures));
       bytes = refl;
     }
 
@@ -53,7 +53,7 @@ run_grown-requires-clause-grown_asks c =
     lent_of a.labels.now a.grey_labels.now a.counts.now a.sizes.now a.members.now a.found.now a.grey_found.now in
     let rows_at : List ℤ = rows_of c.args.t.group.len c.args.columns.now in
     let rulesAt : List Rule = kept_rules keepingAt call_at choicesAt (lent_at rows_at) c.args.totals.now in
-    let kept : Kept rulesAt = verdict_kept rulesAt c.test_packed-fault.result c.if-fault-ne0.false c.test_packed-fault.ensures in
+    let kept : Kept rulesAt = verdict_kept rulesAt c.test_packed-fault.result c.if-fault-ne0.false (rw c.own_group.ensures at c.test_packed-fault.ensures) in
     let valid : Valid call_at choicesAt (lent_at rows_at) = kept_valid keepingAt call_at choicesAt (lent_at rows_at) c.args.totals.now kept in
     let few : c.args.t.group.len ≤ 8 = valid.sound.ranged.size_high in
     let some : 1 ≤ c.args.t.group.len = omega (arith, valid.sound.ranged.size_low) in
@@ -70,13 +70,13 @@ run_grown-requires-clause-grown_asks c =
       grey_found = a.grey_found.now;
     } in
     let grows : grows_by c.args.t.form ≡ true = sym c.grows.ensures ∙ c.if-grows.true in
-    record {
+    rw c.own_group.ensures (record {
       own = refl;
       systems = refl;
       long = long;
       narrow = narrow;
       rows = record { grows = grows; valid = grown_with others no_outputs grows valid };
-    }
+    })
 
 pub run_grown-requires-clause-totals_ready : goal.run_grown-requires-clause-totals_ready
 run_grown-requires-clause-totals_ready c =
@@ -87,8 +87,8 @@ run_grown-requires-clause-totals_ready c =
     lent_of a.labels.now a.grey_labels.now a.counts.now a.sizes.now a.members.now a.found.now a.grey_found.now in
     let rows_at : List ℤ = rows_of c.args.t.group.len c.args.columns.now in
     let rulesAt : List Rule = kept_rules keepingAt call_at choicesAt (lent_at rows_at) c.args.totals.now in
-    let kept : Kept rulesAt = verdict_kept rulesAt c.test_packed-fault.result c.if-fault-ne0.false c.test_packed-fault.ensures in
-    ready_of keepingAt call_at choicesAt (lent_at rows_at) c.args.totals.now kept
+    let kept : Kept rulesAt = verdict_kept rulesAt c.test_packed-fault.result c.if-fault-ne0.false (rw c.own_group.ensures at c.test_packed-fault.ensures) in
+    rw c.own_group.ensures (ready_of keepingAt call_at choicesAt (lent_at rows_at) c.args.totals.now kept)
 
 pub returns-then-grows : goal.returns-then-grows
 returns-then-grows c =
@@ -99,7 +99,7 @@ returns-then-grows c =
     lent_of a.labels.now a.grey_labels.now a.counts.now a.sizes.now a.members.now a.found.now a.grey_found.now in
     let rows_at : List ℤ = rows_of c.args.t.group.len c.args.columns.now in
     let rulesAt : List Rule = kept_rules keepingAt call_at choicesAt (lent_at rows_at) c.args.totals.now in
-    let kept : Kept rulesAt = verdict_kept rulesAt c.test_packed-fault.result c.if-fault-ne0.false c.test_packed-fault.ensures in
+    let kept : Kept rulesAt = verdict_kept rulesAt c.test_packed-fault.result c.if-fault-ne0.false (rw c.own_group.ensures at c.test_packed-fault.ensures) in
     let valid : Valid call_at choicesAt (lent_at rows_at) = kept_valid keepingAt call_at choicesAt (lent_at rows_at) c.args.totals.now kept in
     let others : Outputs = let a = c.args in
     record {
@@ -113,8 +113,8 @@ returns-then-grows c =
     record {
       rows =
           accepted_by keepingAt call_at choicesAt (lent_at rows_at) c.args.totals.now c.run_grown.result _ _ kept
-          (c.run_grown.ensures.answers others) c.run_grown.ensures.totals;
-      bytes = answered_bytes call_at choicesAt _ _ _ _ _ valid c.run_grown.ensures.narrow c.run_grown.result (c.run_grown.ensures.answers others);
+          ((rw c.own_group.ensures at c.run_grown.ensures).answers others) (rw c.own_group.ensures at c.run_grown.ensures).totals;
+      bytes = answered_bytes call_at choicesAt _ _ _ _ _ valid (rw c.own_group.ensures at c.run_grown.ensures).narrow c.run_grown.result ((rw c.own_group.ensures at c.run_grown.ensures).answers others);
     }
 
 pub run_labelled-answer-requires-clause-run_asks : goal.run_labelled-answer-requires-clause-run_asks
@@ -126,7 +126,7 @@ run_labelled-answer-requires-clause-run_asks c =
     lent_of a.labels.now a.grey_labels.now a.counts.now a.sizes.now a.members.now a.found.now a.grey_found.now in
     let rows_at : List ℤ = rows_of c.args.t.group.len c.args.columns.now in
     let rulesAt : List Rule = kept_rules keepingAt call_at choicesAt (lent_at rows_at) c.args.totals.now in
-    let kept : Kept rulesAt = verdict_kept rulesAt c.test_packed-fault.result c.if-fault-ne0.false c.test_packed-fault.ensures in
+    let kept : Kept rulesAt = verdict_kept rulesAt c.test_packed-fault.result c.if-fault-ne0.false (rw c.own_group.ensures at c.test_packed-fault.ensures) in
     let valid : Valid call_at choicesAt (lent_at rows_at) = kept_valid keepingAt call_at choicesAt (lent_at rows_at) c.args.totals.now kept in
     let few : c.args.t.group.len ≤ 8 = valid.sound.ranged.size_high in
     let some : 1 ≤ c.args.t.group.len = omega (arith, valid.sound.ranged.size_low) in
@@ -135,13 +135,13 @@ run_labelled-answer-requires-clause-run_asks c =
     (spins_own (own_task c.args.t) refl refl few rows_at valid.sound.spins) in
     let columned : let a = c.args.t in Columns a.n a.group.len (pattern_of a.n (own_group a.group.len) rows_at) c.args.columns.now = rows_columns c.args.t.group.len few c.args.t.n c.args.columns.now long narrow in
     let labels : labels_by c.args.t.form ≡ true = labels_else c.args.t.form (sym c.grows.ensures ∙ c.if-grows.false) in
-    record {
+    rw c.own_group.ensures (record {
       rows = rows_at;
       columns = columned;
       labelled = labels;
       valid = valid_with labels valid [];
       news_long = length-take-le c.args.t.n _ valid.sound.ranged.lattice.n_high;
-    }
+    })
 
 pub run_labelled-answer-requires-clause-totals_ready : goal.run_labelled-answer-requires-clause-totals_ready
 run_labelled-answer-requires-clause-totals_ready c =
@@ -152,8 +152,8 @@ run_labelled-answer-requires-clause-totals_ready c =
     lent_of a.labels.now a.grey_labels.now a.counts.now a.sizes.now a.members.now a.found.now a.grey_found.now in
     let rows_at : List ℤ = rows_of c.args.t.group.len c.args.columns.now in
     let rulesAt : List Rule = kept_rules keepingAt call_at choicesAt (lent_at rows_at) c.args.totals.now in
-    let kept : Kept rulesAt = verdict_kept rulesAt c.test_packed-fault.result c.if-fault-ne0.false c.test_packed-fault.ensures in
-    ready_of keepingAt call_at choicesAt (lent_at rows_at) c.args.totals.now kept
+    let kept : Kept rulesAt = verdict_kept rulesAt c.test_packed-fault.result c.if-fault-ne0.false (rw c.own_group.ensures at c.test_packed-fault.ensures) in
+    rw c.own_group.ensures (ready_of keepingAt call_at choicesAt (lent_at rows_at) c.args.totals.now kept)
 
 pub copy-requires : goal.copy-requires
 copy-requires c =
@@ -164,11 +164,11 @@ copy-requires c =
     lent_of a.labels.now a.grey_labels.now a.counts.now a.sizes.now a.members.now a.found.now a.grey_found.now in
     let rows_at : List ℤ = rows_of c.args.t.group.len c.args.columns.now in
     let rulesAt : List Rule = kept_rules keepingAt call_at choicesAt (lent_at rows_at) c.args.totals.now in
-    let kept : Kept rulesAt = verdict_kept rulesAt c.test_packed-fault.result c.if-fault-ne0.false c.test_packed-fault.ensures in
+    let kept : Kept rulesAt = verdict_kept rulesAt c.test_packed-fault.result c.if-fault-ne0.false (rw c.own_group.ensures at c.test_packed-fault.ensures) in
     let valid : Valid call_at choicesAt (lent_at rows_at) = kept_valid keepingAt call_at choicesAt (lent_at rows_at) c.args.totals.now kept in
     let some : 1 ≤ c.args.t.group.len = omega (arith, valid.sound.ranged.size_low) in
     let long : length c.args.columns.now ≡ c.args.t.n = bytes_long c.args.t.group.len c.args.t.n c.args.columns.now some valid.sound.exact.spins in
-    c.run_labelled-answer.ensures.run_leaves.long ∙ sym long
+    (rw c.own_group.ensures at c.run_labelled-answer.ensures).run_leaves.long ∙ sym long
 
 pub returns : goal.returns
 returns c =
@@ -179,7 +179,7 @@ returns c =
     lent_of a.labels.now a.grey_labels.now a.counts.now a.sizes.now a.members.now a.found.now a.grey_found.now in
     let rows_at : List ℤ = rows_of c.args.t.group.len c.args.columns.now in
     let rulesAt : List Rule = kept_rules keepingAt call_at choicesAt (lent_at rows_at) c.args.totals.now in
-    let kept : Kept rulesAt = verdict_kept rulesAt c.test_packed-fault.result c.if-fault-ne0.false c.test_packed-fault.ensures in
+    let kept : Kept rulesAt = verdict_kept rulesAt c.test_packed-fault.result c.if-fault-ne0.false (rw c.own_group.ensures at c.test_packed-fault.ensures) in
     let valid : Valid call_at choicesAt (lent_at rows_at) = kept_valid keepingAt call_at choicesAt (lent_at rows_at) c.args.totals.now kept in
     let few : c.args.t.group.len ≤ 8 = valid.sound.ranged.size_high in
     let some : 1 ≤ c.args.t.group.len = omega (arith, valid.sound.ranged.size_low) in
@@ -189,7 +189,7 @@ returns c =
     let columned : let a = c.args.t in Columns a.n a.group.len (pattern_of a.n (own_group a.group.len) rows_at) c.args.columns.now = rows_columns c.args.t.group.len few c.args.t.n c.args.columns.now long narrow in
     let m = c.args.t.group.len in
     let n = c.args.t.n in
-    let u = c.run_labelled-answer.ensures.run_leaves in
+    let u = (rw c.own_group.ensures at c.run_labelled-answer.ensures).run_leaves in
     let low = low_of u in
     let wrote = rows_written m few n _ u.long low rows_at (rows_long m n c.args.columns.now long) in
     let told = u.answers rows_at _ c.args.members.now valid columned wrote in
@@ -197,6 +197,6 @@ returns c =
     (record {
       rows =
           accepted_by keepingAt call_at choicesAt (lent_at rows_at) c.args.totals.now c.run_labelled-answer.result _ _ kept told
-          (c.run_labelled-answer.ensures.keeps_for.each rows_at _ (between call_at choicesAt (lent_at rows_at) valid columned wrote));
+          ((rw c.own_group.ensures at c.run_labelled-answer.ensures).keeps_for.each rows_at _ (between call_at choicesAt (lent_at rows_at) valid columned wrote));
       bytes = answered_bytes call_at choicesAt _ _ _ _ _ valid low c.run_labelled-answer.result told;
     })
