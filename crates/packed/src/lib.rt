@@ -10,7 +10,7 @@ ghost use Rattle.paper.specs.Answer.Cases.{answer_of};
 ghost use Rattle.packing.specs.Bytes.{own_task};
 ghost use Rattle.packed.specs.Packed.{lent_of, PackedAnswers};
 
-use paper::{Form, Group, Keeps, Lengths, Mode, Outcome, Refusal, Task};
+use paper::{Group, Lengths, Outcome, Refusal, Task};
 
 // One move or observation in any mode and form, on the bytes of the group. Of the group only its size is looked at, and not the number of systems.
 pub fn packed_step(
@@ -46,25 +46,14 @@ pub fn packed_step(
         members.new found.new grey_found.new)
         totals.new }
 {
-    let mode = t.mode;
-    let form = t.form;
-    let keeps = t.keeps;
-    let named = t.group;
-    let size = named.len;
+    let size = t.group.len;
     let own = Task {
-        mode,
-        form,
-        keeps,
-        n: t.n,
-        d: t.d,
         s: size,
         group: Group {
             len: size,
             systems: [0, 1, 2, 3, 4, 5, 6, 7],
         },
-        temperature: t.temperature,
-        reference: t.reference,
-        seed: t.seed,
+        ..t
     };
     let l = Lengths {
         spins: tested::spins_for(size, columns.len()),
@@ -86,7 +75,7 @@ pub fn packed_step(
     tested::test_packed(
         own, columns, totals, fwd, bwd, pins, couplings, cuts, choices, greys, l,
     )?;
-    if form.grows() {
+    if t.form.grows() {
         return Ok(grown::run_grown(
             own, columns, totals, fwd, bwd, pins, couplings, cuts, choices, greys, members,
         ));

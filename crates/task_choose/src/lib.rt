@@ -11,7 +11,7 @@ ghost use Rattle.paper.specs.Refusal.Numbers.{verdict_of};
 ghost use Rattle.packing.specs.Bytes.{own_task};
 ghost use Rattle.task_steps.specs.Choose.{found_of, ChooseAnswers};
 
-use paper::{Form, Group, Keeps, Mode, Refusal, Task};
+use paper::{Group, Refusal, Task};
 
 // The labels, members and blue sites are taken as they are told: the step does not ask whether they are those of the rows. Of the group only its size is
 // looked at, and not the number of systems. The form that grows has columns at its members alone.
@@ -34,25 +34,14 @@ pub fn task_choose(
         (found_of labels.now grey_labels.now members.now blue.now)
         area.old (verdict_of result) area.new }
 {
-    let mode = t.mode;
-    let form = t.form;
-    let keeps = t.keeps;
-    let named = t.group;
-    let size = named.len;
+    let size = t.group.len;
     let own = Task {
-        mode,
-        form,
-        keeps,
-        n: t.n,
-        d: t.d,
         s: size,
         group: Group {
             len: size,
             systems: [0, 1, 2, 3, 4, 5, 6, 7],
         },
-        temperature: t.temperature,
-        reference: t.reference,
-        seed: t.seed,
+        ..t
     };
     tested::test_choose(
         own,
@@ -66,7 +55,7 @@ pub fn task_choose(
         blue,
         area,
     )?;
-    if form.grows() {
+    if t.form.grows() {
         grown::choose_grown(own, rows, pins, choices, greys, members, blue, area);
         return Ok(());
     }

@@ -10,7 +10,7 @@ ghost use Rattle.paper.specs.Answer.Cases.{answer_of};
 ghost use Rattle.packing.specs.Bytes.{own_task};
 ghost use Rattle.task_steps.specs.Label.{LabelAnswers};
 
-use paper::{Form, Group, Keeps, Lengths, Mode, Outcome, Refusal, Task};
+use paper::{Group, Keeps, Lengths, Outcome, Refusal, Task};
 
 // The tests of a move of the group's rows, in its members' order, then labels, counts and sizes, or of the form that grows the members. The answer is what
 // the move will answer. Of the group only its size is looked at, and not what the task keeps; no row is written.
@@ -44,24 +44,15 @@ pub fn task_label(
         members.new found.new grey_found.new)
         blue.new }
 {
-    let mode = t.mode;
-    let form = t.form;
-    let named = t.group;
-    let size = named.len;
+    let size = t.group.len;
     let own = Task {
-        mode,
-        form,
         keeps: Keeps::Nothing,
-        n: t.n,
-        d: t.d,
         s: size,
         group: Group {
             len: size,
             systems: [0, 1, 2, 3, 4, 5, 6, 7],
         },
-        temperature: t.temperature,
-        reference: t.reference,
-        seed: t.seed,
+        ..t
     };
     let l = Lengths {
         spins: rows.len(),
@@ -93,7 +84,7 @@ pub fn task_label(
         l,
         blue.len(),
     )?;
-    if form.grows() {
+    if t.form.grows() {
         return Ok(grown::label_grown(own, rows, fwd, bwd, pins, couplings, cuts, members, blue));
     }
     Ok(labelled::label_rows(

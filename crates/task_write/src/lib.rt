@@ -13,8 +13,7 @@ ghost use Rattle.paper.specs.Refusal.Numbers.{verdict_of};
 ghost use Rattle.packing.specs.Bytes.{own_task};
 ghost use Rattle.task_steps.specs.Write.{shape_of, writing_of, WriteAnswers};
 
-use packing::own_group;
-use paper::{Refusal, Task};
+use paper::{Group, Refusal, Task};
 
 // Of the group only its size is looked at, and not the number of systems: the rows are the members' own, in their order. The form that grows reads the
 // area at its members alone; where no totals are kept, tables, couplings and totals are not looked at.
@@ -37,7 +36,10 @@ pub fn task_write(
     let size = t.group.len;
     let own = Task {
         s: size,
-        group: own_group(size),
+        group: Group {
+            len: size,
+            systems: [0, 1, 2, 3, 4, 5, 6, 7],
+        },
         ..t
     };
     tested::test_write(own, rows, totals, fwd, bwd, couplings, members, area)?;
