@@ -13,7 +13,7 @@ pub struct Group {
     pub systems: [usize; 8],
 }
 
-#[derive(Clone, Copy)]
+#[derive(Clone, Copy, PartialEq, Eq, Debug)]
 pub enum Mode {
     Houd,
     Pair,
@@ -23,7 +23,7 @@ pub enum Mode {
     Cmr,
 }
 
-#[derive(Clone, Copy)]
+#[derive(Clone, Copy, PartialEq, Eq, Debug)]
 pub enum Form {
     Sw,
     Wolff,
@@ -36,70 +36,35 @@ impl Mode {
     pub fn is_perm(self) -> bool
         ensures { result ≡ is_perm self }
     {
-        match self {
-            Mode::Houd => false,
-            Mode::Pair => false,
-            Mode::Perm => true,
-            Mode::Gperm => true,
-            Mode::Jorg => false,
-            Mode::Cmr => false,
-        }
+        matches!(self, Mode::Perm | Mode::Gperm)
     }
 
     // Negates both of two replicas; of more only observed.
     pub fn is_houd(self) -> bool
         ensures { result ≡ is_houd self }
     {
-        match self {
-            Mode::Houd => true,
-            Mode::Pair => false,
-            Mode::Perm => false,
-            Mode::Gperm => false,
-            Mode::Jorg => false,
-            Mode::Cmr => false,
-        }
+        matches!(self, Mode::Houd)
     }
 
     // Takes a reference site.
     pub fn is_gperm(self) -> bool
         ensures { result ≡ is_gperm self }
     {
-        match self {
-            Mode::Houd => false,
-            Mode::Pair => false,
-            Mode::Perm => false,
-            Mode::Gperm => true,
-            Mode::Jorg => false,
-            Mode::Cmr => false,
-        }
+        matches!(self, Mode::Gperm)
     }
 
     // Has grey components beside the blue ones.
     pub fn is_cmr(self) -> bool
         ensures { result ≡ is_cmr self }
     {
-        match self {
-            Mode::Houd => false,
-            Mode::Pair => false,
-            Mode::Perm => false,
-            Mode::Gperm => false,
-            Mode::Jorg => false,
-            Mode::Cmr => true,
-        }
+        matches!(self, Mode::Cmr)
     }
 
     // Draws its bonds.
     pub fn is_drawn(self) -> bool
         ensures { result ≡ is_drawn self }
     {
-        match self {
-            Mode::Houd => false,
-            Mode::Pair => false,
-            Mode::Perm => false,
-            Mode::Gperm => false,
-            Mode::Jorg => true,
-            Mode::Cmr => true,
-        }
+        matches!(self, Mode::Jorg | Mode::Cmr)
     }
 
     pub fn takes_flips(self, form: Form) -> bool
@@ -146,36 +111,21 @@ impl Form {
     pub fn is_sw(self) -> bool
         ensures { result ≡ is_sw self }
     {
-        match self {
-            Form::Sw => true,
-            Form::Wolff => false,
-            Form::Observe => false,
-            Form::Grow => false,
-        }
+        matches!(self, Form::Sw)
     }
 
     // Moves the component of a seed.
     pub fn one_cluster(self) -> bool
         ensures { result ≡ one_cluster self }
     {
-        match self {
-            Form::Sw => false,
-            Form::Wolff => true,
-            Form::Observe => false,
-            Form::Grow => true,
-        }
+        matches!(self, Form::Wolff | Form::Grow)
     }
 
     // Finds that component alone and writes its members.
     pub fn grows(self) -> bool
         ensures { result ≡ grows_by self }
     {
-        match self {
-            Form::Sw => false,
-            Form::Wolff => false,
-            Form::Observe => false,
-            Form::Grow => true,
-        }
+        matches!(self, Form::Grow)
     }
 
     // Finds every component and writes labels, counts and sizes.
@@ -189,12 +139,7 @@ impl Form {
     pub fn moves(self) -> bool
         ensures { result ≡ moves self }
     {
-        match self {
-            Form::Sw => true,
-            Form::Wolff => true,
-            Form::Observe => false,
-            Form::Grow => true,
-        }
+        !matches!(self, Form::Observe)
     }
 
     // How many entries a buffer of choices has.
