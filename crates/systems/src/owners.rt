@@ -1,6 +1,5 @@
 // The owner bytes of a panel that two teams share, and what a team's call is taken to name.
 ghost use Rattle.std.specs.Prelude.{◌≡◌, ◌≤◌, ◌<◌, length};
-ghost use Rattle.lemmas.specs.Counts.{bit};
 ghost use Rattle.lemmas.specs.Tells.{Tells};
 ghost use Rattle.paper.specs.Refusal.Rules.{Spins};
 ghost use Rattle.paper.specs.Refusal.Verdict.{Verdict};
@@ -102,21 +101,11 @@ pub fn read_order(s: usize, team: u8, owners: &[u8], order: &[u32], named: &mut 
     len
 }
 
-fn one_if(b: bool) -> usize
-    ensures { result ≡ bit b }
-{
-    if b { 1 } else { 0 }
-}
-
 // How many systems are the team's.
 pub fn own_count(team: u8, owners: &[u8]) -> usize
     ensures { result ≡ own_count (team_of team owners.now) (length owners.now) }
 {
-    let mut count = 0;
-    for t in 0..owners.len() {
-        count += one_if(own(team, owners, t));
-    }
-    count
+    owners.iter().filter(|owner| **owner == team).count()
 }
 
 // Test 3 of all the team's systems.
