@@ -65,10 +65,8 @@ pub fn acts_column(mode: Mode, group: Group, column: u8) -> bool
     let len = group.len;
     match mode {
         Mode::Houd => balanced(column, len),
-        Mode::Pair => any_pair_differs(column, group),
-        Mode::Perm => any_differs(column, len),
-        Mode::Gperm => any_differs(column, len),
-        Mode::Jorg => any_pair_differs(column, group),
+        Mode::Pair | Mode::Jorg => any_pair_differs(column, group),
+        Mode::Perm | Mode::Gperm => any_differs(column, len),
         Mode::Cmr => true,
     }
 }
@@ -120,10 +118,8 @@ pub fn flip_group_site(column: u8, group: Group, mode: Mode) -> u8
     let len = group.len;
     match mode {
         Mode::Houd => joined(255 - column, column, 2 * (len / 2), len),
-        Mode::Pair => joined(exchanged(column), column, 2 * (len / 2), len),
-        Mode::Perm => low(column, len),
-        Mode::Gperm => low(column, len),
-        Mode::Jorg => joined(exchanged(column), column, 2 * (len / 2), len),
+        Mode::Pair | Mode::Jorg => joined(exchanged(column), column, 2 * (len / 2), len),
+        Mode::Perm | Mode::Gperm => low(column, len),
         Mode::Cmr => low(255 - column, len),
     }
 }
