@@ -6,9 +6,16 @@ ghost use Rattle.paper.specs.Component.Marks.{marked};
 ghost use Rattle.forest.specs.Closure.{Only};
 ghost use Rattle.forest.specs.Contract.{Given, Labelled};
 ghost use Rattle.forest.specs.Forest.{Adds};
-ghost use Rattle.forest.specs.Steps.{Own, Climbing, Gathering, Gathered, Listing, Listed, Part, Block, Bonding, Flattening, Flattened};
+ghost use Rattle.forest.specs.Steps.{Own, Climbing, Gathering, Gathered, Listing, Listed, Part, Block, Ends, Bonding, Flattening, Flattened};
 
 use lemmas::wide;
+
+// A select and no branch: of an `if` at the place of the call the compiler makes a jump, and which site is a root is unforeseeable.
+fn pick(yes: bool, a: u32, b: u32) -> u32
+    ensures { result ≡ cond yes a b }
+{
+    if yes { a } else { b }
+}
 
 // Each site its own parent.
 fn start(labels: &mut [u32])
@@ -87,7 +94,15 @@ fn join_block(
     }
 }
 
-// Links the ends of every bond that holds. Blocks of 64 sites keep the list short and the order of the sites' bonds near that of the sites.
+// The end of the block that starts at lo. Blocks of 64 sites keep the list short and the order of the sites' bonds near that of the sites.
+fn block_end(lo: usize, n: usize) -> usize
+    requires { lo < n }
+    ensures { Ends lo n result }
+{
+    if n - lo < 64 { n } else { lo + 64 }
+}
+
+// Links the ends of every bond that holds. Each block's end is the next one's start: of a `step_by` the compiler makes a pass that is a tenth slower.
 fn uf_bonds(d: usize, fwd: &[u32], holds: &[u8], labels: &mut [u32], list: &mut [u32])
     requires { Bonding d fwd.now holds.now labels.old (length list.old) }
     ensures { Adds
@@ -96,9 +111,11 @@ fn uf_bonds(d: usize, fwd: &[u32], holds: &[u8], labels: &mut [u32], list: &mut 
         labels.new }
 {
     let n = labels.len();
-    for lo in (0..n).step_by(64) {
-        let hi = n.min(lo + 64);
+    let mut lo = 0;
+    while lo < n {
+        let hi = block_end(lo, n);
         join_block(d, lo, hi, fwd, holds, labels, list);
+        lo = hi;
     }
 }
 
@@ -112,8 +129,7 @@ fn uf_flatten_counts(labels: &mut [u32], tally: &mut [u32]) -> u32
     for i in 0..labels.len() {
         let p = wide(labels[i]);
         let own = p == i;
-        let above = labels[p];
-        let r = if own { next } else { above };
+        let r = pick(own, next, labels[p]);
         labels[i] = r;
         tally[i] = 0;
         tally[wide(r)] += 1;
