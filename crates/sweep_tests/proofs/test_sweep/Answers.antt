@@ -26,7 +26,9 @@ returns c =
     let B : Buffers = let a = c.args in
     buffers_of a.spins.now a.labels.now a.grey_labels.now a.counts.now a.sizes.now a.members.now a.found.now
     a.grey_found.now in
-    let long : Kept (lengths_rules c.args.plan.keeps W B c.args.totals.now) = verdict_kept (lengths_rules c.args.plan.keeps W B c.args.totals.now) c.test_lengths-lengths.result c.if-lengths-ne0.false c.test_lengths-lengths.ensures in
+    let long : Kept (lengths_rules c.args.plan.keeps W B c.args.totals.now) =
+    verdict_kept (lengths_rules c.args.plan.keeps W B c.args.totals.now)
+    c.test_lengths-lengths.result c.if-lengths-ne0.false c.test_lengths-lengths.ensures in
     let a = c.args in
     past_lengths a.plan.keeps W B a.totals.now long c.test_values.result
     (c.test_values.ensures.is a.labels.now a.grey_labels.now a.counts.now a.sizes.now a.members.now

@@ -58,68 +58,98 @@ pub returns-then-heat-ne0 : goal.returns-then-heat-ne0
 returns-then-heat-ne0 c =
     let a = c.args in
     let W : Sweep =
-    sweep_of a.plan a.fwd.now a.bwd.now a.pins.now a.couplings.now a.inputs.now.order.now a.inputs.now.masks.now a.inputs.now.temperatures.now a.inputs.now.cuts.now
+    sweep_of a.plan a.fwd.now a.bwd.now a.pins.now a.couplings.now
+    a.inputs.now.order.now a.inputs.now.masks.now a.inputs.now.temperatures.now a.inputs.now.cuts.now
     a.inputs.now.references.now a.inputs.now.seeds.now a.inputs.now.choices.now a.inputs.now.greys.now in
     let panel : Kept (panel_rules a.plan a.spins.now a.fwd.now a.bwd.now a.pins.now a.inputs.now.order.now) =
-    verdict_kept (panel_rules a.plan a.spins.now a.fwd.now a.bwd.now a.pins.now a.inputs.now.order.now) c.test_panel-panel.result c.if-panel-ne0.false c.test_panel-panel.ensures in
+    verdict_kept (panel_rules a.plan a.spins.now a.fwd.now a.bwd.now a.pins.now a.inputs.now.order.now)
+    c.test_panel-panel.result c.if-panel-ne0.false c.test_panel-panel.ensures in
     record {
-      is = λ l g n z m f y. at_heat a.plan.keeps W a.spins.now a.totals.now l g n z m f y c.test_heat-heat.result c.if-heat-ne0.true panel c.test_heat-heat.ensures;
+      is = λ l g n z m f y.
+          at_heat a.plan.keeps W a.spins.now a.totals.now l g n z m f y
+          c.test_heat-heat.result c.if-heat-ne0.true panel c.test_heat-heat.ensures;
     }
 
 pub returns-then-choice-ne0 : goal.returns-then-choice-ne0
 returns-then-choice-ne0 c =
     let a = c.args in
     let W : Sweep =
-    sweep_of a.plan a.fwd.now a.bwd.now a.pins.now a.couplings.now a.inputs.now.order.now a.inputs.now.masks.now a.inputs.now.temperatures.now a.inputs.now.cuts.now
+    sweep_of a.plan a.fwd.now a.bwd.now a.pins.now a.couplings.now
+    a.inputs.now.order.now a.inputs.now.masks.now a.inputs.now.temperatures.now a.inputs.now.cuts.now
     a.inputs.now.references.now a.inputs.now.seeds.now a.inputs.now.choices.now a.inputs.now.greys.now in
     let panel : Kept (panel_rules a.plan a.spins.now a.fwd.now a.bwd.now a.pins.now a.inputs.now.order.now) =
-    verdict_kept (panel_rules a.plan a.spins.now a.fwd.now a.bwd.now a.pins.now a.inputs.now.order.now) c.test_panel-panel.result c.if-panel-ne0.false c.test_panel-panel.ensures in
+    verdict_kept (panel_rules a.plan a.spins.now a.fwd.now a.bwd.now a.pins.now a.inputs.now.order.now)
+    c.test_panel-panel.result c.if-panel-ne0.false c.test_panel-panel.ensures in
     let heat : Kept (heat_rules a.plan a.couplings.now a.inputs.now.temperatures.now a.inputs.now.masks.now) =
-    verdict_kept (heat_rules a.plan a.couplings.now a.inputs.now.temperatures.now a.inputs.now.masks.now) c.test_heat-heat.result c.if-heat-ne0.false c.test_heat-heat.ensures in
-    let told : (labels grey_labels counts sizes members found grey_found : List ℕ) → Verdict (K a.plan.keeps W a.spins.now a.totals.now labels grey_labels counts sizes members found grey_found) c.test_tasks-choice.result =
+    verdict_kept (heat_rules a.plan a.couplings.now a.inputs.now.temperatures.now a.inputs.now.masks.now)
+    c.test_heat-heat.result c.if-heat-ne0.false c.test_heat-heat.ensures in
+    let told : (labels grey_labels counts sizes members found grey_found : List ℕ)
+    → Verdict (K a.plan.keeps W a.spins.now a.totals.now labels grey_labels counts sizes members found grey_found) c.test_tasks-choice.result =
     c.test_tasks-choice.ensures.is a.fwd.now a.bwd.now a.pins.now a.couplings.now in
     record {
-      is = λ l g n z m f y. at_tasks a.plan.keeps W a.spins.now a.totals.now l g n z m f y panel heat c.test_tasks-choice.result c.if-choice-ne0.true (told l g n z m f y);
+      is = λ l g n z m f y.
+          at_tasks a.plan.keeps W a.spins.now a.totals.now l g n z m f y
+          panel heat c.test_tasks-choice.result c.if-choice-ne0.true (told l g n z m f y);
     }
 
 pub returns-then-not-small : goal.returns-then-not-small
 returns-then-not-small c =
     let a = c.args in
     let W : Sweep =
-    sweep_of a.plan a.fwd.now a.bwd.now a.pins.now a.couplings.now a.inputs.now.order.now a.inputs.now.masks.now a.inputs.now.temperatures.now a.inputs.now.cuts.now
+    sweep_of a.plan a.fwd.now a.bwd.now a.pins.now a.couplings.now
+    a.inputs.now.order.now a.inputs.now.masks.now a.inputs.now.temperatures.now a.inputs.now.cuts.now
     a.inputs.now.references.now a.inputs.now.seeds.now a.inputs.now.choices.now a.inputs.now.greys.now in
     let panel : Kept (panel_rules a.plan a.spins.now a.fwd.now a.bwd.now a.pins.now a.inputs.now.order.now) =
-    verdict_kept (panel_rules a.plan a.spins.now a.fwd.now a.bwd.now a.pins.now a.inputs.now.order.now) c.test_panel-panel.result c.if-panel-ne0.false c.test_panel-panel.ensures in
+    verdict_kept (panel_rules a.plan a.spins.now a.fwd.now a.bwd.now a.pins.now a.inputs.now.order.now)
+    c.test_panel-panel.result c.if-panel-ne0.false c.test_panel-panel.ensures in
     let heat : Kept (heat_rules a.plan a.couplings.now a.inputs.now.temperatures.now a.inputs.now.masks.now) =
-    verdict_kept (heat_rules a.plan a.couplings.now a.inputs.now.temperatures.now a.inputs.now.masks.now) c.test_heat-heat.result c.if-heat-ne0.false c.test_heat-heat.ensures in
-    let told : (labels grey_labels counts sizes members found grey_found : List ℕ) → Verdict (K a.plan.keeps W a.spins.now a.totals.now labels grey_labels counts sizes members found grey_found) c.test_tasks-choice.result =
+    verdict_kept (heat_rules a.plan a.couplings.now a.inputs.now.temperatures.now a.inputs.now.masks.now)
+    c.test_heat-heat.result c.if-heat-ne0.false c.test_heat-heat.ensures in
+    let told : (labels grey_labels counts sizes members found grey_found : List ℕ)
+    → Verdict (K a.plan.keeps W a.spins.now a.totals.now labels grey_labels counts sizes members found grey_found) c.test_tasks-choice.result =
     c.test_tasks-choice.ensures.is a.fwd.now a.bwd.now a.pins.now a.couplings.now in
-    let kept : (labels grey_labels counts sizes members found grey_found : List ℕ) → Kept (K a.plan.keeps W a.spins.now a.totals.now labels grey_labels counts sizes members found grey_found) =
-    λ l g n z m f y. verdict_kept (K a.plan.keeps W a.spins.now a.totals.now l g n z m f y) c.test_tasks-choice.result c.if-choice-ne0.false (told l g n z m f y) in
-    let tell : Tells c.order_totals_fit-small.result (When (keeps_by a.plan.keeps a.plan.form) (SmallTotals (Named a.plan.s (order_names a.inputs.now.order.now)) a.totals.now)) =
+    let kept : (labels grey_labels counts sizes members found grey_found : List ℕ)
+    → Kept (K a.plan.keeps W a.spins.now a.totals.now labels grey_labels counts sizes members found grey_found) =
+    λ l g n z m f y. verdict_kept (K a.plan.keeps W a.spins.now a.totals.now l g n z m f y)
+    c.test_tasks-choice.result c.if-choice-ne0.false (told l g n z m f y) in
+    let tell : Tells c.order_totals_fit-small.result
+    (When (keeps_by a.plan.keeps a.plan.form) (SmallTotals (Named a.plan.s (order_names a.inputs.now.order.now)) a.totals.now)) =
     small_named (keeps_by a.plan.keeps a.plan.form) a.plan.s (order_names a.inputs.now.order.now) a.totals.now c.requires.totals_long
     c.order_totals_fit-small.result (rw c.totals.ensures at c.order_totals_fit-small.ensures) in
     record {
-      is = λ l g n z m f y. at_last a.plan.keeps W a.spins.now a.totals.now l g n z m f y panel heat (kept l g n z m f y) 14 (inl (refused c.order_totals_fit-small.result (ap not c.if-not-small.true) tell, refl));
+      is = λ l g n z m f y.
+          at_last a.plan.keeps W a.spins.now a.totals.now l g n z m f y
+          panel heat (kept l g n z m f y)
+          14 (inl (refused c.order_totals_fit-small.result (ap not c.if-not-small.true) tell, refl));
     }
 
 pub returns : goal.returns
 returns c =
     let a = c.args in
     let W : Sweep =
-    sweep_of a.plan a.fwd.now a.bwd.now a.pins.now a.couplings.now a.inputs.now.order.now a.inputs.now.masks.now a.inputs.now.temperatures.now a.inputs.now.cuts.now
+    sweep_of a.plan a.fwd.now a.bwd.now a.pins.now a.couplings.now
+    a.inputs.now.order.now a.inputs.now.masks.now a.inputs.now.temperatures.now a.inputs.now.cuts.now
     a.inputs.now.references.now a.inputs.now.seeds.now a.inputs.now.choices.now a.inputs.now.greys.now in
     let panel : Kept (panel_rules a.plan a.spins.now a.fwd.now a.bwd.now a.pins.now a.inputs.now.order.now) =
-    verdict_kept (panel_rules a.plan a.spins.now a.fwd.now a.bwd.now a.pins.now a.inputs.now.order.now) c.test_panel-panel.result c.if-panel-ne0.false c.test_panel-panel.ensures in
+    verdict_kept (panel_rules a.plan a.spins.now a.fwd.now a.bwd.now a.pins.now a.inputs.now.order.now)
+    c.test_panel-panel.result c.if-panel-ne0.false c.test_panel-panel.ensures in
     let heat : Kept (heat_rules a.plan a.couplings.now a.inputs.now.temperatures.now a.inputs.now.masks.now) =
-    verdict_kept (heat_rules a.plan a.couplings.now a.inputs.now.temperatures.now a.inputs.now.masks.now) c.test_heat-heat.result c.if-heat-ne0.false c.test_heat-heat.ensures in
-    let told : (labels grey_labels counts sizes members found grey_found : List ℕ) → Verdict (K a.plan.keeps W a.spins.now a.totals.now labels grey_labels counts sizes members found grey_found) c.test_tasks-choice.result =
+    verdict_kept (heat_rules a.plan a.couplings.now a.inputs.now.temperatures.now a.inputs.now.masks.now)
+    c.test_heat-heat.result c.if-heat-ne0.false c.test_heat-heat.ensures in
+    let told : (labels grey_labels counts sizes members found grey_found : List ℕ)
+    → Verdict (K a.plan.keeps W a.spins.now a.totals.now labels grey_labels counts sizes members found grey_found) c.test_tasks-choice.result =
     c.test_tasks-choice.ensures.is a.fwd.now a.bwd.now a.pins.now a.couplings.now in
-    let kept : (labels grey_labels counts sizes members found grey_found : List ℕ) → Kept (K a.plan.keeps W a.spins.now a.totals.now labels grey_labels counts sizes members found grey_found) =
-    λ l g n z m f y. verdict_kept (K a.plan.keeps W a.spins.now a.totals.now l g n z m f y) c.test_tasks-choice.result c.if-choice-ne0.false (told l g n z m f y) in
-    let tell : Tells c.order_totals_fit-small.result (When (keeps_by a.plan.keeps a.plan.form) (SmallTotals (Named a.plan.s (order_names a.inputs.now.order.now)) a.totals.now)) =
+    let kept : (labels grey_labels counts sizes members found grey_found : List ℕ)
+    → Kept (K a.plan.keeps W a.spins.now a.totals.now labels grey_labels counts sizes members found grey_found) =
+    λ l g n z m f y. verdict_kept (K a.plan.keeps W a.spins.now a.totals.now l g n z m f y)
+    c.test_tasks-choice.result c.if-choice-ne0.false (told l g n z m f y) in
+    let tell : Tells c.order_totals_fit-small.result
+    (When (keeps_by a.plan.keeps a.plan.form) (SmallTotals (Named a.plan.s (order_names a.inputs.now.order.now)) a.totals.now)) =
     small_named (keeps_by a.plan.keeps a.plan.form) a.plan.s (order_names a.inputs.now.order.now) a.totals.now c.requires.totals_long
     c.order_totals_fit-small.result (rw c.totals.ensures at c.order_totals_fit-small.ensures) in
     record {
-      is = λ l g n z m f y. at_last a.plan.keeps W a.spins.now a.totals.now l g n z m f y panel heat (kept l g n z m f y) 0 (passed c.order_totals_fit-small.result (ap not c.if-not-small.false) tell, tt);
+      is = λ l g n z m f y.
+          at_last a.plan.keeps W a.spins.now a.totals.now l g n z m f y
+          panel heat (kept l g n z m f y)
+          0 (passed c.order_totals_fit-small.result (ap not c.if-not-small.false) tell, tt);
     }
