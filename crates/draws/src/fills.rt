@@ -18,10 +18,9 @@ pub fn one_word(source: Source, word: &mut [u64]) -> Left
     }
     let d = step(source);
     word[0] = d.value;
-    let next = d.source;
     Left {
         refusal: 0,
-        source: next,
+        source: d.source,
     }
 }
 

@@ -69,11 +69,10 @@ fn coin_step(s: Source) -> Drawn
     ensures { result ≡ flipped s }
 {
     let d = step(s);
-    let source = d.source;
     Drawn {
         refusal: 0,
         value: d.value >> 63,
-        source,
+        source: d.source,
     }
 }
 

@@ -53,8 +53,7 @@ pub fn number_verdict(fits: bool, most: u32, m: u32, count: usize, s: Source) ->
         return 2;
     }
     let n = u64::from(m);
-    let top = limit_of(n);
-    if !numbers_go(count, n, top, s) {
+    if !numbers_go(count, n, limit_of(n), s) {
         return 12;
     }
     0
@@ -97,8 +96,7 @@ pub fn row_verdict(single: bool, moving: bool, members: usize, len: usize, s: So
     if !rows_fit(single, members, len) {
         return 2;
     }
-    let count = len / members;
-    if !rows_go(moving, members, count, s) {
+    if !rows_go(moving, members, len / members, s) {
         return 12;
     }
     0
@@ -139,8 +137,7 @@ pub fn write_rows(moving: bool, members: usize, count: usize, s: Source, rows: &
     let mut source = s;
     for i in 0..count {
         let r = row_by(moving, members, source);
-        let row = r.row;
-        put_row(members, i * members, row, rows);
+        put_row(members, i * members, r.row, rows);
         source = r.source;
     }
     source

@@ -67,8 +67,7 @@ pub fn shuffle(members: usize, s: Source) -> Row
         if d.refusal != 0 {
             return refused_row(s);
         }
-        let j = d.value as usize;
-        row.swap(i, j);
+        row.swap(i, d.value as usize);
         source = d.source;
     }
     Row {
@@ -100,8 +99,7 @@ fn moving_row(budget: usize, members: usize, s: Source) -> Row
         if r.refusal != 0 {
             return refused_row(s);
         }
-        let row = r.row;
-        if !identity(members, row) {
+        if !identity(members, r.row) {
             return r;
         }
         source = r.source;

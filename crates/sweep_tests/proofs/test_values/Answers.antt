@@ -69,7 +69,8 @@ returns-in_err-test_heat c =
     let back : c.from_residual-in_err-test_heat.result ≡ Err e = grind (arith, common_steps) in
     let a = c.args in
     let W : Sweep =
-    sweep_of a.plan a.fwd.now a.bwd.now a.pins.now a.couplings.now a.inputs.now.order.now a.inputs.now.masks.now a.inputs.now.temperatures.now a.inputs.now.cuts.now
+    sweep_of a.plan a.fwd.now a.bwd.now a.pins.now a.couplings.now
+    a.inputs.now.order.now a.inputs.now.masks.now a.inputs.now.temperatures.now a.inputs.now.cuts.now
     a.inputs.now.references.now a.inputs.now.seeds.now a.inputs.now.choices.now a.inputs.now.greys.now in
     let panel : Kept (panel_rules a.plan a.spins.now a.fwd.now a.bwd.now a.pins.now a.inputs.now.order.now) =
     c.in_ok-test_panel.ensures in
@@ -84,7 +85,8 @@ returns-in_err-test_tasks c =
     let back : c.from_residual-in_err-test_tasks.result ≡ Err e = grind (arith, common_steps) in
     let a = c.args in
     let W : Sweep =
-    sweep_of a.plan a.fwd.now a.bwd.now a.pins.now a.couplings.now a.inputs.now.order.now a.inputs.now.masks.now a.inputs.now.temperatures.now a.inputs.now.cuts.now
+    sweep_of a.plan a.fwd.now a.bwd.now a.pins.now a.couplings.now
+    a.inputs.now.order.now a.inputs.now.masks.now a.inputs.now.temperatures.now a.inputs.now.cuts.now
     a.inputs.now.references.now a.inputs.now.seeds.now a.inputs.now.choices.now a.inputs.now.greys.now in
     let panel : Kept (panel_rules a.plan a.spins.now a.fwd.now a.bwd.now a.pins.now a.inputs.now.order.now) =
     c.in_ok-test_panel.ensures in
@@ -101,7 +103,8 @@ pub returns-then-not-order_totals_fit : goal.returns-then-not-order_totals_fit
 returns-then-not-order_totals_fit c =
     let a = c.args in
     let W : Sweep =
-    sweep_of a.plan a.fwd.now a.bwd.now a.pins.now a.couplings.now a.inputs.now.order.now a.inputs.now.masks.now a.inputs.now.temperatures.now a.inputs.now.cuts.now
+    sweep_of a.plan a.fwd.now a.bwd.now a.pins.now a.couplings.now
+    a.inputs.now.order.now a.inputs.now.masks.now a.inputs.now.temperatures.now a.inputs.now.cuts.now
     a.inputs.now.references.now a.inputs.now.seeds.now a.inputs.now.choices.now a.inputs.now.greys.now in
     let panel : Kept (panel_rules a.plan a.spins.now a.fwd.now a.bwd.now a.pins.now a.inputs.now.order.now) =
     c.in_ok-test_panel.ensures in
@@ -120,7 +123,8 @@ pub returns : goal.returns
 returns c =
     let a = c.args in
     let W : Sweep =
-    sweep_of a.plan a.fwd.now a.bwd.now a.pins.now a.couplings.now a.inputs.now.order.now a.inputs.now.masks.now a.inputs.now.temperatures.now a.inputs.now.cuts.now
+    sweep_of a.plan a.fwd.now a.bwd.now a.pins.now a.couplings.now
+    a.inputs.now.order.now a.inputs.now.masks.now a.inputs.now.temperatures.now a.inputs.now.cuts.now
     a.inputs.now.references.now a.inputs.now.seeds.now a.inputs.now.choices.now a.inputs.now.greys.now in
     let panel : Kept (panel_rules a.plan a.spins.now a.fwd.now a.bwd.now a.pins.now a.inputs.now.order.now) =
     c.in_ok-test_panel.ensures in

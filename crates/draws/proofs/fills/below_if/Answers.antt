@@ -17,7 +17,10 @@ write-requires c =
     let most : c.args.m ≤ 4096 = within_top 1 4096 _ kept.1.0 in
     let topped : Topped c.from-n.result c.limit_of-top.result = record { some = omega (arith, c.from-n.ensures, low); at = c.limit_of-top.ensures } in
     record {
-      at = λ a. (λ _ _ _ _ _ _ _. topped, λ _ _ _ _ _ _ d _. record { fits = omega (arith, drawn_below c.from-n.result a.0 d.result d.ensures topped.some, c.from-n.ensures, most) });
+      at = λ a. (
+        λ _ _ _ _ _ _ _. topped,
+        λ _ _ _ _ _ _ d _. record { fits = omega (arith, drawn_below c.from-n.result a.0 d.result d.ensures topped.some, c.from-n.ensures, most) },
+      );
     }
 
 pub returns : goal.returns

@@ -5,4 +5,5 @@ use Rattle.draws.proofs.Filling.{Stopped, Filled}
 use Rattle.draws.proofs.passes.write_rows.Given as goal
 
 abbrev pub invariant-loop-i : goal.invariant-loop-i
-invariant-loop-i l = Stopped (go_down l.moving l.members) l.i l.initial.source l.source × Filled (entry_at l.moving l.members l.initial.source) (l.i * l.members) (length l.initial.rows) l.rows
+invariant-loop-i l = Stopped (go_down l.moving l.members) l.i l.initial.source l.source
+    × Filled (entry_at l.moving l.members l.initial.source) (l.i * l.members) (length l.initial.rows) l.rows
