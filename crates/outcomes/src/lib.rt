@@ -8,7 +8,7 @@ ghost use Rattle.outcomes.specs.Adding.{Growable, Added};
 use paper::{Answer, SweepAnswer};
 
 // How many tasks were idle so far, how many moved, and how many were held.
-#[derive(Clone, Copy)]
+#[derive(Clone, Copy, PartialEq, Eq, Debug)]
 pub struct Outcomes {
     pub idle: u32,
     pub moved: u32,
@@ -23,18 +23,15 @@ pub fn add(outcomes: Outcomes, answer: Answer) -> Outcomes
         Answer::Refused(_) => outcomes,
         Answer::Idle => Outcomes {
             idle: outcomes.idle + 1,
-            moved: outcomes.moved,
-            held: outcomes.held,
+            ..outcomes
         },
         Answer::Held => Outcomes {
-            idle: outcomes.idle,
-            moved: outcomes.moved,
             held: outcomes.held + 1,
+            ..outcomes
         },
         Answer::Moved => Outcomes {
-            idle: outcomes.idle,
             moved: outcomes.moved + 1,
-            held: outcomes.held,
+            ..outcomes
         },
     }
 }
