@@ -8,7 +8,7 @@ ghost use Rattle.outcomes.specs.Adding.{Growable, Added};
 use paper::{Counts, Outcome};
 
 // How many tasks were idle so far, how many moved, and how many were held.
-#[derive(Clone, Copy)]
+#[derive(Clone, Copy, PartialEq, Eq, Debug)]
 pub struct Outcomes {
     pub idle: u32,
     pub moved: u32,
@@ -22,18 +22,15 @@ pub fn add(outcomes: Outcomes, answer: Outcome) -> Outcomes
     match answer {
         Outcome::Idle => Outcomes {
             idle: outcomes.idle + 1,
-            moved: outcomes.moved,
-            held: outcomes.held,
+            ..outcomes
         },
         Outcome::Held => Outcomes {
-            idle: outcomes.idle,
-            moved: outcomes.moved,
             held: outcomes.held + 1,
+            ..outcomes
         },
         Outcome::Moved => Outcomes {
-            idle: outcomes.idle,
             moved: outcomes.moved + 1,
-            held: outcomes.held,
+            ..outcomes
         },
     }
 }
