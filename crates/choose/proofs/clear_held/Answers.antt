@@ -11,7 +11,8 @@ loop-i-init c = back_none _ _ _
 
 pub loop-i-preserved : goal.loop-i-preserved
 loop-i-preserved c =
-    let below : get_or c.args.labels.now c.loop-i.i 0 < length c.args.tally.now = omega (arith, c.requires.below c.loop-i.i c.loop-i-test.true, c.requires.tallied) in
+    let below : get_or c.args.labels.now c.loop-i.i 0 < length c.args.tally.now =
+    omega (arith, c.requires.below c.loop-i.i c.loop-i-test.true, c.requires.tallied) in
     let b = c.loop-i.invariant in
     elim c.if-pin-eq1.branch [
       | then-pin-eq1 w ↦ rw w.tally-is (back_more _ _ b c.loop-i-test.true w.if-pin-eq1.true w.wide-label.ensures (omega (arith, below, w.wide-label.ensures)))

@@ -21,5 +21,6 @@ loop-site-preserved c = let a = c.args in
 
 pub returns : goal.returns
 returns c = let l = c.loop-site in
-    let e : l.site-index ≡ c.args.len = omega (arith, simp length-take at c.loop-site-test.false, simp length-take at l.auto.site-index-end, c.requires.long) in
+    let e : l.site-index ≡ c.args.len =
+    omega (arith, simp length-take at c.loop-site-test.false, simp length-take at l.auto.site-index-end, c.requires.long) in
     rw e at l.invariant
