@@ -18,7 +18,8 @@ change_site-requires c =
     let within = c.loop-site-test.true in
     let room : Room 80000000000 c.args.len c.loop-site.sums = room_within
     (room_after 65536000000 (room_noughts c.requires.len_bound) c.loop-site.invariant
-    (λ k h. listed_small c.requires.ground c.requires.sites_in c.loop-site.site-index k (omega (arith, front_lt _ c.requires.sites_in.long c.loop-site-test.true))))
+    (λ k h. listed_small c.requires.ground c.requires.sites_in c.loop-site.site-index k
+    (omega (arith, front_lt _ c.requires.sites_in.long c.loop-site-test.true))))
     (omega arith) in
     record {
       ground = c.requires.ground;
