@@ -4,7 +4,6 @@
 
 ghost use Rattle.std.specs.Prelude.{◌≡◌, ◌≤◌, length};
 
-use frame_lines::Written;
 use input::read_full;
 use std::io;
 use std::io::Read;
@@ -43,8 +42,7 @@ fn number(a: u8, b: u8, c: u8, d: u8, e: u8) -> usize
 
 fn compare(text: &[u8], want: &[u8]) -> Verdict {
     let mut out = [0u8; 8192];
-    let w = frame::run(text, &mut out);
-    if let Written::Wrote(m) = w {
+    if let Some(m) = frame::run(text, &mut out) {
         if check::same(&out[..m], want) {
             return Verdict::Agrees;
         }
