@@ -1,7 +1,28 @@
--- What the steps of reading find, as their promises tell it apart.
+-- What reading and its steps find and what becomes of an answer, as the promises tell it apart.
 use Rattle.std.specs.Prelude.{ℕ, Option, Some, None, Result, Ok, Err}
 use Rattle.frame_lines.specs.declared.FrameLine.{FrameLine}
 use Rattle.frame_lines.specs.declared.Places.{Places}
+use Rattle.frame_lines.specs.declared.Sizes.{Sizes}
+use Rattle.paper.specs.declared.Group.{Group}
+
+-- a text: refused with a number, or a panel of these sizes
+pub data Found : Type 0 where
+  Fault : ℕ → Found
+  Panel : Sizes → Found
+
+-- with the group, which a refused text has not: then it is empty
+pub record Frames : Type 0 where
+  pub found : Found
+  pub group : Group
+
+-- an answer: so many bytes are written; or there is no room for it, and nothing is written
+pub data Written : Type 0 where
+  Wrote : ℕ → Written
+  NoRoom : Written
+
+abbrev pub written_of : Option ℕ → Written
+written_of (Some m) = Wrote m
+written_of None = NoRoom
 
 -- a text: refused with a number, or its lines have these places
 pub data Scanned : Type 0 where

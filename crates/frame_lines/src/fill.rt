@@ -9,11 +9,7 @@ use paper::Group;
 fn spin_of(b: u8) -> i8
     ensures { result ≡ signed b }
 {
-    if b < 128 {
-        b as i8
-    } else {
-        -1 - ((255 - b) as i8)
-    }
+    b.cast_signed()
 }
 
 pub(crate) fn fill_spins(text: &[u8], at: usize, count: usize, spins: &mut [i8])

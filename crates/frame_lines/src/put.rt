@@ -45,11 +45,7 @@ pub(crate) fn put_words(tag: u8, xs: &[u32], out: &mut [u8], at: usize) -> usize
 fn spin_byte(z: i8) -> u8
     ensures { result ≡ spin_byte z }
 {
-    if z < 0 {
-        255 - ((-1 - z) as u8)
-    } else {
-        z as u8
-    }
+    z.cast_unsigned()
 }
 
 pub(crate) fn put_spins(tag: u8, xs: &[i8], out: &mut [u8], at: usize) -> usize

@@ -15,7 +15,7 @@ use Rattle.paper.specs.Answer.Team.{Team, Owned, read, read_call, read_sweep, ha
 use Rattle.laws.specs.KeepDetermined.{SameSweepKept}
 use Rattle.label.specs.Entry.{Request, Lent}
 use Rattle.label.specs.Determined.{components_determined}
-use Rattle.frame_lines.specs.declared.Written.{Written}
+use Rattle.frame_lines.specs.Outcome.{Written}
 use Rattle.frame_lines.specs.Number.{written_values}
 use Rattle.frame_lines.specs.Determined.{SameWritten}
 use Rattle.frame.specs.Determined.{run_determined}

@@ -24,10 +24,7 @@ fn hand_over(left: Left, words: &mut [u64]) -> u8
     ensures { Handed left result words.new }
 {
     let s = left.source;
-    words[0] = s.s0;
-    words[1] = s.s1;
-    words[2] = s.s2;
-    words[3] = s.s3;
+    words.copy_from_slice(&[s.s0, s.s1, s.s2, s.s3]);
     left.refusal
 }
 
