@@ -10,6 +10,7 @@ ghost use Rattle.edges.specs.Cases.{listing_of};
 ghost use Rattle.edges.specs.Answer.{ExactLengths, net_of, ReadAnswers, WriteAnswers};
 
 use edge_text::writing::{head_length, put_head};
+use list::Table;
 use paper::Refusal;
 
 fn exact(m: usize, fwd: usize, bwd: usize, couplings: usize) -> bool
@@ -82,11 +83,17 @@ pub fn write_edges(
     if !lattice::couplings_ok(couplings) {
         return Err(Refusal::Couplings);
     }
-    let m = list::count(n, d, fwd, couplings);
-    let size = head_length(n, m) + list::bytes(n, d, fwd, couplings);
+    let table = Table {
+        n,
+        d,
+        fwd,
+        couplings,
+    };
+    let m = table.count();
+    let size = head_length(n, m) + table.bytes();
     if text.len() < size {
         return Err(Refusal::Lengths);
     }
     let at = put_head(n, m, text);
-    Ok(list::put_all(n, d, fwd, couplings, text, at))
+    Ok(table.put_all(text, at))
 }
