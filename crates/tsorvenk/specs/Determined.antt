@@ -24,8 +24,7 @@ use Rattle.draws.specs.declared.Left.{Left}
 use Rattle.draws.specs.Promise.{WordDrawn, CoinDrawn, BelowDrawn, PermutationDrawn, FlipsFilled, BelowFilled, BytesFilled}
 use Rattle.draws.specs.Promise.{PermutationsFilled, WolffFilled, GreysFilled, NumbersFilled, WolffNumbersFilled}
 use Rattle.draws.specs.Determined as Draw
-use Rattle.edges.specs.declared.Listing.{Listing}
-use Rattle.edges.specs.declared.Listing.TheVariants.{Unlisted, Wrote}
+use Rattle.edges.specs.Cases.{Listing, Listing.Unlisted, Listing.Wrote}
 use Rattle.edges.specs.Answer.{Net, net_of, ReadAnswers, listing_values}
 use Rattle.edges.specs.Determined.{read_edges_determined, write_edges_determined}
 use Rattle.orders.specs.declared.Numbered.{Numbered}

@@ -1,6 +1,6 @@
--- `edges::list::bytes` meets its contract.
+-- `edges::list::Table::bytes` meets its contract.
 use Rattle.edges.proofs.Lists.{measuring_none, measuring_more}
-use Rattle.edges.proofs.list.bytes.Goals as goal
+use Rattle.edges.proofs.list.Table.bytes.Goals as goal
 
 pub loop-b-init : goal.loop-b-init
 loop-b-init c = measuring_none _ _ _ _

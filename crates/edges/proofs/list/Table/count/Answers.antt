@@ -1,6 +1,6 @@
--- `edges::list::count` meets its contract.
+-- `edges::list::Table::count` meets its contract.
 use Rattle.edges.proofs.Lists.{counting_none, counting_more}
-use Rattle.edges.proofs.list.count.Goals as goal
+use Rattle.edges.proofs.list.Table.count.Goals as goal
 
 pub loop-b-init : goal.loop-b-init
 loop-b-init c = counting_none _ _ _ _

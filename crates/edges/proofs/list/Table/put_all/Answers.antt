@@ -1,6 +1,6 @@
--- `edges::list::put_all` meets its contract.
+-- `edges::list::Table::put_all` meets its contract.
 use Rattle.edges.proofs.Lists.{putting_none, putting_more, putting_room}
-use Rattle.edges.proofs.list.put_all.Goals as goal
+use Rattle.edges.proofs.list.Table.put_all.Goals as goal
 
 pub loop-b-init : goal.loop-b-init
 loop-b-init c = putting_none _ _ _ _ _ _

@@ -1,8 +1,8 @@
--- `edges::list::entry_length` meets its contract.
+-- `edges::list::Table::entry_length` meets its contract.
 use mathlib.Core.Path.{sym, ◌∙◌}
 use Rattle.edges.specs.Listing.{small_edge}
 use Rattle.edges.proofs.Lists.{none_long, one_long}
-use Rattle.edges.proofs.list.entry_length.Goals as goal
+use Rattle.edges.proofs.list.Table.entry_length.Goals as goal
 
 pub returns-then-is_zero : goal.returns-then-is_zero
 returns-then-is_zero c = none_long c.requires (sym c.is_zero.ensures ∙ c.if-is_zero.true)

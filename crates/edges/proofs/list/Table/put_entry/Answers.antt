@@ -1,8 +1,8 @@
--- `edges::list::put_entry` meets its contract.
+-- `edges::list::Table::put_entry` meets its contract.
 use mathlib.Core.Path.{sym, ◌∙◌}
 use Rattle.edges.specs.Listing.{small_edge}
 use Rattle.edges.proofs.Lists.{none_put, one_put, one_room}
-use Rattle.edges.proofs.list.put_entry.Goals as goal
+use Rattle.edges.proofs.list.Table.put_entry.Goals as goal
 
 pub returns-then-is_zero : goal.returns-then-is_zero
 returns-then-is_zero c = none_put c.requires.bond (sym c.is_zero.ensures ∙ c.if-is_zero.true) _ _
