@@ -7,78 +7,80 @@ ghost use Rattle.edges.specs.Filling.{decoded, SmallCodes, Decodable, Decoded};
 use edge_text::reading::{head, line};
 use lemmas::wide;
 
-// The first way from a site to another by a free bond.
-fn scan(d: usize, fwd: &[u32], cells: &[u32], from: usize, to: usize) -> Option<usize>
-    requires { Ways d fwd.now cells.now from }
-    ensures { FirstWay d fwd.now cells.now from to result }
-{
-    for way in 0..d {
-        let b = from * d + way;
-        if (wide(fwd[b]) == to) & (wide(cells[b]) == 0) {
-            return Some(way);
+// A tested table of neighbours.
+#[derive(Clone, Copy)]
+pub(crate) struct Neighbours<'a> {
+    pub(crate) n: usize,
+    pub(crate) d: usize,
+    pub(crate) fwd: &'a [u32],
+}
+
+impl Neighbours<'_> {
+    // The first way from a site to another by a free bond.
+    fn scan(&self, cells: &[u32], from: usize, to: usize) -> Option<usize>
+        requires { Ways self.now.d self.now.fwd.now cells.now from }
+        ensures { FirstWay self.now.d self.now.fwd.now cells.now from to result }
+    {
+        for way in 0..self.d {
+            let b = from * self.d + way;
+            if (wide(self.fwd[b]) == to) & (wide(cells[b]) == 0) {
+                return Some(way);
+            }
         }
+        None
     }
-    None
-}
 
-// The lower site's bonds have the lower numbers.
-fn find_rising(n: usize, d: usize, fwd: &[u32], cells: &[u32], i: usize, j: usize) -> Option<usize>
-    requires { Ordered n d fwd.now cells.now i j }
-    ensures { FirstBond n d fwd.now cells.now i j result }
-{
-    if let Some(way) = scan(d, fwd, cells, i, j) {
-        return Some(i * d + way);
+    // The lower site's bonds have the lower numbers.
+    fn find_rising(&self, cells: &[u32], i: usize, j: usize) -> Option<usize>
+        requires { Ordered self.now.n self.now.d self.now.fwd.now cells.now i j }
+        ensures { FirstBond self.now.n self.now.d self.now.fwd.now cells.now i j result }
+    {
+        if let Some(way) = self.scan(cells, i, j) {
+            return Some(i * self.d + way);
+        }
+        let way = self.scan(cells, j, i)?;
+        Some(j * self.d + way)
     }
-    let way = scan(d, fwd, cells, j, i)?;
-    Some(j * d + way)
-}
 
-fn find(n: usize, d: usize, fwd: &[u32], cells: &[u32], i: usize, j: usize) -> Option<usize>
-    requires { Pair n d fwd.now cells.now i j }
-    ensures { FirstBond n d fwd.now cells.now i j result }
-{
-    if i <= j {
-        return find_rising(n, d, fwd, cells, i, j);
+    fn find(&self, cells: &[u32], i: usize, j: usize) -> Option<usize>
+        requires { Pair self.now.n self.now.d self.now.fwd.now cells.now i j }
+        ensures { FirstBond self.now.n self.now.d self.now.fwd.now cells.now i j result }
+    {
+        if i <= j {
+            return self.find_rising(cells, i, j);
+        }
+        self.find_rising(cells, j, i)
     }
-    find_rising(n, d, fwd, cells, j, i)
-}
 
-// The m lines from a place on, and no byte behind them.
-fn fill(
-    n: usize,
-    d: usize,
-    fwd: &[u32],
-    text: &[u8],
-    at: usize,
-    m: usize,
-    cells: &mut [u32],
-) -> bool
-    requires { Readable n d fwd.now text.now at cells.old }
-    ensures { FilledAs n d fwd.now (drop at text.now) m result cells.new }
-{
-    let mut p = at;
-    for _ in 0..m {
-        let Some(edge) = line(text, p, n) else {
+    // The m lines from a place on, and no byte behind them.
+    fn fill(&self, text: &[u8], at: usize, m: usize, cells: &mut [u32]) -> bool
+        requires { Readable self.now.n self.now.d self.now.fwd.now text.now at cells.old }
+        ensures { FilledAs self.now.n self.now.d self.now.fwd.now (drop at text.now) m result cells.new }
+    {
+        let mut p = at;
+        for _ in 0..m {
+            let Some(edge) = line(text, p, self.n) else {
+                return false;
+            };
+            let Some(b) = self.find(cells, edge.from, edge.to) else {
+                return false;
+            };
+            cells[b] = edge.code;
+            p = edge.end;
+        }
+        p == text.len()
+    }
+
+    // The whole text.
+    pub(crate) fn load(&self, text: &[u8], cells: &mut [u32]) -> bool
+        requires { Readable self.now.n self.now.d self.now.fwd.now text.now 0 cells.old }
+        ensures { LoadedAs self.now.n self.now.d self.now.fwd.now text.now result cells.new }
+    {
+        let Some(lines) = head(text, self.n, self.n * self.d) else {
             return false;
         };
-        let Some(b) = find(n, d, fwd, cells, edge.from, edge.to) else {
-            return false;
-        };
-        cells[b] = edge.code;
-        p = edge.end;
+        self.fill(text, lines.end, lines.value, cells)
     }
-    p == text.len()
-}
-
-// The whole text.
-pub(crate) fn load(n: usize, d: usize, fwd: &[u32], text: &[u8], cells: &mut [u32]) -> bool
-    requires { Readable n d fwd.now text.now 0 cells.old }
-    ensures { LoadedAs n d fwd.now text.now result cells.new }
-{
-    let Some(lines) = head(text, n, n * d) else {
-        return false;
-    };
-    fill(n, d, fwd, text, lines.end, lines.value, cells)
 }
 
 // No coupling is too large in size.

@@ -10,6 +10,7 @@ ghost use Rattle.edges.specs.Cases.{listing_of};
 ghost use Rattle.edges.specs.Answer.{ExactLengths, net_of, ReadAnswers, WriteAnswers};
 
 use edge_text::writing::{head_length, put_head};
+use fill::Neighbours;
 use list::Table;
 use paper::Refusal;
 
@@ -45,7 +46,8 @@ pub fn read_edges(
         return Err(Refusal::Tables);
     }
     let mut cells = [0u32; 16384];
-    if !fill::load(n, d, fwd, text, &mut cells) {
+    let neighbours = Neighbours { n, d, fwd };
+    if !neighbours.load(text, &mut cells) {
         return Err(Refusal::EdgeList);
     }
     if !fill::all_small(&cells, n * d) {

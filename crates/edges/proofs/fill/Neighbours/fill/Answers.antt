@@ -1,7 +1,7 @@
--- `edges::fill::fill` meets its contract.
+-- `edges::fill::Neighbours::fill` meets its contract.
 use mathlib.Core.Path.{refl}
 use Rattle.edges.proofs.Going.{going_none, going_bad, going_full, going_more, going_end}
-use Rattle.edges.proofs.fill.fill.Goals as goal
+use Rattle.edges.proofs.fill.Neighbours.fill.Goals as goal
 
 pub loop-init : goal.loop-init
 loop-init c = going_none _ c.requires
