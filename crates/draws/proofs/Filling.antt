@@ -64,16 +64,5 @@ pub record Filled (at : ℕ → ℕ) (i n : ℕ) (ys : List ℕ) : Type 0 where
   pub long : length ys ≡ n
   pub each : (j : ℕ) → j < i → get_or ys j 0 ≡ at j
 
-module _ {at : ℕ → ℕ} where
-  pub fill_none : (ys : List ℕ) → Filled at 0 (length ys) ys
-  fill_none ys = record { low = omega arith; long = refl; each = λ j l. absurd (omega arith) }
-
-  pub fill_more : {i n : ℕ} {ys : List ℕ} (v : ℕ) → Filled at i n ys → i < length ys → v ≡ at i → Filled at (i + 1) n (set ys i v)
-  fill_more {i} {n} {ys} v h l e = record { low = omega (arith, h.long); long = simp length-set h.long; each = λ j k. go j k (ℕ_discrete j i) }
-    where
-      go : (j : ℕ) → j < i + 1 → Dec (j ≡ i) → get_or (set ys i v) j 0 ≡ at j
-      go j k (yes q) = rw (q, get_or-set_same ys i v 0 l) e
-      go j k (no q) = get_or-set_other ys i j v 0 q ∙ h.each j (omega arith)
-
-  pub fill_done : {i : ℕ} {t u : Source} {xs ys : List ℕ} → Filled at i (length xs) ys → length ys ≤ i → u ≡ t → Written at t xs u ys
-  fill_done {i} h l e = record { long = h.long; each = λ j k. h.each j (omega (arith, h.long)); source = e }
+pub fill_none : {at : ℕ → ℕ} (ys : List ℕ) → Filled at 0 (length ys) ys
+fill_none ys = record { low = omega arith; long = refl; each = λ j l. absurd (omega arith) }

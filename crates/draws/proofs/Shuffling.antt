@@ -1,8 +1,7 @@
 -- One turn of the loop that exchanges places, and of the one that draws permutations again.
 use Rattle.std.proofs.Common.{◌≡◌, ℕ, zero, suc, ◌+◌, ◌-◌, ◌<◌, true, false, List, ap, ◌∙◌, subst, sub-one, arith, eq-eqb, ne_eqb}
 use Rattle.draws.specs.declared.Source.{Source}
-use Rattle.draws.specs.declared.Drawn.{Drawn}
-use Rattle.draws.specs.declared.Row.{Row}
+use Rattle.draws.specs.Answer.{Drawn, Row}
 use Rattle.draws.specs.Draw.{number}
 use Rattle.draws.specs.Rows.{refused_row, swapped, shuffled, permuted, is_identity, retried}
 

@@ -5,9 +5,7 @@ use Rattle.lemmas.specs.Determined.{one_value}
 use Rattle.paper.specs.Refusal.Rule.{Rule, broken_unique, broken_not_kept}
 use Rattle.paper.specs.Refusal.Verdict.{Verdict, verdict_unique}
 use Rattle.draws.specs.declared.Source.{Source}
-use Rattle.draws.specs.declared.Drawn.{Drawn}
-use Rattle.draws.specs.declared.Row.{Row}
-use Rattle.draws.specs.declared.Left.{Left}
+use Rattle.draws.specs.Answer.{Drawn, Row, Left}
 use Rattle.draws.specs.Words.{source, stepped, is_blank}
 use Rattle.draws.specs.Draw.{left, number, flipped, within, new_of, word_of, coin_of, below_of}
 use Rattle.draws.specs.Rows.{refused_row, permuted, row_by, permutation_of}

@@ -2,8 +2,7 @@
 use Rattle.std.specs.Prelude.{◌≡◌, ℕ, zero, suc, ◌+◌, ◌/◌, ◌%◌, ◌<◌, Bool, true, cond, List, [], ◌∷◌, length, ◌==◌, slice_index}
 use Rattle.paper.specs.Refusal.Rule.{Rule, rule, Kept, Broken}
 use Rattle.draws.specs.declared.Source.{Source}
-use Rattle.draws.specs.declared.Drawn.{Drawn}
-use Rattle.draws.specs.declared.Left.{Left}
+use Rattle.draws.specs.Answer.{Drawn, Left}
 use Rattle.draws.specs.Words.{Live, drawn}
 use Rattle.draws.specs.Draw.{number, Within}
 use Rattle.draws.specs.Rows.{row_by}

@@ -7,8 +7,7 @@ use Rattle.std.specs.Int.Bits.{xor_zero_r, xor_add_and, or_add_and}
 use Rattle.std.proofs.lemmas.Nat.{and_le_l, and_le_r}
 use Rattle.paper.specs.Refusal.Rule.{Rule}
 use Rattle.draws.specs.declared.Source.{Source}
-use Rattle.draws.specs.declared.Row.{Row}
-use Rattle.draws.specs.declared.Left.{Left}
+use Rattle.draws.specs.Answer.{Row, Left}
 use Rattle.draws.specs.Words.{source, rotl, word, next, after, is_blank, Live, drawn}
 use Rattle.draws.specs.Draw.{flipped, number, high, limit, tried, refused}
 use Rattle.draws.specs.Rows.{first_row, swapped, shuffled, permuted, is_identity, retried, row_by, refused_row}

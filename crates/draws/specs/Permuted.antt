@@ -7,8 +7,7 @@ use Rattle.std.proofs.Math.Arith.{digits_div, digits_mod}
 use Rattle.paper.specs.Refusal.Rule.{Rule}
 use Rattle.paper.specs.Refusal.Rules.{Permutes, NotIdentity}
 use Rattle.draws.specs.declared.Source.{Source}
-use Rattle.draws.specs.declared.Row.{Row}
-use Rattle.draws.specs.declared.Left.{Left}
+use Rattle.draws.specs.Answer.{Row, Left}
 use Rattle.draws.specs.Draw.{number}
 use Rattle.draws.specs.Rows.{first_row, swapped, shuffled, permuted, is_identity, retried, row_by, refused_row, Members}
 use Rattle.draws.specs.Fill.{stop, go_on, go_down, RowsGo, entry_at, number_at, number_from_one, number_rules, Written, Fills}

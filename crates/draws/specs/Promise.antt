@@ -1,7 +1,7 @@
 -- What each function that fills a lent buffer promises of the source s, the buffer xs, the answer l and the buffer's content ys after it.
 use Rattle.std.specs.Prelude.{ℕ, true, false, List, length, ◌==◌}
 use Rattle.draws.specs.declared.Source.{Source}
-use Rattle.draws.specs.declared.Left.{Left}
+use Rattle.draws.specs.Answer.{Left}
 use Rattle.draws.specs.Words.{stepped}
 use Rattle.draws.specs.Draw.{flipped, number}
 use Rattle.draws.specs.Fill.{FillsBy, FillsRows, number_from_one, word_rules, number_rules, row_rules}

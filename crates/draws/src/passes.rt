@@ -1,77 +1,71 @@
 // The two passes of a fill: one that only draws, to find what is refused, and one that writes.
-ghost use Rattle.std.specs.Prelude.{◌≡◌, ◌+◌, length};
-ghost use Rattle.lemmas.specs.Tells.{Tells};
+ghost use Rattle.std.specs.Prelude.{◌≡◌, ◌+◌, [], ◌∷◌, length};
+ghost use Rattle.paper.specs.Refusal.Rule.{rule};
 ghost use Rattle.paper.specs.Refusal.Verdict.{Verdict};
+ghost use Rattle.paper.specs.Refusal.Numbers.{verdict_of};
 ghost use Rattle.draws.specs.Draw.{number, Topped};
-ghost use Rattle.draws.specs.Rows.{Members};
+ghost use Rattle.draws.specs.Rows.{Members, row_by};
 ghost use Rattle.draws.specs.Fill.{stop, NumbersGo, go_down, RowsGo, entry_at, Written};
 ghost use Rattle.draws.specs.Fill.{word_rules, number_rules, row_length_fits, row_rules};
+ghost use Rattle.draws.specs.Answer.{taken, taken_row};
 ghost use Rattle.draws.specs.Writing.{DrawnInto, Rowing, RowAt, RowPut};
 
 use super::rows::{members_ok, row_by};
 use super::{Drawn, Row, Source, limit_of, number, number_ok};
+use paper::Refusal;
 
 // ---- tests
 
-pub fn word_verdict(fits: bool, s: Source) -> u8
-    ensures { Verdict (word_rules fits s) result }
+pub fn word_verdict(fits: bool, s: Source) -> Result<(), Refusal>
+    ensures { Verdict (word_rules fits s) (verdict_of result) }
 {
     if s.is_blank() {
-        return 12;
+        return Err(Refusal::Draws);
     }
     if !fits {
-        return 2;
+        return Err(Refusal::Lengths);
     }
-    0
+    Ok(())
 }
 
-fn numbers_go(count: usize, m: u64, top: u64, s: Source) -> bool
+fn numbers_go(count: usize, m: u64, top: u64, s: Source) -> Result<(), Refusal>
     requires { Topped m top }
-    ensures { Tells result (NumbersGo (number m) count s) }
+    ensures { Verdict (rule 12 (NumbersGo (number m) count s) ∷ []) (verdict_of result) }
 {
     let mut source = s;
     for _ in 0..count {
-        let d = number(64, m, top, source);
-        if d.refusal != 0 {
-            return false;
-        }
+        let d = number(64, m, top, source)?;
         source = d.source;
     }
-    true
+    Ok(())
 }
 
-pub fn number_verdict(fits: bool, most: u32, m: u32, count: usize, s: Source) -> u8
-    ensures { Verdict (number_rules fits most m count s) result }
+pub fn number_verdict(fits: bool, most: u32, m: u32, count: usize, s: Source) -> Result<(), Refusal>
+    ensures { Verdict (number_rules fits most m count s) (verdict_of result) }
 {
     if s.is_blank() {
-        return 12;
+        return Err(Refusal::Draws);
     }
     if !number_ok(most, m) {
-        return 12;
+        return Err(Refusal::Draws);
     }
     if !fits {
-        return 2;
+        return Err(Refusal::Lengths);
     }
     let n = u64::from(m);
-    if !numbers_go(count, n, limit_of(n), s) {
-        return 12;
-    }
-    0
+    numbers_go(count, n, limit_of(n), s)
 }
 
-fn rows_go(moving: bool, members: usize, count: usize, s: Source) -> bool
+fn rows_go(moving: bool, members: usize, count: usize, s: Source) -> Result<(), Refusal>
     requires { Members members }
-    ensures { Tells result (RowsGo moving members count s) }
+    ensures { Verdict (rule 12 (RowsGo moving members count s) ∷ []) (verdict_of result) }
 {
     let mut source = s;
     for _ in 0..count {
-        let r = row_by(moving, members, source);
-        if r.refusal != 0 {
-            return false;
-        }
+        let r = row_by(moving, members, source)?;
         source = r.source;
     }
-    true
+    Ok(())
 }
 
 fn rows_fit(single: bool, members: usize, len: usize) -> bool
@@ -84,25 +78,49 @@ fn rows_fit(single: bool, members: usize, len: usize) -> bool
     len % members == 0
 }
 
-pub fn row_verdict(single: bool, moving: bool, members: usize, len: usize, s: Source) -> u8
-    ensures { Verdict (row_rules single moving members len s) result }
+pub fn row_verdict(
+    single: bool,
+    moving: bool,
+    members: usize,
+    len: usize,
+    s: Source,
+) -> Result<(), Refusal>
+    ensures { Verdict (row_rules single moving members len s) (verdict_of result) }
 {
     if s.is_blank() {
-        return 12;
+        return Err(Refusal::Draws);
     }
     if !members_ok(members) {
-        return 12;
+        return Err(Refusal::Draws);
     }
     if !rows_fit(single, members, len) {
-        return 2;
+        return Err(Refusal::Lengths);
     }
-    if !rows_go(moving, members, len / members, s) {
-        return 12;
-    }
-    0
+    rows_go(moving, members, len / members, s)
 }
 
 // ---- writing
+
+// The second pass draws what the first has drawn: none is refused.
+pub fn drawn_number(m: u64, top: u64, s: Source) -> Drawn
+    requires { Topped m top }
+    ensures { result ≡ taken (number m s) }
+{
+    number(64, m, top, s).unwrap_or(Drawn {
+        value: 0,
+        source: s,
+    })
+}
+
+fn drawn_row(moving: bool, members: usize, s: Source) -> Row
+    requires { Members members }
+    ensures { result ≡ taken_row (row_by moving members s) }
+{
+    row_by(moving, members, s).unwrap_or(Row {
+        row: [0; 8],
+        source: s,
+    })
+}
 
 // Each place takes what is drawn for it.
 pub fn write<T: Copy, F: Fn(Source) -> (T, Source)>(draw: F, s: Source, places: &mut [T]) -> Source
@@ -136,7 +154,7 @@ pub fn write_rows(moving: bool, members: usize, count: usize, s: Source, rows: &
 {
     let mut source = s;
     for i in 0..count {
-        let r = row_by(moving, members, source);
+        let r = drawn_row(moving, members, source);
         put_row(members, i * members, r.row, rows);
         source = r.source;
     }

@@ -20,7 +20,7 @@ use Rattle.frame_lines.specs.Number.{written_values}
 use Rattle.frame_lines.specs.Determined.{SameWritten}
 use Rattle.frame.specs.Determined.{run_determined}
 use Rattle.draws.specs.declared.Source.{Source}
-use Rattle.draws.specs.declared.Left.{Left}
+use Rattle.draws.specs.Answer.{Left}
 use Rattle.draws.specs.Promise.{WordDrawn, CoinDrawn, BelowDrawn, PermutationDrawn, FlipsFilled, BelowFilled, BytesFilled}
 use Rattle.draws.specs.Promise.{PermutationsFilled, WolffFilled, GreysFilled, NumbersFilled, WolffNumbersFilled}
 use Rattle.draws.specs.Determined as Draw

@@ -4,4 +4,4 @@ use Rattle.draws.specs.Draw.{tried}
 use Rattle.draws.proofs.number.Given as goal
 
 abbrev pub invariant-loop : goal.invariant-loop
-invariant-loop l = tried l.s (l.budget - l.counter) l.m l.source ≡ tried l.s l.budget l.m l.s
+invariant-loop l = tried l.fn.s (l.budget - l.counter) l.m l.source ≡ tried l.fn.s l.budget l.m l.fn.s

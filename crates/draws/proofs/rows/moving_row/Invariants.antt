@@ -4,4 +4,4 @@ use Rattle.draws.specs.Rows.{retried}
 use Rattle.draws.proofs.rows.moving_row.Given as goal
 
 abbrev pub invariant-loop : goal.invariant-loop
-invariant-loop l = retried l.s (l.budget - l.counter) l.members l.source ≡ retried l.s l.budget l.members l.s
+invariant-loop l = retried l.fn.s (l.budget - l.counter) l.members l.source ≡ retried l.fn.s l.budget l.members l.fn.s

@@ -1,28 +1,35 @@
 -- `shuffle` meets its contract. The invariant: the places below i, exchanged in the present row, make the permutation of the lent source.
-use Rattle.std.proofs.Common.{◌≡◌, ◌+◌, ◌-◌, ◌<◌, length, ◌∙◌, arith}
+use Rattle.std.specs.Prelude.{Ok, Err}
+use Rattle.std.proofs.Common.{◌≡◌, ℕ, ◌+◌, ◌-◌, ◌<◌, [], ◌∷◌, length, sym, refl, ap, ◌∙◌, arith}
+use Rattle.std.proofs.lemmas.Grind.{common_steps}
 use Rattle.std.proofs.lemmas.List.Edits.{swap_is}
-use Rattle.draws.specs.Rows.{shuffled}
+use Rattle.paper.specs.declared.Refusal.{Refusal}
+use Rattle.draws.specs.Answer.{drawn_of}
+use Rattle.draws.specs.Rows.{drawn_row, shuffled}
+use Rattle.draws.proofs.Telling.{not_zero, number_twelve}
 use Rattle.draws.proofs.Trying.{drawn_below}
 use Rattle.draws.proofs.Shuffling.{place_refused, place_done}
 use Rattle.draws.proofs.rows.shuffle.Goals as goal
 
-pub returns-then-d-ne0 : goal.returns-then-d-ne0
-returns-then-d-ne0 c = let h = c.loop-i in
-    c.refused_row.ensures
-    ∙ (place_refused c.args.s h.row h.source (h.i - 1) c.number-d.result (omega arith) c.number-d.ensures c.if-d-ne0.true
-    ∙ h.invariant)
+pub returns-in_err-d : goal.returns-in_err-d
+returns-in_err-d c = let h = c.loop-i in
+    let e : Refusal = c.in_err-d.field-0.0 in
+    let back : c.from_residual.result ≡ Err e = grind (arith, common_steps) in
+    rw back
+    (ap (λ (x : ℕ). drawn_row x (0 ∷ 0 ∷ 0 ∷ 0 ∷ 0 ∷ 0 ∷ 0 ∷ 0 ∷ []) c.args.s) (sym (number_twelve (h.i - 1 + 1) h.source e c.in_err-d.ensures))
+    ∙ (place_refused c.args.s h.row h.source (h.i - 1) (drawn_of h.source (Err e)) (omega arith) c.in_err-d.ensures (not_zero e) ∙ h.invariant))
 
 pub swap-requires-clause-b_in_bounds : goal.swap-requires-clause-b_in_bounds
 swap-requires-clause-b_in_bounds c = let h = c.loop-i in
-    omega (arith, drawn_below (h.i - 1 + 1) h.source c.number-d.result c.number-d.ensures (omega arith))
+    omega (arith, drawn_below (h.i - 1 + 1) h.source (drawn_of h.source (Ok c.in_ok-d.d)) c.in_ok-d.ensures (omega arith))
 
 pub loop-i-preserved : goal.loop-i-preserved
 loop-i-preserved c = let h = c.loop-i in
-    let j = c.number-d.result.value in
-    let low : j < length h.row = omega (arith, drawn_below (h.i - 1 + 1) h.source c.number-d.result c.number-d.ensures (omega arith)) in
+    let j = c.in_ok-d.d.value in
+    let d = drawn_of h.source (Ok c.in_ok-d.d) in
+    let low : j < length h.row = omega (arith, drawn_below (h.i - 1 + 1) h.source d c.in_ok-d.ensures (omega arith)) in
     rw (c.swap.ensures.after, ← swap_is h.row (h.i - 1) j 0 (omega arith) low)
-    (place_done c.args.s h.row h.source (h.i - 1) c.number-d.result (omega arith) c.number-d.ensures c.if-d-ne0.false
-    ∙ h.invariant)
+    (place_done c.args.s h.row h.source (h.i - 1) d (omega arith) c.in_ok-d.ensures refl ∙ h.invariant)
 
 pub returns : goal.returns
 unfolding shuffled
