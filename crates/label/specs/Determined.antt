@@ -1,7 +1,5 @@
 -- How tight the promise is: what it allows for one input is one answer and one content of every lent buffer.
-use Rattle.std.specs.Prelude.{ℕ, ◌≡◌, refl, Result}
-use Rattle.paper.specs.declared.Refusal.{Refusal}
-use Rattle.label.specs.Labelling.{labelling_of, labelling_of_injective}
+use Rattle.std.specs.Prelude.{ℕ, ◌≡◌, refl}
 use Rattle.std.proofs.Common.{sym, ◌∙◌, ap}
 use Rattle.paper.specs.Component.Marks.{marked}
 use Rattle.paper.specs.Refusal.Rule.{Kept, Broken, broken_unique, broken_not_kept}
@@ -47,9 +45,3 @@ must_refuse r b b' Written c p w = absurd (broken_not_kept (rules r b) c w p.val
 
 pub must_label : (r : Request) (b b' : Lent) (c : ℕ) → Answers r b (Unlabelled c) b' → Kept (rules r b) → ⊥
 must_label r b b' c p k = broken_not_kept (rules r b) c p.why k
-
--- and one result
-pub components_result_determined : (r : Request) (b y z : Lent) (a a' : Result (Unit {0}) Refusal)
-    → Answers r b (labelling_of a) y → Answers r b (labelling_of a') z → a ≡ a'
-components_result_determined r b y z a a' p q =
-    labelling_of_injective a a' (components_determined r b y z (labelling_of a) (labelling_of a') p q).answer
