@@ -7,7 +7,7 @@ ghost use Rattle.active_rules.specs.Rule.{mode_of};
 use paper::Mode;
 
 // The rules that need no drawn bond, under their published names.
-#[derive(Clone, Copy)]
+#[derive(Clone, Copy, PartialEq, Eq, Debug)]
 pub enum ActiveRule {
     Balanced,
     Pairwise,

@@ -1,8 +1,7 @@
 -- 14/14: every order of all tasks' steps that keeps each task's own three in order ends in the spins, outputs, totals and counts of the sweep, and no
 -- step of it is refused. A sweep that is refused takes no step and leaves all as it was.
 use Rattle.std.specs.Prelude.{ℕ, zero, suc, ◌<◌, ◌≡◌, Bool, false, List, ℤ}
-use Rattle.paper.specs.declared.SweepAnswer.{SweepAnswer}
-use Rattle.paper.specs.declared.SweepAnswer.TheVariants.{Fault, Swept}
+use Rattle.paper.specs.Answer.Cases.{SweepAnswer, SweepAnswer.Fault, SweepAnswer.Swept}
 use Rattle.paper.specs.Panel.Input.{Buffers}
 use Rattle.paper.specs.Refusal.Rule.{Kept, broken_not_kept}
 use Rattle.paper.specs.Refusal.Verdict.{Verdict}

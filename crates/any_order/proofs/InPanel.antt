@@ -1,7 +1,7 @@
 -- An unmasked task of an accepted sweep that has done its three steps, on rows of its own, has done its move in the panel.
 use Rattle.std.specs.Prelude.{ℕ, ◌<◌, ◌≡◌, Bool, false, List, ℤ}
 use Rattle.std.proofs.Common.{sym, ◌∙◌, subst}
-use Rattle.paper.specs.declared.Answer.{Answer}
+use Rattle.paper.specs.Answer.Cases.{Answer}
 use Rattle.paper.specs.Panel.Input.{Call, Choices, Buffers}
 use Rattle.paper.specs.Refusal.Rule.{Kept}
 use Rattle.paper.specs.Answer.Move.{Accepted, Accepted.idle, Accepted.held, Accepted.moved}

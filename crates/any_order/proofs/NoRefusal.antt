@@ -1,8 +1,7 @@
 -- In an accepted sweep no step of an unmasked task is refused, and its three steps, on its own rows, are the move on these.
 use Rattle.std.specs.Prelude.{ℕ, zero, suc, ◌<◌, ◌≡◌, refl, Bool, false, List, length, ℤ}
 use Rattle.std.proofs.Common.{sym, ◌∙◌, ap, subst}
-use Rattle.paper.specs.declared.Answer.{Answer}
-use Rattle.paper.specs.declared.Answer.TheVariants.{Refused, Idle, Held, Moved}
+use Rattle.paper.specs.Answer.Cases.{Answer, Answer.Refused, Answer.Idle, Answer.Held, Answer.Moved}
 use Rattle.paper.specs.Panel.Input.{Call, Choices, Buffers, size}
 use Rattle.paper.specs.Refusal.Rule.{Kept, broken_not_kept}
 use Rattle.paper.specs.Refusal.Kept.{valid_kept}

@@ -15,7 +15,7 @@ use Rattle.laws.specs.SameView.{join_rows, join_length, join_mine, join_other, e
 use Rattle.own_rows.specs.PutBack.{PutBack, PutTotals}
 use Rattle.any_order.specs.Schedule.{Alone}
 use Rattle.any_order.specs.Tasks.{Holding, DoesFor, Holds, Handed, Merged, swept_by}
-use Rattle.any_order.specs.Whose.{in_group_lem, in_group, off_group, Owned, whose}
+use Rattle.any_order.specs.Whose.{is_in_group, in_group, off_group, Owned, whose}
 use Rattle.any_order.specs.Sound.{sound, valid, leads, within}
 use Rattle.any_order.proofs.InPanel.{in_panel}
 
@@ -30,23 +30,23 @@ module _ (keeping : Bool) (w : Sweep) (b : Buffers) (ts : List ℤ) (v : Kept (s
 
     -- the panel after the task k alone
     rows_with : ℕ → List ℤ
-    rows_with k = join_rows w.lattice.n (in_group_lem (task_call w k)) b.spins b'.spins
+    rows_with k = join_rows w.lattice.n (is_in_group (task_call w k)) b.spins b'.spins
 
     totals_with : ℕ → List ℤ
-    totals_with k = join_rows 1 (in_group_lem (task_call w k)) ts us
+    totals_with k = join_rows 1 (is_in_group (task_call w k)) ts us
 
     row_in : (k i x : ℕ) → i < w.lattice.n → x < w.members
         → spin w.lattice.n (rows_with k) (system (task_call w k) x) i ≡ spin w.lattice.n b'.spins (system (task_call w k) x) i
     unfolding rows_with
     row_in k i x hi hx =
-        join_mine w.lattice.n (in_group_lem (task_call w k)) b.spins b'.spins m.outputs.lengths.spins (system (task_call w k) x) i
+        join_mine w.lattice.n (is_in_group (task_call w k)) b.spins b'.spins m.outputs.lengths.spins (system (task_call w k) x) i
         (in_group (task_call w k) x hx) hi
 
     total_in : (k x : ℕ) → x < w.members → total (totals_with k) (system (task_call w k) x) ≡ total us (system (task_call w k) x)
     unfolding totals_with
     total_in k x hx =
         sym (as_row (totals_with k) (system (task_call w k) x))
-        ∙ (join_mine 1 (in_group_lem (task_call w k)) ts us m.totals_long (system (task_call w k) x) 0 (in_group (task_call w k) x hx) (omega arith)
+        ∙ (join_mine 1 (is_in_group (task_call w k)) ts us m.totals_long (system (task_call w k) x) 0 (in_group (task_call w k) x hx) (omega arith)
         ∙ as_row us (system (task_call w k) x))
 
     module _ (k : ℕ) (h : k < tasks w) (e : masked w k ≡ false) (s₀ : Holds w b ts k (before k)) (s : Alone (DoesFor keeping w k) (before k) (after k)) where
@@ -56,20 +56,20 @@ module _ (keeping : Bool) (w : Sweep) (b : Buffers) (ts : List ℤ) (v : Kept (s
       put_back : PutBack (task_call w k) b.spins (after k).buffers.spins (rows_with k)
       unfolding rows_with
       put_back = record {
-        long = join_length w.lattice.n (in_group_lem (task_call w k)) b.spins b'.spins;
+        long = join_length w.lattice.n (is_in_group (task_call w k)) b.spins b'.spins;
         group = λ i x hi hx. row_in k i x hi hx ∙ handed.rows i x hi hx;
         others = λ i t hi n.
-            join_other w.lattice.n (in_group_lem (task_call w k)) b.spins b'.spins m.outputs.lengths.spins t i (off_group (task_call w k) t n) hi;
+            join_other w.lattice.n (is_in_group (task_call w k)) b.spins b'.spins m.outputs.lengths.spins t i (off_group (task_call w k) t n) hi;
       }
 
       put_totals : PutTotals (task_call w k) ts (after k).totals (totals_with k)
       unfolding totals_with
       put_totals = record {
-        long = join_length 1 (in_group_lem (task_call w k)) ts us;
+        long = join_length 1 (is_in_group (task_call w k)) ts us;
         group = λ x hx. total_in k x hx ∙ handed.totals x hx;
         others = λ t n.
             sym (as_row (totals_with k) t)
-            ∙ (join_other 1 (in_group_lem (task_call w k)) ts us m.totals_long t 0 (off_group (task_call w k) t n) (omega arith) ∙ as_row ts t);
+            ∙ (join_other 1 (is_in_group (task_call w k)) ts us m.totals_long t 0 (off_group (task_call w k) t n) (omega arith) ∙ as_row ts t);
       }
 
       moved :

@@ -1,6 +1,6 @@
 -- 14/14 with 12/14: the steps of two teams' sweeps, mixed in any order that keeps each task's own, end as the one sweep and then the other does.
 use Rattle.std.specs.Prelude.{◌≡◌, refl, Bool, List, ℤ}
-use Rattle.paper.specs.declared.SweepAnswer.{SweepAnswer}
+use Rattle.paper.specs.Answer.Cases.{SweepAnswer}
 use Rattle.paper.specs.Panel.Input.{Buffers}
 use Rattle.paper.specs.Refusal.Rule.{Kept}
 use Rattle.paper.specs.Answer.Totals.{swept_rules, SweepKeepAnswers}

@@ -1,8 +1,7 @@
 -- One sweep whose tasks take their steps in some order: how it begins, how it ends, and what it answers. The tasks of a refused one hold
 -- what they held.
 use Rattle.std.specs.Prelude.{ℕ, zero, suc, ◌<◌, ◌≡◌, Bool, false, List, ℤ}
-use Rattle.paper.specs.declared.SweepAnswer.{SweepAnswer}
-use Rattle.paper.specs.declared.SweepAnswer.TheVariants.{Fault}
+use Rattle.paper.specs.Answer.Cases.{SweepAnswer, SweepAnswer.Fault}
 use Rattle.paper.specs.Panel.Input.{Buffers}
 use Rattle.paper.specs.Answer.Task.{Sweep, tasks, masked}
 use Rattle.any_order.specs.Schedule.{Key, Turn, Steps, Run, Ordered}

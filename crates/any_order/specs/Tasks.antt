@@ -1,8 +1,7 @@
 -- The tasks of a sweep as steps: what a task holds, what its three steps do, and how a panel is put together from what the tasks hold.
 use Rattle.std.specs.Prelude.{ℕ, ◌<◌, ◌≡◌, Bool, true, false, List, length, ℤ}
-use Rattle.paper.specs.declared.Answer.{Answer}
-use Rattle.paper.specs.declared.SweepAnswer.{SweepAnswer}
-use Rattle.paper.specs.declared.SweepAnswer.TheVariants.{Swept}
+use Rattle.paper.specs.Answer.Cases.{Answer}
+use Rattle.paper.specs.Answer.Cases.{SweepAnswer, SweepAnswer.Swept}
 use Rattle.paper.specs.Panel.Input.{Call, Choices, Buffers, system, spin, pattern}
 use Rattle.paper.specs.Refusal.Rules.{When}
 use Rattle.paper.specs.Answer.Totals.{total}

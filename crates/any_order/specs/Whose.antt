@@ -12,19 +12,19 @@ abbrev found : {A B : Type 0} → A ⊎ B → Bool
 found (inl a) = true
 found (inr b) = false
 
-pub in_group_lem : Call → ℕ → Bool
-in_group_lem c t = found (place (size c) (system c) t)
+pub is_in_group : Call → ℕ → Bool
+is_in_group c t = found (place (size c) (system c) t)
 
-pub in_group : (c : Call) (k : ℕ) → k < size c → in_group_lem c (system c k) ≡ true
-unfolding in_group_lem
+pub in_group : (c : Call) (k : ℕ) → k < size c → is_in_group c (system c k) ≡ true
+unfolding is_in_group
 in_group c k h = go (place (size c) (system c) (system c k))
   where
     go : (q : Placed (size c) (system c) (system c k) ⊎ Unplaced (size c) (system c) (system c k)) → found q ≡ true
     go (inl q) = refl
     go (inr q) = absurd (q k h refl)
 
-pub off_group : (c : Call) (t : ℕ) → ((k : ℕ) → k < size c → t ≢ system c k) → in_group_lem c t ≡ false
-unfolding in_group_lem
+pub off_group : (c : Call) (t : ℕ) → ((k : ℕ) → k < size c → t ≢ system c k) → is_in_group c t ≡ false
+unfolding is_in_group
 off_group c t n = go (place (size c) (system c) t)
   where
     go : (q : Placed (size c) (system c) t ⊎ Unplaced (size c) (system c) t) → found q ≡ false

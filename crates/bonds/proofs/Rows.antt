@@ -1,7 +1,7 @@
 -- Rows of a table, written byte by byte and site by site.
 use Prim.Native.Nat.{ℕ, ◌+◌, ◌*◌, ◌≤◌, ◌<◌}
 use mathlib.Core.Path.{◌≡◌, refl, sym, ◌∙◌, ap}
-use mathlib.Core.Bool.{Bool, false}
+use mathlib.Core.Bool.{Bool, true, false}
 use mathlib.Core.List.{List}
 use native.Mathlib.Nat.{le_of_lt, le_trans, mul-le-mul_left, mul-le-mul_right, suc-mul}
 use native.Mathlib.Numerals.{add-one}
@@ -9,6 +9,7 @@ use native.Mathlib.Omega.{arith}
 use borrow.Author.Count.{below_more}
 use lib.ListN.{length, get_or, set, length-set}
 use lib.Seq.{get_or-set_same, get_or-set_other}
+use mir.Val.{bool_byte}
 use Rattle.lemmas.specs.Counts.{bit}
 use Rattle.lemmas.specs.Cells.{cell_lt}
 use Rattle.paper.specs.Component.Marks.{Marks}
@@ -31,6 +32,14 @@ pub base_short : {n d : ℕ} {fwd : List ℕ} → Forward n d fwd → (i : ℕ) 
 base_short {n} {d} h i hi = le_trans (mul-le-mul_right d (le_of_lt hi)) (short_table h)
 
 -- ---- a row
+-- the byte of a test
+pub byte_is : {v : ℕ} {b b' : Bool} → v ≡ bool_byte b → b ≡ b' → v ≡ bit b'
+byte_is {v} {b} e q = e ∙ (same b ∙ ap bit q)
+  where
+    same : (t : Bool) → bool_byte t ≡ bit t
+    same true = refl
+    same false = refl
+
 pub row_none : (base : ℕ) (f : ℕ → Bool) (xs : List ℕ) → Row base 0 f xs xs
 row_none base f xs = record { long = refl; at = λ e h. absurd (omega arith); below = λ k h. refl; above = λ k h. refl }
 

@@ -24,7 +24,7 @@ fn active_site(i: usize, d: usize, fwd: &[u32], acts: &[u8], holds: &mut [u8])
     let here = acts[i] == 1;
     for e in 0..d {
         let b = base + e;
-        holds[b] = (here & (acts[wide(fwd[b])] == 1)) as u8;
+        holds[b] = u8::from(here & (acts[wide(fwd[b])] == 1));
     }
 }
 
@@ -43,7 +43,7 @@ fn size(j: i32) -> f32
     requires { nat_abs j ≤ 4000000 }
     ensures { result ≡ whole (nat_abs j) }
 {
-    if j < 0 { (0 - j) as f32 } else { j as f32 }
+    j.abs() as f32
 }
 
 // Are the first two spins of a column equal? Their product q is then +1, and else -1.
@@ -58,11 +58,7 @@ fn aligned(a: u8, b: u8, coupling: i32) -> i32
     requires { nat_abs coupling ≤ 1000000 }
     ensures { result ≡ coupling *ℤ shown a 0 *ℤ shown b 0 }
 {
-    if a % 2 == b % 2 {
-        coupling
-    } else {
-        0 - coupling
-    }
+    if a % 2 == b % 2 { coupling } else { -coupling }
 }
 
 // The kind of a bond in CMR, from the columns of its two ends.
@@ -76,12 +72,10 @@ pub fn classify(a: u8, b: u8, coupling: i32) -> BondKind
         } else {
             BondKind::None
         }
+    } else if coupling == 0 {
+        BondKind::None
     } else {
-        if coupling == 0 {
-            BondKind::None
-        } else {
-            BondKind::Red(size(coupling))
-        }
+        BondKind::Red(size(coupling))
     }
 }
 
@@ -96,9 +90,8 @@ pub fn draw_blue(kind: BondKind, sampler: Sampler, cut: f32) -> bool
     ensures { result ≡ blue_holds kind sampler cut }
 {
     match kind {
-        BondKind::None => false,
         BondKind::Blue(w) => is_drawn(sampler.four, w, cut),
-        BondKind::Red(_) => false,
+        BondKind::None | BondKind::Red(_) => false,
     }
 }
 
@@ -161,8 +154,8 @@ fn cmr_site(
         let coupling = couplings[b];
         let cut = cuts[b];
         let on = blue_bond(col, other, coupling, sampler, cut);
-        blue[b] = on as u8;
-        grey[b] = grey_bond(on, col, other, coupling, sampler, cut) as u8;
+        blue[b] = u8::from(on);
+        grey[b] = u8::from(grey_bond(on, col, other, coupling, sampler, cut));
     }
 }
 
@@ -208,7 +201,7 @@ fn blue_site(
     let col = cols[i];
     for e in 0..d {
         let b = base + e;
-        blue[b] = blue_bond(col, cols[wide(fwd[b])], couplings[b], sampler, cuts[b]) as u8;
+        blue[b] = u8::from(blue_bond(col, cols[wide(fwd[b])], couplings[b], sampler, cuts[b]));
     }
 }
 
@@ -254,9 +247,9 @@ fn pair_sum(a: u8, b: u8, pairs: usize) -> i32
     let mut x = a;
     let mut y = b;
     for k in 0..pairs {
-        total = total + pair_term(x, y);
-        x = x >> 2;
-        y = y >> 2;
+        total += pair_term(x, y);
+        x >>= 2;
+        y >>= 2;
     }
     total
 }
@@ -268,11 +261,7 @@ pub fn jorg_holds(coupling: i32, len: usize, a: u8, b: u8, sampler: Sampler, cut
     ensures { result ≡ jorg_holds coupling len (shown a) (shown b) sampler cut }
 {
     let strength = coupling * pair_sum(a, b, len / 2);
-    if strength > 0 {
-        is_drawn(sampler.four, size(strength), cut)
-    } else {
-        false
-    }
+    strength > 0 && is_drawn(sampler.four, size(strength), cut)
 }
 
 // A bond of a site that acts: its other end has the byte `act`.
@@ -281,11 +270,7 @@ fn jorg_bond(act: u8, coupling: i32, len: usize, a: u8, b: u8, sampler: Sampler,
     requires len_bound { len ≤ 8 }
     ensures { result ≡ (eqb act 1 && jorg_holds coupling len (shown a) (shown b) sampler cut) }
 {
-    if act == 1 {
-        jorg_holds(coupling, len, a, b, sampler, cut)
-    } else {
-        false
-    }
+    act == 1 && jorg_holds(coupling, len, a, b, sampler, cut)
 }
 
 // The bonds of site i, which acts.
@@ -312,7 +297,8 @@ fn jorg_site(
     for e in 0..d {
         let b = base + e;
         let j = wide(fwd[b]);
-        holds[b] = jorg_bond(acts[j], couplings[b], len, col, cols[j], sampler, cuts[b]) as u8;
+        let bond = jorg_bond(acts[j], couplings[b], len, col, cols[j], sampler, cuts[b]);
+        holds[b] = u8::from(bond);
     }
 }
 

@@ -27,25 +27,15 @@ ghost use Rattle.choose.specs.Chosen.{
 use lemmas::wide;
 use lemmas::words::clear;
 use paper::{Form, Group, Mode};
-
-// A byte by a test: both values are at hand, so this is a select and no branch.
-fn pick(test: bool, a: u8, b: u8) -> u8
-    ensures { result ≡ cond test a b }
-{
-    if test { a } else { b }
-}
+use std::hint::select_unpredictable;
 
 // SW moves a component from this size on.
 fn least_size(mode: Mode) -> u32
     ensures { result ≡ least_size mode }
 {
     match mode {
-        Mode::Houd => 2,
-        Mode::Pair => 2,
-        Mode::Perm => 1,
-        Mode::Gperm => 1,
-        Mode::Jorg => 2,
-        Mode::Cmr => 2,
+        Mode::Houd | Mode::Pair | Mode::Jorg | Mode::Cmr => 2,
+        Mode::Perm | Mode::Gperm => 1,
     }
 }
 
@@ -55,10 +45,9 @@ fn home(form: Form, seed: usize, labels: &[u32]) -> u32
     ensures { result ≡ cond (one_cluster form) (cond (grows_by form) 1 (get_or labels.now seed 0)) 0 }
 {
     match form {
-        Form::Sw => 0,
         Form::Wolff => labels[seed],
-        Form::Observe => 0,
         Form::Grow => 1,
+        Form::Sw | Form::Observe => 0,
     }
 }
 
@@ -67,10 +56,8 @@ fn none_pinned(pins: &[u8]) -> bool
     ensures { Tells result (Each (length pins.now) (λ i. get_or pins.now i 0 ≡ 1 → ⊥)) }
 {
     let mut none = true;
-    let mut i: usize = 0;
-    while i < pins.len() {
-        none = none & (pins[i] != 1);
-        i += 1;
+    for &pin in pins {
+        none &= pin != 1;
     }
     none
 }
@@ -80,14 +67,11 @@ fn clear_held(pins: &[u8], labels: &[u32], tally: &mut [u32])
     requires { Holdable pins.now labels.now tally.old }
     ensures { Becomes (held_back pins.now labels.now tally.old) tally.old tally.new }
 {
-    let n = pins.len();
-    let mut i: usize = 0;
-    while i < n {
-        if pins[i] == 1 {
+    for (i, &pin) in pins.iter().enumerate() {
+        if pin == 1 {
             let label = wide(labels[i]);
             tally[label] = 0;
         }
-        i += 1;
     }
 }
 
@@ -107,12 +91,8 @@ fn tally_labels(labels: &[u32], tally: &mut [u32])
     ensures { Sized labels.now tally.new }
 {
     clear(tally);
-    let n = labels.len();
-    let mut i: usize = 0;
-    while i < n {
-        let label = wide(labels[i]);
-        tally[label] = tally[label] + 1;
-        i += 1;
+    for &label in labels {
+        tally[wide(label)] += 1;
     }
 }
 
@@ -131,9 +111,8 @@ fn reaches(form: Form, least: u32, size: u32, label: u32, home: u32) -> bool
 {
     match form {
         Form::Sw => least <= size,
-        Form::Wolff => (label == home) & (1 <= size),
+        Form::Wolff | Form::Grow => (label == home) & (1 <= size),
         Form::Observe => false,
-        Form::Grow => (label == home) & (1 <= size),
     }
 }
 
@@ -150,16 +129,13 @@ pub fn reach(
     requires { Marked form seed acts.now labels.now tally.now reached.old }
     ensures { Reached form mode seed acts.now labels.now tally.now reached.new }
 {
-    let n = acts.len();
     let least = least_size(mode);
     let own = home(form, seed, labels);
-    let mut i: usize = 0;
-    while i < n {
+    for i in 0..acts.len() {
         let label = labels[i];
         let size = tally[wide(label)];
         let on = (acts[i] == 1) & reaches(form, least, size, label, own);
-        reached[i] = pick(on, 1, 0);
-        i += 1;
+        reached[i] = u8::from(on);
     }
 }
 
@@ -170,9 +146,8 @@ fn flip_at(form: Form, flips: &[u8], label: usize) -> bool
 {
     match form {
         Form::Sw => flips[label] == 1,
-        Form::Wolff => true,
+        Form::Wolff | Form::Grow => true,
         Form::Observe => false,
-        Form::Grow => true,
     }
 }
 
@@ -188,14 +163,11 @@ pub fn flip_columns(
     ensures { Becomes (flipped_at form reached.now labels.now flips.now table cols.old)
         cols.old cols.new }
 {
-    let n = cols.len();
-    let mut i: usize = 0;
-    while i < n {
+    for i in 0..cols.len() {
         let old = cols[i];
         let label = wide(labels[i]);
         let flip = (reached[i] == 1) & flip_at(form, flips, label);
-        cols[i] = pick(flip, table[old as usize], old);
-        i += 1;
+        cols[i] = select_unpredictable(flip, table[usize::from(old)], old);
     }
 }
 
@@ -205,9 +177,7 @@ fn entry_of(form: Form, label: usize) -> usize
 {
     match form {
         Form::Sw => label,
-        Form::Wolff => 0,
-        Form::Observe => 0,
-        Form::Grow => 0,
+        Form::Wolff | Form::Observe | Form::Grow => 0,
     }
 }
 
@@ -224,14 +194,11 @@ pub fn grey_columns(form: Form, reached: &[u8], labels: &[u32], greys: &[u8], co
     ensures { Becomes (greyed_at form reached.now labels.now greys.now cols.old)
         cols.old cols.new }
 {
-    let n = cols.len();
-    let mut i: usize = 0;
-    while i < n {
+    for i in 0..cols.len() {
         let old = cols[i];
         let at = entry_of(form, wide(labels[i]));
         let new = grey_column(greys[at], old);
-        cols[i] = pick(reached[i] == 1, new, old);
-        i += 1;
+        cols[i] = select_unpredictable(reached[i] == 1, new, old);
     }
 }
 
@@ -249,16 +216,13 @@ pub fn permute_columns(
     ensures { Becomes (permuted_at form group.len gauge reached.now labels.now perms.now cols.old)
         cols.old cols.new }
 {
-    let n = cols.len();
     let len = group.len;
-    let mut i: usize = 0;
-    while i < n {
+    for i in 0..cols.len() {
         if reached[i] == 1 {
             let a = entry_of(form, wide(labels[i])) * len;
             let e = a + len;
             let seen = cols[i] ^ gauge;
             cols[i] = columns::permute_group_site(seen, group, &perms[a..e]) ^ gauge;
         }
-        i += 1;
     }
 }

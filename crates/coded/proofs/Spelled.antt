@@ -11,8 +11,8 @@ use lib.IntN.{ℤ}
 use Rattle.lemmas.specs.Bools.{never}
 use Rattle.paper.specs.declared.Mode.{Mode}
 use Rattle.paper.specs.declared.Form.{Form}
-use Rattle.paper.specs.declared.Answer.{Answer}
-use Rattle.paper.specs.declared.SweepAnswer.{SweepAnswer}
+use Rattle.paper.specs.Answer.Cases.{Answer}
+use Rattle.paper.specs.Answer.Cases.{SweepAnswer}
 use Rattle.paper.specs.Panel.Input.{Call, Choices, Buffers, size}
 use Rattle.paper.specs.Panel.Made.{choices_of}
 use Rattle.paper.specs.Panel.Takes.{perms_by, takes_perms}

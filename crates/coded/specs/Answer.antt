@@ -1,7 +1,6 @@
 -- What a move answers whose permutations may be numbers: what it answers by their rows.
 use Rattle.std.specs.Prelude.{ℕ, ◌≡◌, Bool, List, ℤ}
-use Rattle.paper.specs.declared.Answer.{Answer}
-use Rattle.paper.specs.declared.Answer.TheVariants.{Refused}
+use Rattle.paper.specs.Answer.Cases.{Answer, Answer.Refused}
 use Rattle.paper.specs.Panel.Input.{Call, Choices, Buffers, size}
 use Rattle.paper.specs.Refusal.Rules.{When}
 use Rattle.paper.specs.Answer.Totals.{KeepAnswers}

@@ -1,14 +1,17 @@
 -- A promise allows one answer, one content of every buffer and one of the totals.
-use Rattle.std.specs.Prelude.{ℕ, ◌≡◌, refl, Bool, true, false, List, ℤ}
+use Rattle.std.specs.Prelude.{ℕ, ◌≡◌, refl, Bool, true, false, List, ℤ, Result}
+use Rattle.paper.specs.declared.Refusal.{Refusal}
+use Rattle.paper.specs.declared.Outcome.{Outcome}
+use Rattle.paper.specs.declared.Counts.{Counts}
+use Rattle.paper.specs.Answer.Cases.{answer_of, answer_of_injective, sweep_answer_of, sweep_answer_of_injective}
 use Rattle.std.proofs.Common.{sym, ◌∙◌, ap, subst}
 use Rattle.std.proofs.Math.Decide.{ℕ_discrete}
 use Rattle.lemmas.specs.Bools.{never}
 use Rattle.lemmas.specs.Determined.{one_value}
 use Rattle.paper.specs.declared.Mode.{Mode}
 use Rattle.paper.specs.declared.Form.{Form}
-use Rattle.paper.specs.declared.Answer.{Answer}
-use Rattle.paper.specs.declared.Answer.TheVariants.{Refused}
-use Rattle.paper.specs.declared.SweepAnswer.{SweepAnswer}
+use Rattle.paper.specs.Answer.Cases.{Answer, Answer.Refused}
+use Rattle.paper.specs.Answer.Cases.{SweepAnswer}
 use Rattle.paper.specs.Panel.Input.{Call, Choices, Buffers, size}
 use Rattle.paper.specs.Answer.Task.{Sweep}
 use Rattle.laws.specs.AnswersLocal.{with_spins}
@@ -61,6 +64,22 @@ overlap_update_by_determined coded keeping w b ts y z us vs a a' f g = go (five 
       buffers = u.kept ∙ sym v.kept;
       totals = u.totals_kept ∙ sym v.totals_kept;
     }
+
+pub overlap_step_by_result_determined :
+    (coded keeping : Bool) (c : Call) (p : Choices) (b : Buffers) (ts : List ℤ) (y z : Buffers) (us vs : List ℤ) (a a' : Result Outcome Refusal)
+    → CodedAnswers coded keeping c p b ts (answer_of a) y us
+    → CodedAnswers coded keeping c p b ts (answer_of a') z vs
+    → a ≡ a'
+overlap_step_by_result_determined coded keeping c p b ts y z us vs a a' f g =
+    answer_of_injective a a' (overlap_step_by_determined coded keeping c p b ts y z us vs (answer_of a) (answer_of a') f g).answer
+
+pub overlap_update_by_result_determined :
+    (coded keeping : Bool) (w : Sweep) (b : Buffers) (ts : List ℤ) (y z : Buffers) (us vs : List ℤ) (a a' : Result Counts Refusal)
+    → SweepCodedAnswers coded keeping w b ts (sweep_answer_of a) y us
+    → SweepCodedAnswers coded keeping w b ts (sweep_answer_of a') z vs
+    → a ≡ a'
+overlap_update_by_result_determined coded keeping w b ts y z us vs a a' f g =
+    sweep_answer_of_injective a a' (overlap_update_by_determined coded keeping w b ts y z us vs (sweep_answer_of a) (sweep_answer_of a') f g).answer
 
 -- ---- the functions inside
 

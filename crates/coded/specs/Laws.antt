@@ -2,8 +2,8 @@
 use Rattle.std.specs.Prelude.{ℕ, ◌≡◌, ◌↔◌, Bool, true, false, List, ℤ}
 use Rattle.std.proofs.Common.{sym, subst}
 use Rattle.lemmas.specs.Bools.{never}
-use Rattle.paper.specs.declared.Answer.{Answer}
-use Rattle.paper.specs.declared.SweepAnswer.{SweepAnswer}
+use Rattle.paper.specs.Answer.Cases.{Answer}
+use Rattle.paper.specs.Answer.Cases.{SweepAnswer}
 use Rattle.paper.specs.Panel.Input.{Call, Choices, Buffers, size}
 use Rattle.paper.specs.Panel.Made.{choices_of}
 use Rattle.paper.specs.Answer.Task.{Sweep}

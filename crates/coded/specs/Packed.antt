@@ -1,6 +1,6 @@
 -- What a move on the bytes of a group answers whose permutations may be numbers.
 use Rattle.std.specs.Prelude.{ℕ, Bool, List, ℤ}
-use Rattle.paper.specs.declared.Answer.{Answer}
+use Rattle.paper.specs.Answer.Cases.{Answer}
 use Rattle.paper.specs.Panel.Input.{Call, Choices, Buffers, size}
 use Rattle.packed.specs.Packed.{Through}
 use Rattle.coded.specs.Answer.{CodedAnswers}

@@ -1,7 +1,6 @@
 -- The same of a sweep: a group of another size refuses it whole.
 use Rattle.std.specs.Prelude.{ℕ, ◌≡◌, Bool, List, ℤ}
-use Rattle.paper.specs.declared.SweepAnswer.{SweepAnswer}
-use Rattle.paper.specs.declared.SweepAnswer.TheVariants.{Fault}
+use Rattle.paper.specs.Answer.Cases.{SweepAnswer, SweepAnswer.Fault}
 use Rattle.paper.specs.Panel.Input.{Buffers}
 use Rattle.paper.specs.Answer.Task.{Sweep}
 use Rattle.paper.specs.Answer.Totals.{SweepKeepAnswers}

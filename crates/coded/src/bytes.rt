@@ -2,11 +2,12 @@
 ghost use Rattle.std.specs.Prelude.{◌≡◌, true};
 ghost use Rattle.paper.specs.Panel.Made.{call_of, choices_of};
 ghost use Rattle.paper.specs.Panel.Takes.{perms_by, keeps_by};
+ghost use Rattle.paper.specs.Answer.Cases.{answer_of};
 ghost use Rattle.packing.specs.Bytes.{own_task};
 ghost use Rattle.packed.specs.Packed.{lent_of};
 ghost use Rattle.coded.specs.Packed.{PackedCoded};
 
-use paper::{Answer, Task};
+use paper::{Outcome, Refusal, Task};
 
 // A function of its own, so that a call by rows does not clear the area.
 pub fn packed_by_numbers(
@@ -27,7 +28,7 @@ pub fn packed_by_numbers(
     members: &mut [u8],
     found: &mut [u32],
     grey_found: &mut [u32],
-) -> Answer
+) -> Result<Outcome, Refusal>
     requires { perms_by t.mode t.form ≡ true }
     ensures { PackedCoded true
         (keeps_by t.keeps t.form)
@@ -37,7 +38,7 @@ pub fn packed_by_numbers(
         (lent_of labels.old grey_labels.old counts.old sizes.old
         members.old found.old grey_found.old)
         totals.old
-        result
+        (answer_of result)
         columns.new
         (lent_of labels.new grey_labels.new counts.new sizes.new
         members.new found.new grey_found.new)
@@ -45,7 +46,7 @@ pub fn packed_by_numbers(
 {
     let group = t.group;
     if group.len != 5 {
-        return Answer::Refused(1);
+        return Err(Refusal::Sizes);
     }
     let mut area = [0u8; 20480];
     let len = spelling::spell_into(choices, &mut area);

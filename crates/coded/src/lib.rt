@@ -8,6 +8,7 @@ ghost use Rattle.std.specs.Prelude.{◌≡◌};
 ghost use Rattle.paper.specs.Panel.Made.{call_of, choices_of, buffers_of};
 ghost use Rattle.paper.specs.Panel.Takes.{keeps_by};
 ghost use Rattle.paper.specs.Answer.Made.{sweep_of};
+ghost use Rattle.paper.specs.Answer.Cases.{answer_of, sweep_answer_of};
 ghost use Rattle.packing.specs.Bytes.{own_task};
 ghost use Rattle.packed.specs.Packed.{lent_of};
 ghost use Rattle.coded.specs.Takes.{numbers_by};
@@ -15,7 +16,7 @@ ghost use Rattle.coded.specs.Answer.{CodedAnswers};
 ghost use Rattle.coded.specs.Packed.{PackedCoded};
 ghost use Rattle.coded.specs.Sweep.{SweepCodedAnswers};
 
-use paper::{Answer, Form, Mode, Plan, SweepAnswer, Task};
+use paper::{Counts, Form, Mode, Outcome, Plan, Refusal, Task};
 
 // How choices spell a permutation: byte by byte, or as its number.
 #[derive(Clone, Copy)]
@@ -56,7 +57,7 @@ pub fn overlap_step_by(
     members: &mut [u8],
     found: &mut [u32],
     grey_found: &mut [u32],
-) -> Answer
+) -> Result<Outcome, Refusal>
     ensures { CodedAnswers (numbers_by coding t.mode t.form)
         (keeps_by t.keeps t.form)
         (call_of t fwd.now bwd.now pins.now couplings.now cuts.now)
@@ -64,7 +65,7 @@ pub fn overlap_step_by(
         (buffers_of spins.old labels.old grey_labels.old counts.old sizes.old
         members.old found.old grey_found.old)
         totals.old
-        result
+        (answer_of result)
         (buffers_of spins.new labels.new grey_labels.new counts.new sizes.new
         members.new found.new grey_found.new)
         totals.new }
@@ -133,7 +134,7 @@ pub fn packed_step_by(
     members: &mut [u8],
     found: &mut [u32],
     grey_found: &mut [u32],
-) -> Answer
+) -> Result<Outcome, Refusal>
     ensures { PackedCoded (numbers_by coding t.mode t.form)
         (keeps_by t.keeps t.form)
         (call_of (own_task t) fwd.now bwd.now pins.now couplings.now cuts.now)
@@ -142,7 +143,7 @@ pub fn packed_step_by(
         (lent_of labels.old grey_labels.old counts.old sizes.old
         members.old found.old grey_found.old)
         totals.old
-        result
+        (answer_of result)
         columns.new
         (lent_of labels.new grey_labels.new counts.new sizes.new
         members.new found.new grey_found.new)
@@ -217,13 +218,13 @@ pub fn overlap_update_by(
     members: &mut [u8],
     found: &mut [u32],
     grey_found: &mut [u32],
-) -> SweepAnswer
+) -> Result<Counts, Refusal>
     ensures { SweepCodedAnswers (numbers_by coding plan.mode plan.form) (keeps_by plan.keeps plan.form)
         (sweep_of plan fwd.now bwd.now pins.now couplings.now order.now masks.now
         temperatures.now cuts.now references.now seeds.now
         choices.now greys.now)
         (buffers_of spins.old labels.old grey_labels.old counts.old sizes.old
-        members.old found.old grey_found.old) totals.old result
+        members.old found.old grey_found.old) totals.old (sweep_answer_of result)
         (buffers_of spins.new labels.new grey_labels.new counts.new sizes.new
         members.new found.new grey_found.new) totals.new }
 {

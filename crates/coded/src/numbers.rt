@@ -3,10 +3,11 @@ ghost use Rattle.std.specs.Prelude.{◌≡◌, true};
 ghost use Rattle.paper.specs.Panel.Made.{call_of, choices_of, buffers_of};
 ghost use Rattle.paper.specs.Panel.Takes.{perms_by, keeps_by};
 ghost use Rattle.paper.specs.Answer.Made.{sweep_of};
+ghost use Rattle.paper.specs.Answer.Cases.{answer_of, sweep_answer_of};
 ghost use Rattle.coded.specs.Answer.{CodedAnswers};
 ghost use Rattle.coded.specs.Sweep.{SweepCodedAnswers};
 
-use paper::{Answer, Plan, SweepAnswer, Task};
+use paper::{Counts, Outcome, Plan, Refusal, Task};
 
 // A function of its own, so that a call by rows does not clear the area.
 pub fn step_by_numbers(
@@ -27,7 +28,7 @@ pub fn step_by_numbers(
     members: &mut [u8],
     found: &mut [u32],
     grey_found: &mut [u32],
-) -> Answer
+) -> Result<Outcome, Refusal>
     requires { perms_by t.mode t.form ≡ true }
     ensures { CodedAnswers true
         (keeps_by t.keeps t.form)
@@ -36,14 +37,14 @@ pub fn step_by_numbers(
         (buffers_of spins.old labels.old grey_labels.old counts.old sizes.old
         members.old found.old grey_found.old)
         totals.old
-        result
+        (answer_of result)
         (buffers_of spins.new labels.new grey_labels.new counts.new sizes.new
         members.new found.new grey_found.new)
         totals.new }
 {
     let group = t.group;
     if group.len != 5 {
-        return Answer::Refused(1);
+        return Err(Refusal::Sizes);
     }
     let mut area = [0u8; 20480];
     let len = spelling::spell_into(choices, &mut area);
@@ -92,19 +93,19 @@ pub fn update_by_numbers(
     members: &mut [u8],
     found: &mut [u32],
     grey_found: &mut [u32],
-) -> SweepAnswer
+) -> Result<Counts, Refusal>
     requires { perms_by plan.mode plan.form ≡ true }
     ensures { SweepCodedAnswers true (keeps_by plan.keeps plan.form)
         (sweep_of plan fwd.now bwd.now pins.now couplings.now order.now masks.now
         temperatures.now cuts.now references.now seeds.now
         choices.now greys.now)
         (buffers_of spins.old labels.old grey_labels.old counts.old sizes.old
-        members.old found.old grey_found.old) totals.old result
+        members.old found.old grey_found.old) totals.old (sweep_answer_of result)
         (buffers_of spins.new labels.new grey_labels.new counts.new sizes.new
         members.new found.new grey_found.new) totals.new }
 {
     if plan.members != 5 {
-        return SweepAnswer::Fault(1);
+        return Err(Refusal::Sizes);
     }
     let mut area = [0u8; 245760];
     let len = spelling::spell_into(choices, &mut area);

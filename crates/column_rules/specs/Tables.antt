@@ -19,6 +19,12 @@ pub record Table (m : ℕ) (f : ℕ → ℕ) (table : List ℕ) : Type 0 where
   pub at : (x : ℕ) → x < 2 ^ m → get_or table x 0 ≡ f x
   pub beyond : (x : ℕ) → 2 ^ m ≤ x → x < 256 → get_or table x 0 ≡ 0
 
+-- the same for a relation of a column and its entry
+pub record TableBy (m : ℕ) (P : ℕ → ℕ → Type 0) (table : List ℕ) : Type 0 where
+  pub long : length table ≡ 256
+  pub at : (x : ℕ) → x < 2 ^ m → P x (get_or table x 0)
+  pub beyond : (x : ℕ) → 2 ^ m ≤ x → x < 256 → get_or table x 0 ≡ 0
+
 -- the entry of a column x of m systems: 1 where it acts; and the column that a flip makes of it
 abbrev pub acts_entry : Mode → ℕ → ℕ → ℕ
 acts_entry mode m x = bit (test_by mode m (shown x))

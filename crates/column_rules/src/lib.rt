@@ -8,7 +8,7 @@ ghost use Rattle.paper.specs.Site.Acting.{differs, pair_differs, test_by};
 ghost use Rattle.paper.specs.Move.Moving.{other};
 ghost use Rattle.lemmas.specs.Tells.{Tells};
 ghost use Rattle.columns.specs.Column.{shown, column_of};
-ghost use Rattle.column_rules.specs.Tables.{Sized, Table, acts_entry, flip_entry, Looked};
+ghost use Rattle.column_rules.specs.Tables.{Sized, Table, TableBy, acts_entry, flip_entry, Looked};
 ghost use Rattle.column_rules.specs.Laws.{SomeSite};
 ghost use Rattle.column_rules.specs.Sight.{acts_at, Lookable, Looks, Sighted, SightedAt, Seeable, Sights};
 
@@ -19,7 +19,7 @@ fn low(column: u8, len: usize) -> u8
     requires { len ≤ 8 }
     ensures { result ≡ column % 2 ^ len }
 {
-    (column as usize % (1usize << len)) as u8
+    (usize::from(column) % (1usize << len)) as u8
 }
 
 // The bits of each pair (0 1), (2 3), .. change places. 85 has every second bit.
@@ -65,10 +65,8 @@ pub fn acts_column(mode: Mode, group: Group, column: u8) -> bool
     let len = group.len;
     match mode {
         Mode::Houd => balanced(column, len),
-        Mode::Pair => any_pair_differs(column, group),
-        Mode::Perm => any_differs(column, len),
-        Mode::Gperm => any_differs(column, len),
-        Mode::Jorg => any_pair_differs(column, group),
+        Mode::Pair | Mode::Jorg => any_pair_differs(column, group),
+        Mode::Perm | Mode::Gperm => any_differs(column, len),
         Mode::Cmr => true,
     }
 }
@@ -78,11 +76,21 @@ fn acts_entry(mode: Mode, group: Group, column: u8) -> u8
     requires { Sized group }
     ensures { result ≡ acts_entry mode group.len column }
 {
-    if acts_column(mode, group, column) {
-        1
-    } else {
-        0
+    u8::from(acts_column(mode, group, column))
+}
+
+// What `entry` makes of each column of `len` systems. No other has an entry but 0.
+fn table_of<F: Fn(u8) -> u8>(len: usize, entry: F) -> [u8; 256]
+    requires len_bound { len ≤ 8 }
+    requires callable { F.IsAlwaysCallable entry }
+    ensures { TableBy len (F.post entry) result }
+{
+    let mut table = [0u8; 256];
+    let end = 1usize << len;
+    for x in 0..end {
+        table[x] = entry(x as u8);
     }
+    table
 }
 
 // Which columns act.
@@ -90,15 +98,7 @@ pub fn acts_table(mode: Mode, group: Group) -> [u8; 256]
     requires { Sized group }
     ensures { Table group.len (acts_entry mode group.len) result }
 {
-    let mut table = [0u8; 256];
-    let len = group.len;
-    let end = 1usize << len;
-    let mut x: usize = 0;
-    while x < end {
-        table[x] = acts_entry(mode, group, x as u8);
-        x += 1;
-    }
-    table
+    table_of(group.len, |column| acts_entry(mode, group, column))
 }
 
 // The first count bits of one column, and behind them those of another, up to len.
@@ -118,10 +118,8 @@ pub fn flip_group_site(column: u8, group: Group, mode: Mode) -> u8
     let len = group.len;
     match mode {
         Mode::Houd => joined(255 - column, column, 2 * (len / 2), len),
-        Mode::Pair => joined(exchanged(column), column, 2 * (len / 2), len),
-        Mode::Perm => low(column, len),
-        Mode::Gperm => low(column, len),
-        Mode::Jorg => joined(exchanged(column), column, 2 * (len / 2), len),
+        Mode::Pair | Mode::Jorg => joined(exchanged(column), column, 2 * (len / 2), len),
+        Mode::Perm | Mode::Gperm => low(column, len),
         Mode::Cmr => low(255 - column, len),
     }
 }
@@ -131,15 +129,7 @@ pub fn flip_table(mode: Mode, group: Group) -> [u8; 256]
     requires { Sized group }
     ensures { Table group.len (flip_entry mode group.len) result }
 {
-    let mut table = [0u8; 256];
-    let len = group.len;
-    let end = 1usize << len;
-    let mut x: usize = 0;
-    while x < end {
-        table[x] = flip_group_site(x as u8, group, mode);
-        x += 1;
-    }
-    table
+    table_of(group.len, |column| flip_group_site(column, group, mode))
 }
 
 // Looks each site's column up, and tells whether some site's byte is 1.
@@ -147,16 +137,12 @@ pub fn mark_active(table: [u8; 256], gauge: u8, cols: &[u8], acts: &mut [u8]) ->
     requires { length cols.now ≡ length acts.old }
     ensures { Looked table gauge cols.now acts.new result }
 {
-    let n = cols.len();
     let mut found = false;
-    let mut i: usize = 0;
-    while i < n {
-        let a = table[(cols[i] ^ gauge) as usize];
-        acts[i] = a;
-        if a == 1 {
+    for (i, act) in acts.iter_mut().enumerate() {
+        *act = table[usize::from(cols[i] ^ gauge)];
+        if *act == 1 {
             found = true;
         }
-        i += 1;
     }
     found
 }

@@ -18,13 +18,10 @@ pub fn permute_group_site(column: u8, group: Group, perm: &[u8]) -> u8
     requires { Places group.len perm.now }
     ensures { result ≡ column_of group.len (λ k. shown column (get_or perm.now k 0)) }
 {
-    let len = group.len;
     let mut out: u8 = 0;
-    let mut k: usize = 0;
-    while k < len {
+    for k in 0..group.len {
         let p = perm[k];
         out = out + (((column >> p) % 2) << k);
-        k += 1;
     }
     out
 }
@@ -40,11 +37,8 @@ fn pack_row(row: &[i8], weight: u8, cols: &mut [u8])
     requires { Adds row.now weight cols.old }
     ensures { Whole 0 (added cols.old row.now weight) cols.old cols.new }
 {
-    let n = cols.len();
-    let mut i: usize = 0;
-    while i < n {
-        cols[i] = cols[i] + weigh(row[i], weight);
-        i += 1;
+    for (i, column) in cols.iter_mut().enumerate() {
+        *column += weigh(row[i], weight);
     }
 }
 
@@ -53,12 +47,7 @@ pub fn copy(cols: &[u8], to: &mut [u8])
     requires { length cols.now ≡ length to.old }
     ensures { to.new ≡ cols.now }
 {
-    let n = to.len();
-    let mut i: usize = 0;
-    while i < n {
-        to[i] = cols[i];
-        i += 1;
-    }
+    to.copy_from_slice(cols);
 }
 
 // Reads the group's rows into columns: bit k is set where member k's spin is +1.
@@ -67,14 +56,11 @@ pub fn pack(spins: &[i8], n: usize, group: Group, cols: &mut [u8])
     ensures { Columns n group.len (pattern_of n group spins.now) cols.new }
 {
     clear(cols);
-    let len = group.len;
-    let mut k: usize = 0;
-    while k < len {
+    for k in 0..group.len {
         let s = group.systems[k];
         let a = s * n;
         let e = a + n;
         pack_row(&spins[a..e], 1u8 << k, cols);
-        k += 1;
     }
 }
 
@@ -91,12 +77,8 @@ fn write_row(row: &mut [i8], cols: &[u8], k: usize)
     requires { Fills k row.old cols.now }
     ensures { Whole (pos 0) (λ i. shown (get_or cols.now i 0) k) row.old row.new }
 {
-    let n = row.len();
-    let mut i: usize = 0;
-    while i < n {
-        let v = pick(cols[i], k);
-        row[i] = v;
-        i += 1;
+    for (i, spin) in row.iter_mut().enumerate() {
+        *spin = pick(cols[i], k);
     }
 }
 
@@ -105,14 +87,11 @@ pub fn write_rows(spins: &mut [i8], n: usize, group: Group, cols: &[u8])
     requires { Writable n group spins.old cols.now }
     ensures { Written n group.len group cols.now spins.old spins.new }
 {
-    let len = group.len;
-    let mut k: usize = 0;
-    while k < len {
+    for k in 0..group.len {
         let s = group.systems[k];
         let a = s * n;
         let e = a + n;
         write_row(&mut spins[a..e], cols, k);
-        k += 1;
     }
 }
 
@@ -159,12 +138,9 @@ pub fn write_site(spins: &mut [i8], n: usize, len: usize, systems: &[usize], i: 
     requires { SiteOut n (group_of len systems.now) spins.old i }
     ensures { SiteWritten n len (group_of len systems.now) i column spins.old spins.new }
 {
-    let mut k: usize = 0;
-    while k < len {
+    for k in 0..len {
         let s = systems[k];
-        let v = pick(column, k);
-        spins[s * n + i] = v;
-        k += 1;
+        spins[s * n + i] = pick(column, k);
     }
 }
 
@@ -173,12 +149,9 @@ fn negated(column: u8, group: Group) -> u8
     requires { group.len ≤ 8 }
     ensures { result ≡ column_of group.len (λ k. neg_ℤ (shown column k)) }
 {
-    let len = group.len;
     let mut out: u8 = 0;
-    let mut k: usize = 0;
-    while k < len {
+    for k in 0..group.len {
         out = out + ((1 - (column >> k) % 2) << k);
-        k += 1;
     }
     out
 }

@@ -1,6 +1,6 @@
 -- A move such as the call c's is one of c itself, and c's is one of every such call.
 use Rattle.std.specs.Prelude.{refl}
-use Rattle.paper.specs.declared.Answer.TheVariants.{Idle, Held, Moved}
+use Rattle.paper.specs.Answer.Cases.{Answer.Idle, Answer.Held, Answer.Moved}
 use Rattle.paper.specs.Panel.Input.{Call, Choices, Buffers}
 use Rattle.paper.specs.Answer.Same.{SameTaken}
 use Rattle.laws.specs.UntakenAnswers.{taken_back, untaken}

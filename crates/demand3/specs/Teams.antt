@@ -4,9 +4,8 @@ use Rattle.std.specs.Prelude.{ℕ, ◌<◌, ◌≡◌, refl, ◌⊎◌, ◌≢�
 use Rattle.std.proofs.Common.{sym, ◌∙◌, ap, subst, inl, inr, arith}
 use Rattle.lemmas.specs.Bools.{never}
 use Rattle.lemmas.specs.Sums.{sum, sum_ext}
-use Rattle.paper.specs.declared.Answer.{Answer}
-use Rattle.paper.specs.declared.Answer.TheVariants.{Refused, Idle, Held, Moved}
-use Rattle.paper.specs.declared.SweepAnswer.TheVariants.{Swept}
+use Rattle.paper.specs.Answer.Cases.{Answer, Answer.Refused, Answer.Idle, Answer.Held, Answer.Moved}
+use Rattle.paper.specs.Answer.Cases.{SweepAnswer.Swept}
 use Rattle.paper.specs.Panel.Input.{Call, Choices, Buffers, spin, size, system}
 use Rattle.paper.specs.Panel.Takes.{labels_by}
 use Rattle.paper.specs.Refusal.Rule.{Kept, Broken, broken_not_kept}

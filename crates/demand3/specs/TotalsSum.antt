@@ -4,8 +4,7 @@ use Rattle.std.specs.Prelude.{ℕ, ◌<◌, ◌≡◌, refl, ◌⊎◌, Bool, tr
 use Rattle.std.proofs.Common.{sym, ◌∙◌, ap, inl, inr}
 use Rattle.std.proofs.Math.IntN.{+ℤ_idr, +ℤ_invr}
 use Rattle.lemmas.specs.Sums.{sum, sum_ext, sum_add, sum_swap}
-use Rattle.paper.specs.declared.Answer.{Answer}
-use Rattle.paper.specs.declared.Answer.TheVariants.{Refused, Idle, Held, Moved}
+use Rattle.paper.specs.Answer.Cases.{Answer, Answer.Refused, Answer.Idle, Answer.Held, Answer.Moved}
 use Rattle.paper.specs.Panel.Input.{Call, Choices, Buffers, pattern, size, system, ahead, bond}
 use Rattle.paper.specs.Panel.Takes.{grows_by, labels_by}
 use Rattle.paper.specs.Site.Energy.{energy, bond_sum}

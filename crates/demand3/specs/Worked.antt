@@ -7,7 +7,7 @@ use Rattle.lemmas.specs.Bools.{never, every}
 use Rattle.lemmas.specs.Cells.{table}
 use Rattle.paper.specs.declared.Mode.TheVariants.{Pair, Perm}
 use Rattle.paper.specs.declared.Form.TheVariants.{Sw, Wolff}
-use Rattle.paper.specs.declared.Answer.TheVariants.{Held, Moved}
+use Rattle.paper.specs.Answer.Cases.{Answer.Held, Answer.Moved}
 use Rattle.paper.specs.Panel.Input.{Lattice, Call, Choices, Buffers, system}
 use Rattle.paper.specs.Site.Acting.{pair_differs, acts}
 use Rattle.paper.specs.Site.Bonds.{whole, holds}

@@ -3,6 +3,7 @@ use Rattle.std.proofs.Common.{◌≡◌, ℕ, ◌+◌, ◌<◌, ◌≤◌, List,
 use native.Mathlib.Decide.{ℕ_discrete}
 use Rattle.draws.specs.declared.Source.{Source}
 use Rattle.draws.specs.Fill.{stop, Goes, Written}
+use Rattle.draws.specs.Writing.{DrawnTo, DrawnInto}
 
 -- i draws have been made from s, which leave t
 pub record Stopped (leaves : Source → Source) (i : ℕ) (s t : Source) : Type 0 where
@@ -25,22 +26,43 @@ module _ (refusal : Source → ℕ) {leaves : Source → Source} {s : Source} wh
   pub goes_not : {i n : ℕ} {t : Source} → Stopped leaves i s t → i < n → (refusal t ≡ 0 → ⊥) → Goes refusal leaves n s → ⊥
   goes_not {i} h l e g = e (subst (λ (x : Source). refusal x ≡ 0) (sym h.is) (g i l))
 
+-- one more place of those that take what is drawn for them
+module _ {T : Type 0} {Draws : Source → T × Source → Type 0} {s : Source} {xs : List T} where
+  pub drawn_none : DrawnTo Draws 0 s xs s xs
+  unfolding stop
+  drawn_none = record { long = refl; drawn = λ value leaves h. (refl, λ j d l. absurd (omega arith)) }
+
+  pub drawn_more :
+      {i : ℕ} {u : Source} {ys : List T} (r : T × Source) → DrawnTo Draws i s xs u ys → i < length xs → Draws u r
+      → DrawnTo Draws (i + 1) s xs r.1 (set ys i r.0)
+  unfolding stop
+  drawn_more {i} {u} {ys} r was l k = record {
+    long = simp length-set was.long;
+    drawn = λ value leaves h. (
+      rw add-one ((h u r k).1 ∙ ap leaves (was.drawn value leaves h).0),
+      λ j d m. at value leaves h j d m (ℕ_discrete j i),
+    );
+  }
+    where
+      at :
+          (value : Source → T) (leaves : Source → Source) (h : (t : Source) (q : T × Source) → Draws t q → (q.0 ≡ value t) × (q.1 ≡ leaves t)) (j : ℕ) (d : T)
+          → j < i + 1 → Dec (j ≡ i) → get_or (set ys i r.0) j d ≡ value (stop leaves j s)
+      at value leaves h j d m (yes e) =
+          rw (e, get_or-set_same ys i r.0 d (omega (arith, was.long))) ((h u r k).0 ∙ ap value (was.drawn value leaves h).0)
+      at value leaves h j d m (no e) = get_or-set_other ys i j r.0 d e ∙ (was.drawn value leaves h).1 j d (omega arith)
+
+-- numbers that are drawn so
+pub written_by :
+    {Draws : Source → ℕ × Source → Type 0} {s u : Source} {xs ys : List ℕ} (value : Source → ℕ) (leaves : Source → Source)
+    → ((t : Source) (r : ℕ × Source) → Draws t r → (r.0 ≡ value t) × (r.1 ≡ leaves t)) → DrawnInto Draws s xs u ys
+    → Written (λ j. value (stop leaves j s)) (stop leaves (length xs) s) xs u ys
+written_by value leaves h w = let p = w.drawn value leaves h in record { long = w.long; each = λ j l. p.1 j 0 l; source = p.0 }
+
 -- the first i places of n are written
 pub record Filled (at : ℕ → ℕ) (i n : ℕ) (ys : List ℕ) : Type 0 where
   pub low : i ≤ n
   pub long : length ys ≡ n
   pub each : (j : ℕ) → j < i → get_or ys j 0 ≡ at j
 
-module _ {at : ℕ → ℕ} where
-  pub fill_none : (ys : List ℕ) → Filled at 0 (length ys) ys
-  fill_none ys = record { low = omega arith; long = refl; each = λ j l. absurd (omega arith) }
-
-  pub fill_more : {i n : ℕ} {ys : List ℕ} (v : ℕ) → Filled at i n ys → i < length ys → v ≡ at i → Filled at (i + 1) n (set ys i v)
-  fill_more {i} {n} {ys} v h l e = record { low = omega (arith, h.long); long = simp length-set h.long; each = λ j k. go j k (ℕ_discrete j i) }
-    where
-      go : (j : ℕ) → j < i + 1 → Dec (j ≡ i) → get_or (set ys i v) j 0 ≡ at j
-      go j k (yes q) = rw (q, get_or-set_same ys i v 0 l) e
-      go j k (no q) = get_or-set_other ys i j v 0 q ∙ h.each j (omega arith)
-
-  pub fill_done : {i : ℕ} {t u : Source} {xs ys : List ℕ} → Filled at i (length xs) ys → length ys ≤ i → u ≡ t → Written at t xs u ys
-  fill_done {i} h l e = record { long = h.long; each = λ j k. h.each j (omega (arith, h.long)); source = e }
+pub fill_none : {at : ℕ → ℕ} (ys : List ℕ) → Filled at 0 (length ys) ys
+fill_none ys = record { low = omega arith; long = refl; each = λ j l. absurd (omega arith) }

@@ -1,25 +1,10 @@
 -- Rows written one after another into a table.
-use Rattle.std.proofs.Common.{◌≡◌, ℕ, ◌+◌, ◌-◌, ◌*◌, ◌/◌, ◌%◌, ◌<◌, ◌≤◌, Bool, true, false, List, length, get_or, set, refl, ap, ◌∙◌, subst, suc-mul, div-add-mod', add-one, arith, length-set, get_or-set_other, get_or-set_same, eqb-true}
+use Rattle.std.proofs.Common.{◌≡◌, ℕ, ◌+◌, ◌-◌, ◌*◌, ◌/◌, ◌%◌, ◌<◌, ◌≤◌, Bool, true, false, List, get_or, ap, ◌∙◌, subst, suc-mul, div-add-mod', add-one, arith, eqb-true}
 use native.Mathlib.Nat.{mod_self}
-use native.Mathlib.Decide.{ℕ_discrete, dec_lt}
-use Rattle.draws.specs.Fill.{rows_fit_lem}
+use native.Mathlib.Decide.{dec_lt}
+use Rattle.draws.specs.Fill.{row_length_fits}
 use Rattle.draws.specs.Writing.{RowPut}
 use Rattle.draws.proofs.Filling.{Filled}
-
-module _ {at : ℕ} {row : List ℕ} where
-  pub put_none : (xs : List ℕ) → RowPut 0 at row xs xs
-  put_none xs = record { long = refl; before = λ j l. refl; here = λ k l. absurd (omega arith) }
-
-  pub put_more : {k : ℕ} {xs ys : List ℕ} → RowPut k at row xs ys → at + k < length ys → RowPut (k + 1) at row xs (set ys (at + k) (get_or row k 0))
-  put_more {k} {xs} {ys} h l = record {
-    long = simp length-set h.long;
-    before = λ j m. get_or-set_other ys (at + k) j (get_or row k 0) 0 (λ (e : j ≡ at + k). omega arith) ∙ h.before j m;
-    here = λ x m. go x m (ℕ_discrete x k);
-  }
-    where
-      go : (x : ℕ) → x < k + 1 → Dec (x ≡ k) → get_or (set ys (at + k) (get_or row k 0)) (at + x) 0 ≡ get_or row x 0
-      go x m (yes e) = rw (e, get_or-set_same ys (at + k) (get_or row k 0) 0 l)
-      go x m (no e) = get_or-set_other ys (at + k) (at + x) (get_or row k 0) 0 (λ (q : at + x ≡ at + k). e (omega arith)) ∙ h.here x (omega arith)
 
 pub rows_more :
     {at : ℕ → ℕ} (i : ℕ) {n m : ℕ} {row ys zs : List ℕ} → Filled at (i * n) m ys → RowPut n (i * n) row ys zs → i * n + n ≤ m
@@ -39,6 +24,6 @@ rows_more {at} i {n} {m} {row} {ys} {zs} h p l e = record { low = rw rows l; lon
 whole : (n len : ℕ) → len % n ≡ 0 → len ≡ len / n * n
 whole n len e = omega (arith, div-add-mod' len n)
 
-pub fits_whole : (single : Bool) (n len : ℕ) → rows_fit_lem single n len ≡ true → len ≡ len / n * n
+pub fits_whole : (single : Bool) (n len : ℕ) → row_length_fits single n len ≡ true → len ≡ len / n * n
 fits_whole true n len e = whole n len (ap (λ (x : ℕ). x % n) (eqb-true len n e) ∙ mod_self n)
 fits_whole false n len e = whole n len (eqb-true (len % n) 0 e)

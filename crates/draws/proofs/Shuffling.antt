@@ -1,8 +1,7 @@
 -- One turn of the loop that exchanges places, and of the one that draws permutations again.
 use Rattle.std.proofs.Common.{◌≡◌, ℕ, zero, suc, ◌+◌, ◌-◌, ◌<◌, true, false, List, ap, ◌∙◌, subst, sub-one, arith, eq-eqb, ne_eqb}
 use Rattle.draws.specs.declared.Source.{Source}
-use Rattle.draws.specs.declared.Drawn.{Drawn}
-use Rattle.draws.specs.declared.Row.{Row}
+use Rattle.draws.specs.Answer.{Drawn, Row}
 use Rattle.draws.specs.Draw.{number}
 use Rattle.draws.specs.Rows.{refused_row, swapped, shuffled, permuted, is_identity, retried}
 
@@ -35,7 +34,6 @@ module _ (lent : Source) (n : ℕ) (s : Source) (r : Row) (e : r ≡ permuted n 
   row_moved zero p h i = absurd (omega arith)
   row_moved (suc k) p h i = rw (← e, eq-eqb r.refusal 0 h, i)
 
-  pub row_again : (k : ℕ) → 0 < k → r.refusal ≡ 0 → is_identity n r.row ≡ true → retried lent (k - 1) n r.source ≡ retried lent k n s
+  pub row_again : (k j : ℕ) → k ≡ suc j → r.refusal ≡ 0 → is_identity n r.row ≡ true → retried lent j n r.source ≡ retried lent k n s
   unfolding retried
-  row_again zero p h i = absurd (omega arith)
-  row_again (suc k) p h i = rw (sub-one (suc k), ← e, eq-eqb r.refusal 0 h, i)
+  row_again k j p h i = rw (p, ← e, eq-eqb r.refusal 0 h, i)

@@ -5,15 +5,13 @@ use Rattle.lemmas.specs.Determined.{one_value}
 use Rattle.paper.specs.Refusal.Rule.{Rule, broken_unique, broken_not_kept}
 use Rattle.paper.specs.Refusal.Verdict.{Verdict, verdict_unique}
 use Rattle.draws.specs.declared.Source.{Source}
-use Rattle.draws.specs.declared.Drawn.{Drawn}
-use Rattle.draws.specs.declared.Row.{Row}
-use Rattle.draws.specs.declared.Left.{Left}
+use Rattle.draws.specs.Answer.{Drawn, Row, Left}
 use Rattle.draws.specs.Words.{source, stepped, is_blank}
 use Rattle.draws.specs.Draw.{left, number, flipped, within, new_of, word_of, coin_of, below_of}
 use Rattle.draws.specs.Rows.{refused_row, permuted, row_by, permutation_of}
 use Rattle.draws.specs.Promise.{WordDrawn, CoinDrawn, BelowDrawn, PermutationDrawn, FlipsFilled, BelowFilled, BytesFilled}
 use Rattle.draws.specs.Promise.{PermutationsFilled, WolffFilled, GreysFilled, NumbersFilled, WolffNumbersFilled}
-use Rattle.draws.specs.Fill.{Written, Fills, FillsBy, FillsRows, number_at, entry_at, stop, go_on, go_down, from_one_lem, word_rules, number_rules, row_rules}
+use Rattle.draws.specs.Fill.{Written, Fills, FillsBy, FillsRows, number_at, entry_at, stop, go_on, go_down, number_from_one, word_rules, number_rules, row_rules}
 
 pub new_determined : (a b c d : ℕ) (x y : Left) → x ≡ new_of (source a b c d) → y ≡ new_of (source a b c d) → x ≡ y
 new_determined a b c d x y = one_value
@@ -137,13 +135,13 @@ module _ (s : Source) (xs : List ℕ) (x y : Left) (ys zs : List ℕ) where
   fill_bytes_below_determined m = by_draws (number m) (number_rules true 256 m (length xs) s)
 
   pub wolff_greys_determined : GreysFilled s xs x ys → GreysFilled s xs y zs → Same x y ys zs
-  wolff_greys_determined = by_draws (from_one_lem 3) (number_rules true 3 3 (length xs) s)
+  wolff_greys_determined = by_draws (number_from_one 3) (number_rules true 3 3 (length xs) s)
 
   pub fill_numbers_determined : NumbersFilled s xs x ys → NumbersFilled s xs y zs → Same x y ys zs
   fill_numbers_determined = fill_bytes_below_determined 120
 
   pub wolff_numbers_determined : WolffNumbersFilled s xs x ys → WolffNumbersFilled s xs y zs → Same x y ys zs
-  wolff_numbers_determined = by_draws (from_one_lem 119) (number_rules true 119 119 (length xs) s)
+  wolff_numbers_determined = by_draws (number_from_one 119) (number_rules true 119 119 (length xs) s)
 
   pub one_permutation_determined : (m : ℕ) → PermutationDrawn m s xs x ys → PermutationDrawn m s xs y zs → Same x y ys zs
   one_permutation_determined m = by_rows false m (row_rules true false m (length xs) s)

@@ -1,8 +1,7 @@
 -- What is drawn from a source: a word, a coin, a number below m. A draw answers with 0, the value and the source after its words, or it is refused with 12.
 use Rattle.std.specs.Prelude.{◌≡◌, ℕ, zero, suc, ◌*◌, ◌/◌, ◌%◌, ◌^◌, ◌≤◌, Bool, true, cond, ◌&&◌, nat_le, nat_lt}
 use Rattle.draws.specs.declared.Source.{Source}
-use Rattle.draws.specs.declared.Drawn.{Drawn}
-use Rattle.draws.specs.declared.Left.{Left}
+use Rattle.draws.specs.Answer.{Drawn, Left}
 use Rattle.draws.specs.Words.{word, next, is_blank, drawn, stepped}
 
 abbrev pub left : ℕ → Source → Left

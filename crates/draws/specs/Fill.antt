@@ -2,8 +2,7 @@
 use Rattle.std.specs.Prelude.{◌≡◌, ℕ, zero, suc, ◌+◌, ◌/◌, ◌%◌, ◌<◌, Bool, true, cond, List, [], ◌∷◌, length, ◌==◌, slice_index}
 use Rattle.paper.specs.Refusal.Rule.{Rule, rule, Kept, Broken}
 use Rattle.draws.specs.declared.Source.{Source}
-use Rattle.draws.specs.declared.Drawn.{Drawn}
-use Rattle.draws.specs.declared.Left.{Left}
+use Rattle.draws.specs.Answer.{Drawn, Left}
 use Rattle.draws.specs.Words.{Live, drawn}
 use Rattle.draws.specs.Draw.{number, Within}
 use Rattle.draws.specs.Rows.{row_by}
@@ -74,13 +73,13 @@ abbrev pub number_rules : Bool → ℕ → ℕ → ℕ → Source → List Rule
 number_rules fits most m len s = rule 12 (Live s) ∷ rule 12 (Within 1 most m) ∷ rule 2 (fits ≡ true) ∷ rule 12 (NumbersGo (number m) len s) ∷ []
 
 -- one row, or any number of whole rows
-abbrev pub rows_fit_lem : Bool → ℕ → ℕ → Bool
-rows_fit_lem single n len = cond single (len == n) (len % n == 0)
+abbrev pub row_length_fits : Bool → ℕ → ℕ → Bool
+row_length_fits single n len = cond single (len == n) (len % n == 0)
 
 abbrev pub row_rules : Bool → Bool → ℕ → ℕ → Source → List Rule
 row_rules single moving n len s =
-    rule 12 (Live s) ∷ rule 12 (Within 2 8 n) ∷ rule 2 (rows_fit_lem single n len ≡ true) ∷ rule 12 (RowsGo moving n (len / n) s) ∷ []
+    rule 12 (Live s) ∷ rule 12 (Within 2 8 n) ∷ rule 2 (row_length_fits single n len ≡ true) ∷ rule 12 (RowsGo moving n (len / n) s) ∷ []
 
 -- 1 plus a number below m
-abbrev pub from_one_lem : ℕ → Source → Drawn
-from_one_lem m s = drawn (number m s).refusal ((number m s).value + 1) (number m s).source
+abbrev pub number_from_one : ℕ → Source → Drawn
+number_from_one m s = drawn (number m s).refusal ((number m s).value + 1) (number m s).source

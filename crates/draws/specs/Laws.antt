@@ -7,12 +7,11 @@ use Rattle.std.specs.Int.Bits.{xor_zero_r, xor_add_and, or_add_and}
 use Rattle.std.proofs.lemmas.Nat.{and_le_l, and_le_r}
 use Rattle.paper.specs.Refusal.Rule.{Rule}
 use Rattle.draws.specs.declared.Source.{Source}
-use Rattle.draws.specs.declared.Row.{Row}
-use Rattle.draws.specs.declared.Left.{Left}
+use Rattle.draws.specs.Answer.{Row, Left}
 use Rattle.draws.specs.Words.{source, rotl, word, next, after, is_blank, Live, drawn}
 use Rattle.draws.specs.Draw.{flipped, number, high, limit, tried, refused}
 use Rattle.draws.specs.Rows.{first_row, swapped, shuffled, permuted, is_identity, retried, row_by, refused_row}
-use Rattle.draws.specs.Fill.{stop, go_on, go_down, from_one_lem, Fills, entry_at, number_at, number_rules, row_rules}
+use Rattle.draws.specs.Fill.{stop, go_on, go_down, number_from_one, Fills, entry_at, number_at, number_rules, row_rules}
 use Rattle.draws.specs.Promise.{PermutationsFilled, WolffFilled, GreysFilled, NumbersFilled, WolffNumbersFilled}
 
 -- ---- a live source stays live
@@ -243,13 +242,13 @@ module _ (s : Source) (xs : List ℕ) (l : Left) (ys : List ℕ) where
   wolff_permutations_words n = fills_words (row_rules false true n (length xs) s) (entry_at true n s) (rows_words true n (length xs / n) s)
 
   pub wolff_greys_words : GreysFilled s xs l ys → Words s l.source
-  wolff_greys_words = fills_words (number_rules true 3 3 (length xs) s) (number_at (from_one_lem 3) s) (numbers_words 3 (length xs) s)
+  wolff_greys_words = fills_words (number_rules true 3 3 (length xs) s) (number_at (number_from_one 3) s) (numbers_words 3 (length xs) s)
 
   pub fill_numbers_words : NumbersFilled s xs l ys → Words s l.source
   fill_numbers_words = fills_words (number_rules true 256 120 (length xs) s) (number_at (number 120) s) (numbers_words 120 (length xs) s)
 
   pub wolff_numbers_words : WolffNumbersFilled s xs l ys → Words s l.source
-  wolff_numbers_words = fills_words (number_rules true 119 119 (length xs) s) (number_at (from_one_lem 119) s) (numbers_words 119 (length xs) s)
+  wolff_numbers_words = fills_words (number_rules true 119 119 (length xs) s) (number_at (number_from_one 119) s) (numbers_words 119 (length xs) s)
 
 -- from the words 1, 2, 3, 4
 pub first_words : (word (source 1 2 3 4) ≡ 11520) × (word (next (source 1 2 3 4)) ≡ 0)

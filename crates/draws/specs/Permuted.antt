@@ -7,11 +7,10 @@ use Rattle.std.proofs.Math.Arith.{digits_div, digits_mod}
 use Rattle.paper.specs.Refusal.Rule.{Rule}
 use Rattle.paper.specs.Refusal.Rules.{Permutes, NotIdentity}
 use Rattle.draws.specs.declared.Source.{Source}
-use Rattle.draws.specs.declared.Row.{Row}
-use Rattle.draws.specs.declared.Left.{Left}
+use Rattle.draws.specs.Answer.{Row, Left}
 use Rattle.draws.specs.Draw.{number}
 use Rattle.draws.specs.Rows.{first_row, swapped, shuffled, permuted, is_identity, retried, row_by, refused_row, Members}
-use Rattle.draws.specs.Fill.{stop, go_on, go_down, RowsGo, entry_at, number_at, from_one_lem, number_rules, Written, Fills}
+use Rattle.draws.specs.Fill.{stop, go_on, go_down, RowsGo, entry_at, number_at, number_from_one, number_rules, Written, Fills}
 use Rattle.draws.specs.Promise.{NumbersFilled, WolffNumbersFilled}
 use Rattle.draws.specs.Numbers.{tried_below}
 
@@ -217,9 +216,9 @@ module _ (s : Source) (xs : List ℕ) (l : Left) (ys : List ℕ) (e : l.refusal 
   filled_wolff_numbers f j h = record { small = omega (arith, is, tried_below from 64 119 from (omega arith)); moves = λ _ z. omega (arith, is) }
     where
       from : Source
-      from = stop (go_on (from_one_lem 119)) j s
+      from = stop (go_on (number_from_one 119)) j s
 
       is : slice_index_or ys j 0 ≡ (number 119 from).value + 1
       is =
-          let w = written (number_rules true 119 119 (length xs) s) (number_at (from_one_lem 119) s) (stop (go_on (from_one_lem 119)) (length xs) s) s xs l.refusal f e in
+          let w = written (number_rules true 119 119 (length xs) s) (number_at (number_from_one 119) s) (stop (go_on (number_from_one 119)) (length xs) s) s xs l.refusal f e in
           w.each j (omega (arith, w.long))

@@ -1,10 +1,10 @@
 -- What each function that fills a lent buffer promises of the source s, the buffer xs, the answer l and the buffer's content ys after it.
 use Rattle.std.specs.Prelude.{ℕ, true, false, List, length, ◌==◌}
 use Rattle.draws.specs.declared.Source.{Source}
-use Rattle.draws.specs.declared.Left.{Left}
+use Rattle.draws.specs.Answer.{Left}
 use Rattle.draws.specs.Words.{stepped}
 use Rattle.draws.specs.Draw.{flipped, number}
-use Rattle.draws.specs.Fill.{FillsBy, FillsRows, from_one_lem, word_rules, number_rules, row_rules}
+use Rattle.draws.specs.Fill.{FillsBy, FillsRows, number_from_one, word_rules, number_rules, row_rules}
 
 -- one draw, into a buffer of one; a permutation of n into a buffer of n
 abbrev pub WordDrawn : Source → List ℕ → Left → List ℕ → Type 0
@@ -38,11 +38,11 @@ abbrev pub WolffFilled : ℕ → Source → List ℕ → Left → List ℕ → T
 WolffFilled n s xs l ys = FillsRows true n (row_rules false true n (length xs) s) s xs l ys
 
 abbrev pub GreysFilled : Source → List ℕ → Left → List ℕ → Type 0
-GreysFilled s xs l ys = FillsBy (from_one_lem 3) (number_rules true 3 3 (length xs) s) s xs l ys
+GreysFilled s xs l ys = FillsBy (number_from_one 3) (number_rules true 3 3 (length xs) s) s xs l ys
 
 -- permutations of five as numbers: any, and Wolff's of 1 to 119, since 0 is the identity
 abbrev pub NumbersFilled : Source → List ℕ → Left → List ℕ → Type 0
 NumbersFilled s xs l ys = BytesFilled 120 s xs l ys
 
 abbrev pub WolffNumbersFilled : Source → List ℕ → Left → List ℕ → Type 0
-WolffNumbersFilled s xs l ys = FillsBy (from_one_lem 119) (number_rules true 119 119 (length xs) s) s xs l ys
+WolffNumbersFilled s xs l ys = FillsBy (number_from_one 119) (number_rules true 119 119 (length xs) s) s xs l ys

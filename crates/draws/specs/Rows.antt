@@ -1,7 +1,7 @@
 -- A permutation drawn: from 0 to N-1, the places from the last down to place 1 are each exchanged with a place drawn from 0 up to it.
 use Rattle.std.specs.Prelude.{ℕ, zero, suc, ◌+◌, ◌-◌, ◌≤◌, Bool, true, cond, ◌&&◌, List, [], ◌∷◌, ◌==◌, nat_lt, slice_index, slice_set}
 use Rattle.draws.specs.declared.Source.{Source}
-use Rattle.draws.specs.declared.Row.{Row}
+use Rattle.draws.specs.Answer.{Row}
 use Rattle.draws.specs.Words.{is_blank}
 use Rattle.draws.specs.Draw.{number, within}
 

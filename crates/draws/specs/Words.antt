@@ -1,7 +1,7 @@
 -- xoshiro256** as Blackman and Vigna give it, over numbers below 2^64. `x << k` is x * 2^k with what passes 64 bits cut off, `x >> k` is x / 2^k.
 use Rattle.std.specs.Prelude.{◌≡◌, ℕ, zero, suc, ◌-◌, ◌*◌, ◌/◌, ◌%◌, ◌^◌, Bool, false, ◌&&◌, ◌==◌, bit_or, bit_xor}
 use Rattle.draws.specs.declared.Source.{Source}
-use Rattle.draws.specs.declared.Drawn.{Drawn}
+use Rattle.draws.specs.Answer.{Drawn}
 
 abbrev pub source : ℕ → ℕ → ℕ → ℕ → Source
 source a b c d = record { s0 = a; s1 = b; s2 = c; s3 = d }

@@ -7,8 +7,11 @@ mod rows;
 
 ghost use Rattle.std.specs.Prelude.{◌≡◌, ◌*◌, ◌%◌, ◌^◌, ◌≤◌};
 ghost use Rattle.draws.specs.Words.{source, rotl, stepped, is_blank};
-ghost use Rattle.draws.specs.Draw.{limit, flipped, tried, within, refused, Topped, new_of, word_of, coin_of, below_of};
+ghost use Rattle.draws.specs.Draw.{limit, flipped, tried, within, Topped, new_of, word_of, coin_of, below_of};
 ghost use Rattle.draws.specs.Rows.{permutation_of};
+ghost use Rattle.draws.specs.Answer.{drawn_of, left_of, row_of};
+
+use paper::Refusal;
 
 // The four words of the state; not all of them may be 0.
 #[derive(Clone, Copy)]
@@ -19,10 +22,9 @@ pub struct Source {
     pub s3: u64,
 }
 
-// A refusal, or 0 with the value and the source that it leaves. Refused, the value is 0 and the source as lent.
+// What is drawn, and the source that it leaves. A refusal is told alone: it leaves the source as lent.
 #[derive(Clone, Copy)]
 pub struct Drawn {
-    pub refusal: u8,
     pub value: u64,
     pub source: Source,
 }
@@ -30,49 +32,17 @@ pub struct Drawn {
 // The same of a permutation; entries past its length are 0.
 #[derive(Clone, Copy)]
 pub struct Row {
-    pub refusal: u8,
     pub row: [u8; 8],
-    pub source: Source,
-}
-
-// The same where the value goes into a lent buffer.
-#[derive(Clone, Copy)]
-pub struct Left {
-    pub refusal: u8,
     pub source: Source,
 }
 
 // ---- a word
 
-fn by_five(x: u64) -> u64
-    ensures { result ≡ x * 5 % 2 ^ 64 }
-{
-    std::num::wrapping_add_u64(x << 2, x)
-}
-
-fn by_nine(x: u64) -> u64
-    ensures { result ≡ x * 9 % 2 ^ 64 }
-{
-    std::num::wrapping_add_u64(x << 3, x)
-}
-
-fn turned_7(x: u64) -> u64
-    ensures { result ≡ rotl x 7 }
-{
-    (x << 7) | (x >> 57)
-}
-
-fn turned_45(x: u64) -> u64
-    ensures { result ≡ rotl x 45 }
-{
-    (x << 45) | (x >> 19)
-}
-
 // The next word, of a source that is known to be no blank one.
 fn step(s: Source) -> Drawn
-    ensures { result ≡ stepped s }
+    ensures { drawn_of s (Ok result) ≡ stepped s }
 {
-    let value = by_nine(turned_7(by_five(s.s1)));
+    let value = s.s1.wrapping_mul(5).rotate_left(7).wrapping_mul(9);
     let t = s.s1 << 17;
     let a = s.s2 ^ s.s0;
     let b = s.s3 ^ s.s1;
@@ -80,24 +50,18 @@ fn step(s: Source) -> Drawn
         s0: s.s0 ^ b,
         s1: s.s1 ^ a,
         s2: a ^ t,
-        s3: turned_45(b),
+        s3: b.rotate_left(45),
     };
-    Drawn {
-        refusal: 0,
-        value,
-        source,
-    }
+    Drawn { value, source }
 }
 
 fn coin_step(s: Source) -> Drawn
-    ensures { result ≡ flipped s }
+    ensures { drawn_of s (Ok result) ≡ flipped s }
 {
     let d = step(s);
-    let source = d.source;
     Drawn {
-        refusal: 0,
         value: d.value >> 63,
-        source,
+        source: d.source,
     }
 }
 
@@ -111,65 +75,43 @@ fn limit_of(m: u64) -> u64
 }
 
 // The budget is how many words in a row may be tried. Drawing many numbers, `top` is worked out once.
-fn number(budget: usize, m: u64, top: u64, s: Source) -> Drawn
+fn number(budget: usize, m: u64, top: u64, s: Source) -> Result<Drawn, Refusal>
     requires { Topped m top }
-    ensures { result ≡ tried s budget m s }
+    ensures { drawn_of s result ≡ tried s budget m s }
 {
     let mut source = s;
-    let mut left = budget;
-    while 0 < left {
+    for _ in 0..budget {
         let d = step(source);
         let high = d.value >> 32;
         let rest = high % m;
         source = d.source;
         if high < top {
-            return Drawn {
-                refusal: 0,
+            return Ok(Drawn {
                 value: rest,
                 source,
-            };
+            });
         }
-        left -= 1;
     }
-    refuse(s)
+    Err(Refusal::Draws)
 }
 
 fn number_ok(top: u32, m: u32) -> bool
     ensures { result ≡ within 1 top m }
 {
-    (1 <= m) & (m <= top)
-}
-
-fn wide(m: u32) -> u64
-    ensures { result ≡ m }
-{
-    m as u64
-}
-
-fn refuse(s: Source) -> Drawn
-    ensures { result ≡ refused s }
-{
-    Drawn {
-        refusal: 12,
-        value: 0,
-        source: s,
-    }
+    (1..=top).contains(&m)
 }
 
 // ---- for any caller
 
 impl Source {
-    pub fn new(s0: u64, s1: u64, s2: u64, s3: u64) -> Left
-        ensures { result ≡ new_of (source s0 s1 s2 s3) }
+    pub fn new(s0: u64, s1: u64, s2: u64, s3: u64) -> Result<Source, Refusal>
+        ensures { left_of (source s0 s1 s2 s3) result ≡ new_of (source s0 s1 s2 s3) }
     {
         let source = Source { s0, s1, s2, s3 };
         if source.is_blank() {
-            return Left {
-                refusal: 12,
-                source,
-            };
+            return Err(Refusal::Draws);
         }
-        Left { refusal: 0, source }
+        Ok(source)
     }
 
     pub fn is_blank(self) -> bool
@@ -179,55 +121,55 @@ impl Source {
     }
 
     // The next word.
-    pub fn next(self) -> Drawn
-        ensures { result ≡ word_of self }
+    pub fn next(self) -> Result<Drawn, Refusal>
+        ensures { drawn_of self result ≡ word_of self }
     {
         if self.is_blank() {
-            return refuse(self);
+            return Err(Refusal::Draws);
         }
-        step(self)
+        Ok(step(self))
     }
 
     // The top bit of a word.
-    pub fn coin(self) -> Drawn
-        ensures { result ≡ coin_of self }
+    pub fn coin(self) -> Result<Drawn, Refusal>
+        ensures { drawn_of self result ≡ coin_of self }
     {
         if self.is_blank() {
-            return refuse(self);
+            return Err(Refusal::Draws);
         }
-        coin_step(self)
+        Ok(coin_step(self))
     }
 
     // A number below m, of 1 to 4,096. The 64th word in a row that is taken again refuses.
-    pub fn below(self, m: u32) -> Drawn
-        ensures { result ≡ below_of 64 m self }
+    pub fn below(self, m: u32) -> Result<Drawn, Refusal>
+        ensures { drawn_of self result ≡ below_of 64 m self }
     {
         self.below_within(64, m)
     }
 
     // The same with another budget than 64 words, so that the refusal can be met.
-    pub fn below_within(self, budget: usize, m: u32) -> Drawn
-        ensures { result ≡ below_of budget m self }
+    pub fn below_within(self, budget: usize, m: u32) -> Result<Drawn, Refusal>
+        ensures { drawn_of self result ≡ below_of budget m self }
     {
         if self.is_blank() {
-            return refuse(self);
+            return Err(Refusal::Draws);
         }
         if !number_ok(4096, m) {
-            return refuse(self);
+            return Err(Refusal::Draws);
         }
-        let n = wide(m);
+        let n = u64::from(m);
         number(budget, n, limit_of(n), self)
     }
 
     // A permutation of 2 to 8 members.
-    pub fn permutation(self, members: usize) -> Row
-        ensures { result ≡ permutation_of members self }
+    pub fn permutation(self, members: usize) -> Result<Row, Refusal>
+        ensures { row_of self result ≡ permutation_of members self }
     {
         if self.is_blank() {
-            return rows::refused_row(self);
+            return Err(Refusal::Draws);
         }
         if !rows::members_ok(members) {
-            return rows::refused_row(self);
+            return Err(Refusal::Draws);
         }
         rows::shuffle(members, self)
     }

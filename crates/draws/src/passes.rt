@@ -1,87 +1,76 @@
 // The two passes of a fill: one that only draws, to find what is refused, and one that writes.
-ghost use Rattle.std.specs.Prelude.{◌≡◌, ◌+◌, length};
-ghost use Rattle.lemmas.specs.Tells.{Tells};
+ghost use Rattle.std.specs.Prelude.{◌≡◌, ◌+◌, [], ◌∷◌, length};
+ghost use Rattle.paper.specs.Refusal.Rule.{rule};
 ghost use Rattle.paper.specs.Refusal.Verdict.{Verdict};
-ghost use Rattle.draws.specs.Draw.{number, flipped, Topped};
-ghost use Rattle.draws.specs.Rows.{Members};
-ghost use Rattle.draws.specs.Fill.{stop, go_on, NumbersGo, number_at, go_down, RowsGo, entry_at, Written};
-ghost use Rattle.draws.specs.Fill.{word_rules, number_rules, rows_fit_lem, row_rules};
-ghost use Rattle.draws.specs.Writing.{Numbering, Rowing, RowAt, RowPut};
+ghost use Rattle.paper.specs.Refusal.Numbers.{verdict_of};
+ghost use Rattle.draws.specs.Draw.{number, Topped};
+ghost use Rattle.draws.specs.Rows.{Members, row_by};
+ghost use Rattle.draws.specs.Fill.{stop, NumbersGo, go_down, RowsGo, entry_at, Written};
+ghost use Rattle.draws.specs.Fill.{word_rules, number_rules, row_length_fits, row_rules};
+ghost use Rattle.draws.specs.Answer.{taken, taken_row};
+ghost use Rattle.draws.specs.Writing.{DrawnInto, Rowing, RowAt, RowPut};
 
 use super::rows::{members_ok, row_by};
-use super::{Drawn, Row, Source, coin_step, limit_of, number, number_ok, wide};
+use super::{Drawn, Row, Source, limit_of, number, number_ok};
+use paper::Refusal;
 
 // ---- tests
 
-pub fn word_verdict(fits: bool, s: Source) -> u8
-    ensures { Verdict (word_rules fits s) result }
+pub fn word_verdict(fits: bool, s: Source) -> Result<(), Refusal>
+    ensures { Verdict (word_rules fits s) (verdict_of result) }
 {
     if s.is_blank() {
-        return 12;
+        return Err(Refusal::Draws);
     }
     if !fits {
-        return 2;
+        return Err(Refusal::Lengths);
     }
-    0
+    Ok(())
 }
 
-fn numbers_go(count: usize, m: u64, top: u64, s: Source) -> bool
+fn numbers_go(count: usize, m: u64, top: u64, s: Source) -> Result<(), Refusal>
     requires { Topped m top }
-    ensures { Tells result (NumbersGo (number m) count s) }
+    ensures { Verdict (rule 12 (NumbersGo (number m) count s) ∷ []) (verdict_of result) }
 {
     let mut source = s;
-    let mut i = 0;
-    while i < count {
-        let d = number(64, m, top, source);
-        if d.refusal != 0 {
-            return false;
-        }
+    for _ in 0..count {
+        let d = number(64, m, top, source)?;
         source = d.source;
-        i += 1;
     }
-    true
+    Ok(())
 }
 
-pub fn number_verdict(fits: bool, most: u32, m: u32, count: usize, s: Source) -> u8
-    ensures { Verdict (number_rules fits most m count s) result }
+pub fn number_verdict(fits: bool, most: u32, m: u32, count: usize, s: Source) -> Result<(), Refusal>
+    ensures { Verdict (number_rules fits most m count s) (verdict_of result) }
 {
     if s.is_blank() {
-        return 12;
+        return Err(Refusal::Draws);
     }
     if !number_ok(most, m) {
-        return 12;
+        return Err(Refusal::Draws);
     }
     if !fits {
-        return 2;
+        return Err(Refusal::Lengths);
     }
-    let n = wide(m);
-    let top = limit_of(n);
-    if !numbers_go(count, n, top, s) {
-        return 12;
-    }
-    0
+    let n = u64::from(m);
+    numbers_go(count, n, limit_of(n), s)
 }
 
-fn rows_go(moving: bool, members: usize, count: usize, s: Source) -> bool
+fn rows_go(moving: bool, members: usize, count: usize, s: Source) -> Result<(), Refusal>
     requires { Members members }
-    ensures { Tells result (RowsGo moving members count s) }
+    ensures { Verdict (rule 12 (RowsGo moving members count s) ∷ []) (verdict_of result) }
 {
     let mut source = s;
-    let mut i = 0;
-    while i < count {
-        let r = row_by(moving, members, source);
-        if r.refusal != 0 {
-            return false;
-        }
+    for _ in 0..count {
+        let r = row_by(moving, members, source)?;
         source = r.source;
-        i += 1;
     }
-    true
+    Ok(())
 }
 
 fn rows_fit(single: bool, members: usize, len: usize) -> bool
     requires { Members members }
-    ensures { result ≡ rows_fit_lem single members len }
+    ensures { result ≡ row_length_fits single members len }
 {
     if single {
         return len == members;
@@ -89,83 +78,60 @@ fn rows_fit(single: bool, members: usize, len: usize) -> bool
     len % members == 0
 }
 
-pub fn row_verdict(single: bool, moving: bool, members: usize, len: usize, s: Source) -> u8
-    ensures { Verdict (row_rules single moving members len s) result }
+pub fn row_verdict(
+    single: bool,
+    moving: bool,
+    members: usize,
+    len: usize,
+    s: Source,
+) -> Result<(), Refusal>
+    ensures { Verdict (row_rules single moving members len s) (verdict_of result) }
 {
     if s.is_blank() {
-        return 12;
+        return Err(Refusal::Draws);
     }
     if !members_ok(members) {
-        return 12;
+        return Err(Refusal::Draws);
     }
     if !rows_fit(single, members, len) {
-        return 2;
+        return Err(Refusal::Lengths);
     }
-    let count = len / members;
-    if !rows_go(moving, members, count, s) {
-        return 12;
-    }
-    0
+    rows_go(moving, members, len / members, s)
 }
 
 // ---- writing
 
-pub fn write_flips(s: Source, flips: &mut [u8]) -> Source
-    ensures { Written
-        (number_at flipped s)
-        (stop (go_on flipped) (length flips.old) s)
-        flips.old
-        result
-        flips.new }
+// The second pass draws what the first has drawn: none is refused.
+pub fn drawn_number(m: u64, top: u64, s: Source) -> Drawn
+    requires { Topped m top }
+    ensures { result ≡ taken (number m s) }
 {
-    let mut source = s;
-    let mut i = 0;
-    while i < flips.len() {
-        let d = coin_step(source);
-        flips[i] = d.value as u8;
-        source = d.source;
-        i += 1;
-    }
-    source
+    number(64, m, top, s).unwrap_or(Drawn {
+        value: 0,
+        source: s,
+    })
 }
 
-pub fn write_numbers(m: u64, top: u64, s: Source, numbers: &mut [u32]) -> Source
-    requires { Numbering 0 4095 m top }
-    ensures { Written
-        (number_at (number m) s)
-        (stop (go_on (number m)) (length numbers.old) s)
-        numbers.old
-        result
-        numbers.new }
+fn drawn_row(moving: bool, members: usize, s: Source) -> Row
+    requires { Members members }
+    ensures { result ≡ taken_row (row_by moving members s) }
 {
-    let mut source = s;
-    let mut i = 0;
-    while i < numbers.len() {
-        let d = number(64, m, top, source);
-        numbers[i] = d.value as u32;
-        source = d.source;
-        i += 1;
-    }
-    source
+    row_by(moving, members, s).unwrap_or(Row {
+        row: [0; 8],
+        source: s,
+    })
 }
 
-// `plus` is added to each number.
-pub fn write_bytes(plus: u64, m: u64, top: u64, s: Source, bytes: &mut [u8]) -> Source
-    requires { Numbering plus 255 m top }
-    ensures { Written
-        (λ j. number_at (number m) s j + plus)
-        (stop (go_on (number m)) (length bytes.old) s)
-        bytes.old
-        result
-        bytes.new }
+// Each place takes what is drawn for it.
+pub fn write<T: Copy, F: Fn(Source) -> (T, Source)>(draw: F, s: Source, places: &mut [T]) -> Source
+    requires { F.IsAlwaysCallable draw }
+    ensures { DrawnInto (F.post draw) s places.old result places.new }
 {
     let mut source = s;
-    let mut i = 0;
-    while i < bytes.len() {
-        let d = number(64, m, top, source);
-        bytes[i] = (d.value + plus) as u8;
-        source = d.source;
-        i += 1;
+    for place in places.iter_mut() {
+        let (value, next) = draw(source);
+        *place = value;
+        source = next;
     }
     source
 }
@@ -174,11 +140,7 @@ fn put_row(members: usize, at: usize, row: [u8; 8], rows: &mut [u8])
     requires { RowAt members at rows.old }
     ensures { RowPut members at row rows.old rows.new }
 {
-    let mut k = 0;
-    while k < members {
-        rows[at + k] = row[k];
-        k += 1;
-    }
+    rows[at..at + members].copy_from_slice(&row[..members]);
 }
 
 pub fn write_rows(moving: bool, members: usize, count: usize, s: Source, rows: &mut [u8]) -> Source
@@ -191,13 +153,10 @@ pub fn write_rows(moving: bool, members: usize, count: usize, s: Source, rows: &
         rows.new }
 {
     let mut source = s;
-    let mut i = 0;
-    while i < count {
-        let r = row_by(moving, members, source);
-        let row = r.row;
-        put_row(members, i * members, row, rows);
+    for i in 0..count {
+        let r = drawn_row(moving, members, source);
+        put_row(members, i * members, r.row, rows);
         source = r.source;
-        i += 1;
     }
     source
 }

@@ -1,24 +1,16 @@
 // Permutations of 2 to 8 members, in rows of eight.
 ghost use Rattle.std.specs.Prelude.{◌≡◌};
 ghost use Rattle.draws.specs.Draw.{within, limit};
-ghost use Rattle.draws.specs.Rows.{refused_row, placed, first_row, permuted, is_identity, retried, row_by, Members};
+ghost use Rattle.draws.specs.Rows.{placed, first_row, permuted, is_identity, retried, row_by, Members};
+ghost use Rattle.draws.specs.Answer.{row_of};
 
-use super::{Drawn, Row, Source, number};
+use super::{Row, Source, number};
+use paper::Refusal;
 
 pub fn members_ok(members: usize) -> bool
     ensures { result ≡ within 2 8 members }
 {
-    (2 <= members) & (members <= 8)
-}
-
-pub fn refused_row(s: Source) -> Row
-    ensures { result ≡ refused_row s }
-{
-    Row {
-        refusal: 12,
-        row: [0, 0, 0, 0, 0, 0, 0, 0],
-        source: s,
-    }
+    (2..=8).contains(&members)
 }
 
 fn place(members: usize, k: u8) -> u8
@@ -55,31 +47,19 @@ fn small_limit(m: u64) -> u64
 }
 
 // From the last place down to place 1, each is exchanged with one drawn from 0 up to it.
-pub fn shuffle(members: usize, s: Source) -> Row
+pub fn shuffle(members: usize, s: Source) -> Result<Row, Refusal>
     requires { Members members }
-    ensures { result ≡ permuted members s }
+    ensures { row_of s result ≡ permuted members s }
 {
     let mut row = first_row(members);
     let mut source = s;
-    let mut i = members - 1;
-    while 0 < i {
+    for i in (1..members).rev() {
         let m = (i + 1) as u64;
-        let d = number(64, m, small_limit(m), source);
-        if d.refusal != 0 {
-            return refused_row(s);
-        }
-        let j = d.value as usize;
-        let x = row[i];
-        row[i] = row[j];
-        row[j] = x;
+        let d = number(64, m, small_limit(m), source)?;
+        row.swap(i, d.value as usize);
         source = d.source;
-        i -= 1;
     }
-    Row {
-        refusal: 0,
-        row,
-        source,
-    }
+    Ok(Row { row, source })
 }
 
 fn identity(members: usize, row: [u8; 8]) -> bool
@@ -87,40 +67,32 @@ fn identity(members: usize, row: [u8; 8]) -> bool
     ensures { result ≡ is_identity members row }
 {
     let mut same = true;
-    let mut k = 0;
-    while k < members {
-        same = same & (row[k] == k as u8);
-        k += 1;
+    for k in 0..members {
+        same &= row[k] == k as u8;
     }
     same
 }
 
 // The budget is how many permutations in a row may be the identity.
-fn moving_row(budget: usize, members: usize, s: Source) -> Row
+fn moving_row(budget: usize, members: usize, s: Source) -> Result<Row, Refusal>
     requires { Members members }
-    ensures { result ≡ retried s budget members s }
+    ensures { row_of s result ≡ retried s budget members s }
 {
     let mut source = s;
-    let mut left = budget;
-    while 0 < left {
-        let r = shuffle(members, source);
-        if r.refusal != 0 {
-            return refused_row(s);
-        }
-        let row = r.row;
-        if !identity(members, row) {
-            return r;
+    for _ in 0..budget {
+        let r = shuffle(members, source)?;
+        if !identity(members, r.row) {
+            return Ok(r);
         }
         source = r.source;
-        left -= 1;
     }
-    refused_row(s)
+    Err(Refusal::Draws)
 }
 
 // Any permutation, or one other than the identity.
-pub fn row_by(moving: bool, members: usize, s: Source) -> Row
+pub fn row_by(moving: bool, members: usize, s: Source) -> Result<Row, Refusal>
     requires { Members members }
-    ensures { result ≡ row_by moving members s }
+    ensures { row_of s result ≡ row_by moving members s }
 {
     if moving {
         return moving_row(64, members, s);

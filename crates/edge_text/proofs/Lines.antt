@@ -11,8 +11,8 @@ use lib.Dec.{leb}
 use lib.ListN.{length, get_or, drop, length-drop}
 use lib.Seq.{drop-cons, get_or-drop}
 use lib.IntN.{ℤ, pos, negsuc}
-use Rattle.edge_text.specs.declared.Number.{Number}
-use Rattle.edge_text.specs.declared.Number.TheVariants.{At, Bad}
+use Rattle.edge_text.specs.Outcome.{Number}
+use Rattle.edge_text.specs.Outcome.Number.{At, Bad}
 use Rattle.edge_text.specs.declared.Edge.{Edge}
 use Rattle.edge_text.specs.Decimal.{is_digit, limit, decimal, Held, decimal_started}
 use Rattle.edge_text.specs.Form.{line_of, head_of, signed}

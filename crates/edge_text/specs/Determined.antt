@@ -2,10 +2,10 @@
 use Rattle.std.specs.Prelude.{ℕ, ◌≤◌, ◌≡◌, refl, List, ◌∷◌, ◌++◌, length, drop, ℤ}
 use Rattle.std.proofs.Common.{sym, ◌∙◌, ap, arith, length-drop}
 use Rattle.edge_text.specs.declared.Edge.{Edge}
-use Rattle.edge_text.specs.declared.Number.{Number}
-use Rattle.edge_text.specs.declared.Number.TheVariants.{At, Bad}
-use Rattle.edge_text.specs.declared.Line.{Line}
-use Rattle.edge_text.specs.declared.Line.TheVariants.{Good, None}
+use Rattle.edge_text.specs.Outcome.{Number}
+use Rattle.edge_text.specs.Outcome.Number.{At, Bad}
+use Rattle.edge_text.specs.Outcome.{Line}
+use Rattle.edge_text.specs.Outcome.Line.{Good, None}
 use Rattle.edge_text.specs.Decimal.{decimal}
 use Rattle.edge_text.specs.Form.{line_of, head_of}
 use Rattle.edge_text.specs.Numbers.{begins, SameNumber, same_number, SameLine, same_line, head_split}

@@ -2,6 +2,7 @@
 pub mod Decimal
 pub mod Form
 pub mod Numbers
+pub mod Outcome
 pub mod Reading
 pub mod Writing
 pub mod Determined

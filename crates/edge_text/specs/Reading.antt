@@ -1,9 +1,9 @@
 -- What each reading function promises: a number, a site, a coupling, a line and the first line, at a place of the text.
 use Rattle.std.specs.Prelude.{ℕ, suc, ◌+◌, ◌-◌, ◌≤◌, ◌<◌, ◌≡◌, false, cond, List, ◌++◌, leb, length, get_or, drop, ℤ, pos, negsuc}
-use Rattle.edge_text.specs.declared.Number.{Number}
-use Rattle.edge_text.specs.declared.Number.TheVariants.{At, Bad}
-use Rattle.edge_text.specs.declared.Line.{Line}
-use Rattle.edge_text.specs.declared.Line.TheVariants.{Good, None}
+use Rattle.edge_text.specs.Outcome.{Number}
+use Rattle.edge_text.specs.Outcome.Number.{At, Bad}
+use Rattle.edge_text.specs.Outcome.{Line}
+use Rattle.edge_text.specs.Outcome.Line.{Good, None}
 use Rattle.edge_text.specs.declared.Edge.{Edge}
 use Rattle.edge_text.specs.Decimal.{lead, rest, gather, Held, is_digit}
 use Rattle.edge_text.specs.Form.{line_of, head_of}

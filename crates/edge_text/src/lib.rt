@@ -12,16 +12,18 @@ pub struct Edge {
     pub coupling: i32,
 }
 
-// A number, or a coupling's code, and the place behind it; or nothing of that form stands there.
+// A number, or a coupling's code, and the place behind it.
 #[derive(Clone, Copy)]
-pub enum Number {
-    At(usize, usize),
-    Bad,
+pub struct Parsed {
+    pub value: usize,
+    pub end: usize,
 }
 
 // A line: its sites, counted from 0, its coupling's code and the place behind it.
 #[derive(Clone, Copy)]
-pub enum Line {
-    Good(usize, usize, u32, usize),
-    None,
+pub struct ParsedLine {
+    pub from: usize,
+    pub to: usize,
+    pub code: u32,
+    pub end: usize,
 }

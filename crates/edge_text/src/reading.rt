@@ -2,17 +2,11 @@
 ghost use Rattle.std.specs.Prelude.{◌≡◌, true, ◌≤◌, length};
 ghost use Rattle.lemmas.specs.Tells.{Tells};
 ghost use Rattle.edge_text.specs.Decimal.{is_digit, step_to};
+ghost use Rattle.edge_text.specs.Outcome.{number_found, line_found};
 ghost use Rattle.edge_text.specs.Reading.{Place, Ended, Bounded, RunAs, NumberAs, ExactAs, SiteAs, MinusAs, CouplingAs, LineAs, HeadAs};
 ghost use Rattle.edge_text.specs.Reading.{Counts, HasMinus, plus_code, minus_code};
 
-use super::{Line, Number};
-
-// Digits: their value, kept small, and the place behind them.
-#[derive(Clone, Copy)]
-pub struct Run {
-    pub value: usize,
-    pub end: usize,
-}
+use super::{Parsed, ParsedLine};
 
 // A number that is kept grows no more from here on: every number that a list may hold is smaller.
 const LIMIT: usize = 10000000;
@@ -24,88 +18,85 @@ fn is_digit(c: u8) -> bool
     (48 <= c) & (c < 58)
 }
 
-fn wide(c: u8) -> usize
-    ensures { result ≡ c }
-{
-    c as usize
-}
-
-fn more(v: usize, c: u8) -> usize
+fn more(value: usize, c: u8) -> usize
     requires { is_digit c ≡ true }
-    ensures { result ≡ step_to v c }
+    ensures { result ≡ step_to value c }
 {
-    if v < LIMIT {
-        10 * v + (wide(c) - 48)
+    if value < LIMIT {
+        10 * value + usize::from(c - b'0')
     } else {
-        v
+        value
     }
 }
 
-fn digits(text: &[u8], at: usize) -> Run
+// Digits: their value, kept small, and the place behind them.
+fn digits(text: &[u8], at: usize) -> Parsed
     requires { at ≤ length text.now }
     ensures { RunAs text.now at result.value result.end }
 {
-    let mut v = 0;
-    let mut e = at;
-    while e < text.len() {
-        let c = text[e];
+    let mut value = 0;
+    for end in at..text.len() {
+        let c = text[end];
         if !is_digit(c) {
-            return Run { value: v, end: e };
+            return Parsed { value, end };
         }
-        v = more(v, c);
-        e += 1;
+        value = more(value, c);
     }
-    Run { value: v, end: e }
+    Parsed {
+        value,
+        end: text.len(),
+    }
 }
 
 // Digits without a leading zero, with the character `stop` behind them.
-fn number(text: &[u8], at: usize, stop: u8) -> Number
+fn number(text: &[u8], at: usize, stop: u8) -> Option<Parsed>
     requires { Ended text.now at stop }
-    ensures { NumberAs text.now at stop result }
+    ensures { NumberAs text.now at stop (number_found result) }
 {
-    let run = digits(text, at);
-    let e = run.end;
-    if e == at {
-        return Number::Bad;
+    let Parsed { value, end } = digits(text, at);
+    if end == at {
+        return None;
     }
-    if e == text.len() {
-        return Number::Bad;
+    if end == text.len() {
+        return None;
     }
-    if text[e] != stop {
-        return Number::Bad;
+    if text[end] != stop {
+        return None;
     }
-    if (text[at] == b'0') & (at + 1 < e) {
-        return Number::Bad;
+    if (text[at] == b'0') & (at + 1 < end) {
+        return None;
     }
-    Number::At(run.value, e + 1)
+    Some(Parsed {
+        value,
+        end: end + 1,
+    })
 }
 
-// A number that is at most m.
-fn exact(text: &[u8], at: usize, stop: u8, m: usize) -> Number
-    requires { Bounded text.now at stop m }
-    ensures { ExactAs text.now at stop m result }
+// A number that is at most `most`.
+fn exact(text: &[u8], at: usize, stop: u8, most: usize) -> Option<Parsed>
+    requires { Bounded text.now at stop most }
+    ensures { ExactAs text.now at stop most (number_found result) }
 {
-    let Number::At(v, e) = number(text, at, stop) else {
-        return Number::Bad;
-    };
-    if m < v {
-        return Number::Bad;
+    let found = number(text, at, stop)?;
+    if most < found.value {
+        return None;
     }
-    Number::At(v, e)
+    Some(found)
 }
 
 // A site of n, counted from 1 in the text and from 0 here, and a blank.
-fn site(text: &[u8], at: usize, n: usize) -> Number
+fn site(text: &[u8], at: usize, n: usize) -> Option<Parsed>
     requires { Place text.now at n }
-    ensures { SiteAs text.now at n result }
+    ensures { SiteAs text.now at n (number_found result) }
 {
-    let Number::At(v, e) = exact(text, at, b' ', n) else {
-        return Number::Bad;
-    };
-    if v == 0 {
-        return Number::Bad;
+    let Parsed { value, end } = exact(text, at, b' ', n)?;
+    if value == 0 {
+        return None;
     }
-    Number::At(v - 1, e)
+    Some(Parsed {
+        value: value - 1,
+        end,
+    })
 }
 
 fn plus_code(v: usize) -> usize
@@ -123,67 +114,63 @@ fn minus_code(v: usize) -> usize
 fn has_minus(text: &[u8], at: usize) -> bool
     ensures { Tells result (HasMinus text.now at) }
 {
-    if at < text.len() {
-        return text[at] == b'-';
-    }
-    false
+    at < text.len() && text[at] == b'-'
 }
 
 // What stands behind a minus: no zero.
-fn minus(text: &[u8], at: usize) -> Number
+fn minus(text: &[u8], at: usize) -> Option<Parsed>
     requires { at ≤ length text.now }
-    ensures { MinusAs text.now at result }
+    ensures { MinusAs text.now at (number_found result) }
 {
-    let Number::At(v, e) = number(text, at, b'\n') else {
-        return Number::Bad;
-    };
-    if v < 1 {
-        return Number::Bad;
+    let Parsed { value, end } = number(text, at, b'\n')?;
+    if value < 1 {
+        return None;
     }
-    Number::At(minus_code(v), e)
+    Some(Parsed {
+        value: minus_code(value),
+        end,
+    })
 }
 
 // A coupling of any length and a line feed.
-fn coupling(text: &[u8], at: usize) -> Number
+fn coupling(text: &[u8], at: usize) -> Option<Parsed>
     requires { at ≤ length text.now }
-    ensures { CouplingAs text.now at result }
+    ensures { CouplingAs text.now at (number_found result) }
 {
     if has_minus(text, at) {
         return minus(text, at + 1);
     }
-    let Number::At(v, e) = number(text, at, b'\n') else {
-        return Number::Bad;
-    };
-    Number::At(plus_code(v), e)
+    let Parsed { value, end } = number(text, at, b'\n')?;
+    Some(Parsed {
+        value: plus_code(value),
+        end,
+    })
 }
 
 // A line whose sites are among n.
-pub fn line(text: &[u8], at: usize, n: usize) -> Line
+pub fn line(text: &[u8], at: usize, n: usize) -> Option<ParsedLine>
     requires { Place text.now at n }
-    ensures { LineAs text.now at n result }
+    ensures { LineAs text.now at n (line_found result) }
 {
-    let Number::At(i, p) = site(text, at, n) else {
-        return Line::None;
-    };
-    let Number::At(j, q) = site(text, p, n) else {
-        return Line::None;
-    };
-    let Number::At(x, e) = coupling(text, q) else {
-        return Line::None;
-    };
-    Line::Good(i, j, x as u32, e)
+    let from = site(text, at, n)?;
+    let to = site(text, from.end, n)?;
+    let coupling = coupling(text, to.end)?;
+    Some(ParsedLine {
+        from: from.value,
+        to: to.value,
+        code: coupling.value as u32,
+        end: coupling.end,
+    })
 }
 
 // The first line of a list for n sites, which says that at most so many lines follow.
-pub fn head(text: &[u8], n: usize, most: usize) -> Number
+pub fn head(text: &[u8], n: usize, most: usize) -> Option<Parsed>
     requires { Counts n most }
-    ensures { HeadAs text.now n most result }
+    ensures { HeadAs text.now n most (number_found result) }
 {
-    let Number::At(v, p) = exact(text, 0, b' ', n) else {
-        return Number::Bad;
-    };
-    if v != n {
-        return Number::Bad;
+    let sites = exact(text, 0, b' ', n)?;
+    if sites.value != n {
+        return None;
     }
-    exact(text, p, b'\n', most)
+    exact(text, sites.end, b'\n', most)
 }

@@ -24,7 +24,7 @@ fn size(j: i32) -> usize
     requires { nat_abs j ≤ 1000000 }
     ensures { result ≡ nat_abs j }
 {
-    if j < 0 { (0 - j) as usize } else { j as usize }
+    j.unsigned_abs() as usize
 }
 
 // The digits and then one character.

@@ -11,7 +11,7 @@ use lib.ListN.{length, get_or, drop, set, length-set, length-drop, drop_of_lengt
 use lib.Seq.{get_or-set_same, get_or-set_other}
 use lib.IntN.{ℤ}
 use Rattle.edge_text.specs.declared.Edge.{Edge}
-use Rattle.edge_text.specs.declared.Line.TheVariants.{None}
+use Rattle.edge_text.specs.Outcome.Line.{None}
 use Rattle.edge_text.specs.Form.{lines_of, line_of}
 use Rattle.edge_text.specs.Numbers.{same_line}
 use Rattle.edge_text.specs.Reading.{LineAt, LineAs, code_of}

@@ -8,7 +8,7 @@ use lib.ListN.{length, drop}
 use lib.IntN.{ℤ}
 use Rattle.paper.specs.Refusal.Rules.{Sizes, Inverse, SmallCouplings}
 use Rattle.lemmas.specs.Bools.{never}
-use Rattle.edge_text.specs.declared.Number.TheVariants.{Bad}
+use Rattle.edge_text.specs.Outcome.Number.{Bad}
 use Rattle.edge_text.specs.Form.{head_of, lines_of}
 use Rattle.edge_text.specs.Numbers.{begins, same_number, head_split}
 use Rattle.edge_text.specs.Reading.{HeadAt, HeadAs}

@@ -11,8 +11,7 @@ use Rattle.paper.specs.Refusal.Rules.{Sizes, Inverse, SmallCouplings}
 use Rattle.edge_text.specs.declared.Edge.{Edge}
 use Rattle.edge_text.specs.Form.{head_of, lines_of, text_of}
 use Rattle.edge_text.specs.Writing.{Put, Long, put_both, put_long}
-use Rattle.edges.specs.declared.Listing.{Listing}
-use Rattle.edges.specs.declared.Listing.TheVariants.{Unlisted, Wrote}
+use Rattle.edges.specs.Cases.{Listing, Listing.Unlisted, Listing.Wrote}
 use Rattle.edges.specs.Answer.{net_of, Exact, list_of, WriteAnswers}
 use Rattle.edges.specs.Listing.{Tabled, ListRoom, Counted, Measured}
 

@@ -5,8 +5,7 @@ use Rattle.paper.specs.Refusal.Rules.{Sizes, Inverse, SmallCouplings}
 use Rattle.paper.specs.Refusal.Verdict.{Verdict}
 use Rattle.edge_text.specs.declared.Edge.{Edge}
 use Rattle.edge_text.specs.Form.{text_of}
-use Rattle.edges.specs.declared.Listing.{Listing}
-use Rattle.edges.specs.declared.Listing.TheVariants.{Unlisted, Wrote}
+use Rattle.edges.specs.Cases.{Listing, Listing.Unlisted, Listing.Wrote}
 use Rattle.edges.specs.Bonds.{Cell, free, Fills, table_of}
 use Rattle.edges.specs.Listed.{listed}
 

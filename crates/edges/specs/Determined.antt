@@ -1,12 +1,13 @@
 -- What each function's promise allows for one input is one answer and one content of every lent buffer.
-use Rattle.std.specs.Prelude.{ℕ, zero, suc, ◌*◌, ◌≡◌, refl, List, [], ◌∷◌, ◌++◌, length, get_or, ℤ}
+use Rattle.std.specs.Prelude.{ℕ, zero, suc, ◌*◌, ◌≡◌, refl, List, [], ◌∷◌, ◌++◌, length, get_or, Result, ℤ}
 use Rattle.std.proofs.Common.{sym, ◌∙◌, ap, arith}
+use Rattle.paper.specs.declared.Refusal.{Refusal}
+use Rattle.paper.specs.Refusal.Numbers.{verdict_of, verdict_of_injective}
 use Rattle.paper.specs.Refusal.Rule.{broken_unique, broken_not_kept}
 use Rattle.edge_text.specs.declared.Edge.{Edge}
 use Rattle.edge_text.specs.Form.{text_of, lines_of, line_of}
 use Rattle.edge_text.specs.Numbers.{same_line, same_number, begins, head_split}
-use Rattle.edges.specs.declared.Listing.{Listing}
-use Rattle.edges.specs.declared.Listing.TheVariants.{Unlisted, Wrote}
+use Rattle.edges.specs.Cases.{listing_of, listing_of_injective, Listing, Listing.Unlisted, Listing.Wrote}
 use Rattle.edges.specs.Bonds.{free, table_of}
 use Rattle.edges.specs.Fills.{fills_unique}
 use Rattle.edges.specs.Answer.{net_of, IsList, read_rules, ReadAnswers, write_rules, WriteAnswers}
@@ -64,3 +65,14 @@ module _ (n d : ℕ) (fwd bwd : List ℕ) (js : List ℤ) (text y z : List ℕ) 
     answer = ap Unlisted (broken_unique (write_rules (net_of n d fwd bwd) js text) b c p.why q.why);
     buffers = p.kept ∙ sym q.kept;
   }
+
+-- and one result of each function
+pub read_edges_result_determined : (n d : ℕ) (fwd bwd text : List ℕ) (js y z : List ℤ) (a a' : Result (Unit {0}) Refusal)
+    → ReadAnswers (net_of n d fwd bwd) text js (verdict_of a) y → ReadAnswers (net_of n d fwd bwd) text js (verdict_of a') z → a ≡ a'
+read_edges_result_determined n d fwd bwd text js y z a a' p q =
+    verdict_of_injective a a' (read_edges_determined n d fwd bwd text js y z (verdict_of a) (verdict_of a') p q).answer
+
+pub write_edges_result_determined : (n d : ℕ) (fwd bwd : List ℕ) (js : List ℤ) (text y z : List ℕ) (a a' : Result ℕ Refusal)
+    → WriteAnswers (net_of n d fwd bwd) js text (listing_of a) y → WriteAnswers (net_of n d fwd bwd) js text (listing_of a') z → a ≡ a'
+write_edges_result_determined n d fwd bwd js text y z a a' p q =
+    listing_of_injective a a' (write_edges_determined n d fwd bwd js text y z (listing_of a) (listing_of a') p q).answer

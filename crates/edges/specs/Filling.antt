@@ -1,5 +1,5 @@
 -- What the steps of reading promise: the look-up of a bond, the lines one by one, the whole text, and the table from its cells.
-use Rattle.std.specs.Prelude.{ℕ, zero, suc, ◌+◌, ◌*◌, ◌≤◌, ◌<◌, ◌≡◌, Bool, true, false, List, length, get_or, ℤ, pos, ◌-ℤ◌}
+use Rattle.std.specs.Prelude.{ℕ, zero, suc, ◌+◌, ◌*◌, ◌≤◌, ◌<◌, ◌≡◌, Bool, true, false, Option, Some, None, List, length, get_or, ℤ, pos, ◌-ℤ◌}
 use Rattle.paper.specs.Refusal.Rules.{Inverse}
 use Rattle.edge_text.specs.declared.Edge.{Edge}
 use Rattle.edge_text.specs.Form.{lines_of}
@@ -23,6 +23,10 @@ pub record ScanAs (d : ℕ) (fwd cells : List ℕ) (from to e : ℕ) : Type 0 wh
   pub before : (k : ℕ) → k < e → Open fwd cells to (from * d + k) → ⊥
   pub found : e < d → Open fwd cells to (from * d + e)
 
+abbrev pub FirstWay : ℕ → List ℕ → List ℕ → ℕ → ℕ → Option ℕ → Type 0
+FirstWay d fwd cells from to (Some e) = (e < d) × ScanAs d fwd cells from to e
+FirstWay d fwd cells from to None = ScanAs d fwd cells from to d
+
 -- a table of n sites in d directions, with a cell for each bond
 pub record Celled (n d : ℕ) (fwd cells : List ℕ) : Type 0 where
   pub n_high : n ≤ 4096
@@ -45,6 +49,10 @@ pub record FoundAs (n d : ℕ) (fwd cells : List ℕ) (i j b : ℕ) : Type 0 whe
   pub joins : b < n * d → Joins d fwd i j b
   pub is_free : b < n * d → get_or cells b 0 ≡ 0
   pub least : (c : ℕ) → c < b → Joins d fwd i j c → get_or cells c 0 ≡ 0 → ⊥
+
+abbrev pub FirstBond : ℕ → ℕ → List ℕ → List ℕ → ℕ → ℕ → Option ℕ → Type 0
+FirstBond n d fwd cells i j (Some b) = (b < n * d) × FoundAs n d fwd cells i j b
+FirstBond n d fwd cells i j None = FoundAs n d fwd cells i j (n * d)
 
 -- ---- cells as numbers: 0 where the bond is free, else the coupling's code
 abbrev pub cell_code : Cell → ℕ

@@ -12,7 +12,7 @@ use Rattle.lemmas.specs.Ints.{eq_z}
 use Rattle.paper.specs.Refusal.Rules.{Sizes, Inverse, SmallCouplings}
 use Rattle.lemmas.specs.Ints.{is_same}
 use Rattle.edge_text.specs.Form.{text_of}
-use Rattle.edges.specs.declared.Listing.TheVariants.{Wrote}
+use Rattle.edges.specs.Cases.{Listing.Wrote}
 use Rattle.edges.specs.Bonds.{Joins, Cell, free, holds, Lowest, Fills, value_of, table_of}
 use Rattle.edges.specs.Listed.{edge_at, listed}
 use Rattle.edges.specs.Fills.{fills_behind, table_long, table_at}

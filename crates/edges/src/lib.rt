@@ -5,16 +5,14 @@ mod fill;
 mod list;
 
 ghost use Rattle.lemmas.specs.Tells.{Tells};
+ghost use Rattle.paper.specs.Refusal.Numbers.{verdict_of};
+ghost use Rattle.edges.specs.Cases.{listing_of};
 ghost use Rattle.edges.specs.Answer.{ExactLengths, net_of, ReadAnswers, WriteAnswers};
 
 use edge_text::writing::{head_length, put_head};
-
-// What becomes of a list: refused, or so many bytes are written.
-#[derive(Clone, Copy)]
-pub enum Listing {
-    Unlisted(u8),
-    Wrote(usize),
-}
+use fill::Neighbours;
+use list::Table;
+use paper::Refusal;
 
 fn exact(m: usize, fwd: usize, bwd: usize, couplings: usize) -> bool
     ensures { Tells result (ExactLengths m fwd bwd couplings) }
@@ -30,32 +28,33 @@ pub fn read_edges(
     bwd: &[u32],
     text: &[u8],
     couplings: &mut [i32],
-) -> u8
+) -> Result<(), Refusal>
     ensures { ReadAnswers
         (net_of n d fwd.now bwd.now)
         text.now
         couplings.old
-        result
+        (verdict_of result)
         couplings.new }
 {
     if !lattice::sizes_ok(n, d, 1) {
-        return 1;
+        return Err(Refusal::Sizes);
     }
     if !exact(n * d, fwd.len(), bwd.len(), couplings.len()) {
-        return 2;
+        return Err(Refusal::Lengths);
     }
     if !lattice::tables_ok(n, d, fwd, bwd) {
-        return 4;
+        return Err(Refusal::Tables);
     }
     let mut cells = [0u32; 16384];
-    if !fill::load(n, d, fwd, text, &mut cells) {
-        return 13;
+    let neighbours = Neighbours { n, d, fwd };
+    if !neighbours.load(text, &mut cells) {
+        return Err(Refusal::EdgeList);
     }
     if !fill::all_small(&cells, n * d) {
-        return 6;
+        return Err(Refusal::Couplings);
     }
     fill::copy(&cells, couplings);
-    0
+    Ok(())
 }
 
 // Writes the list of the nonzero couplings to the front of the text. Its length is known before anything is written.
@@ -66,31 +65,37 @@ pub fn write_edges(
     bwd: &[u32],
     couplings: &[i32],
     text: &mut [u8],
-) -> Listing
+) -> Result<usize, Refusal>
     ensures { WriteAnswers
         (net_of n d fwd.now bwd.now)
         couplings.now
         text.old
-        result
+        (listing_of result)
         text.new }
 {
     if !lattice::sizes_ok(n, d, 1) {
-        return Listing::Unlisted(1);
+        return Err(Refusal::Sizes);
     }
     if !exact(n * d, fwd.len(), bwd.len(), couplings.len()) {
-        return Listing::Unlisted(2);
+        return Err(Refusal::Lengths);
     }
     if !lattice::tables_ok(n, d, fwd, bwd) {
-        return Listing::Unlisted(4);
+        return Err(Refusal::Tables);
     }
     if !lattice::couplings_ok(couplings) {
-        return Listing::Unlisted(6);
+        return Err(Refusal::Couplings);
     }
-    let m = list::count(n, d, fwd, couplings);
-    let size = head_length(n, m) + list::bytes(n, d, fwd, couplings);
+    let table = Table {
+        n,
+        d,
+        fwd,
+        couplings,
+    };
+    let m = table.count();
+    let size = head_length(n, m) + table.bytes();
     if text.len() < size {
-        return Listing::Unlisted(2);
+        return Err(Refusal::Lengths);
     }
     let at = put_head(n, m, text);
-    Listing::Wrote(list::put_all(n, d, fwd, couplings, text, at))
+    Ok(table.put_all(text, at))
 }

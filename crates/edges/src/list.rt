@@ -8,11 +8,15 @@ ghost use Rattle.edges.specs.Listing.{Tabled, Bond, Told, BondRoom, ListRoom, Co
 
 use edge_text::Edge;
 use edge_text::writing::{line_length, put_line};
+use lemmas::wide;
 
-fn wide(x: u32) -> usize
-    ensures { result ≡ x }
-{
-    x as usize
+// A tested table of neighbours, with a coupling for each bond.
+#[derive(Clone, Copy)]
+pub(crate) struct Table<'a> {
+    pub(crate) n: usize,
+    pub(crate) d: usize,
+    pub(crate) fwd: &'a [u32],
+    pub(crate) couplings: &'a [i32],
 }
 
 // A coupling that is 0 has no line.
@@ -22,104 +26,83 @@ fn is_zero(j: i32) -> bool
     j == 0
 }
 
-fn edge_at(n: usize, d: usize, fwd: &[u32], js: &[i32], b: usize) -> Edge
-    requires { Bond n d fwd.now js.now b }
-    ensures { result ≡ edge_at d fwd.now js.now b }
-{
-    let to = wide(fwd[b]);
-    let coupling = js[b];
-    Edge {
-        from: b / d,
-        to,
-        coupling,
+impl Table<'_> {
+    fn edge_at(&self, b: usize) -> Edge
+        requires { Bond self.now.n self.now.d self.now.fwd.now self.now.couplings.now b }
+        ensures { result ≡ edge_at self.now.d self.now.fwd.now self.now.couplings.now b }
+    {
+        Edge {
+            from: b / self.d,
+            to: wide(self.fwd[b]),
+            coupling: self.couplings[b],
+        }
     }
-}
 
-// Of one bond: 1 where it has a line.
-fn entry_count(n: usize, d: usize, fwd: &[u32], js: &[i32], b: usize) -> usize
-    requires { Bond n d fwd.now js.now b }
-    ensures { Told (entry_at d fwd.now js.now b) result }
-{
-    if is_zero(js[b]) {
-        return 0;
+    // Of one bond: 1 where it has a line.
+    fn entry_count(&self, b: usize) -> usize
+        requires { Bond self.now.n self.now.d self.now.fwd.now self.now.couplings.now b }
+        ensures { Told (entry_at self.now.d self.now.fwd.now self.now.couplings.now b) result }
+    {
+        if is_zero(self.couplings[b]) {
+            return 0;
+        }
+        1
     }
-    1
-}
 
-// Of one bond: the bytes of its line, if it has one.
-fn entry_length(n: usize, d: usize, fwd: &[u32], js: &[i32], b: usize) -> usize
-    requires { Bond n d fwd.now js.now b }
-    ensures { Long (lines_of (entry_at d fwd.now js.now b)) 25 result }
-{
-    if is_zero(js[b]) {
-        return 0;
+    // Of one bond: the bytes of its line, if it has one.
+    fn entry_length(&self, b: usize) -> usize
+        requires { Bond self.now.n self.now.d self.now.fwd.now self.now.couplings.now b }
+        ensures { Long (lines_of (entry_at self.now.d self.now.fwd.now self.now.couplings.now b)) 25 result }
+    {
+        if is_zero(self.couplings[b]) {
+            return 0;
+        }
+        line_length(self.edge_at(b))
     }
-    line_length(edge_at(n, d, fwd, js, b))
-}
 
-fn put_entry(
-    n: usize,
-    d: usize,
-    fwd: &[u32],
-    js: &[i32],
-    b: usize,
-    out: &mut [u8],
-    at: usize,
-) -> usize
-    requires { BondRoom n d fwd.now js.now b at (length out.old) }
-    ensures { Put (lines_of (entry_at d fwd.now js.now b)) out.old at result out.new }
-{
-    if is_zero(js[b]) {
-        return at;
+    fn put_entry(&self, b: usize, out: &mut [u8], at: usize) -> usize
+        requires { BondRoom self.now.n self.now.d self.now.fwd.now self.now.couplings.now b at (length out.old) }
+        ensures { Put (lines_of (entry_at self.now.d self.now.fwd.now self.now.couplings.now b)) out.old at result out.new }
+    {
+        if is_zero(self.couplings[b]) {
+            return at;
+        }
+        put_line(self.edge_at(b), out, at)
     }
-    put_line(edge_at(n, d, fwd, js, b), out, at)
-}
 
-pub(crate) fn count(n: usize, d: usize, fwd: &[u32], js: &[i32]) -> usize
-    requires { Tabled n d fwd.now js.now }
-    ensures { Counted (listed d fwd.now js.now (n * d)) result }
-{
-    let m = n * d;
-    let mut total = 0;
-    let mut b = 0;
-    while b < m {
-        total += entry_count(n, d, fwd, js, b);
-        b += 1;
+    pub(crate) fn count(&self) -> usize
+        requires { Tabled self.now.n self.now.d self.now.fwd.now self.now.couplings.now }
+        ensures { Counted (listed self.now.d self.now.fwd.now self.now.couplings.now (self.now.n * self.now.d)) result }
+    {
+        let m = self.n * self.d;
+        let mut total = 0;
+        for b in 0..m {
+            total += self.entry_count(b);
+        }
+        total
     }
-    total
-}
 
-pub(crate) fn bytes(n: usize, d: usize, fwd: &[u32], js: &[i32]) -> usize
-    requires { Tabled n d fwd.now js.now }
-    ensures { Measured (listed d fwd.now js.now (n * d)) result }
-{
-    let m = n * d;
-    let mut total = 0;
-    let mut b = 0;
-    while b < m {
-        total += entry_length(n, d, fwd, js, b);
-        b += 1;
+    pub(crate) fn bytes(&self) -> usize
+        requires { Tabled self.now.n self.now.d self.now.fwd.now self.now.couplings.now }
+        ensures { Measured (listed self.now.d self.now.fwd.now self.now.couplings.now (self.now.n * self.now.d)) result }
+    {
+        let m = self.n * self.d;
+        let mut total = 0;
+        for b in 0..m {
+            total += self.entry_length(b);
+        }
+        total
     }
-    total
-}
 
-pub(crate) fn put_all(
-    n: usize,
-    d: usize,
-    fwd: &[u32],
-    js: &[i32],
-    out: &mut [u8],
-    at: usize,
-) -> usize
-    requires { ListRoom n d fwd.now js.now at (length out.old) }
-    ensures { Put (lines_of (listed d fwd.now js.now (n * d))) out.old at result out.new }
-{
-    let m = n * d;
-    let mut p = at;
-    let mut b = 0;
-    while b < m {
-        p = put_entry(n, d, fwd, js, b, out, p);
-        b += 1;
+    pub(crate) fn put_all(&self, out: &mut [u8], at: usize) -> usize
+        requires { ListRoom self.now.n self.now.d self.now.fwd.now self.now.couplings.now at (length out.old) }
+        ensures { Put (lines_of (listed self.now.d self.now.fwd.now self.now.couplings.now (self.now.n * self.now.d))) out.old at result out.new }
+    {
+        let m = self.n * self.d;
+        let mut p = at;
+        for b in 0..m {
+            p = self.put_entry(b, out, p);
+        }
+        p
     }
-    p
 }

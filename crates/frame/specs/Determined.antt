@@ -1,7 +1,7 @@
 -- What the promise allows for one input is one answer and one content of the lent buffer.
 use Rattle.std.specs.Prelude.{◌≡◌, List, ℕ}
 use Rattle.laws.specs.FramesDetermined.{frames_determined}
-use Rattle.frame_lines.specs.declared.Written.{Written}
+use Rattle.frame_lines.specs.Outcome.{Written}
 use Rattle.frame_lines.specs.Determined.{SameWritten}
 use Rattle.frame_lines.proofs.Determined.{written_same}
 use Rattle.frame.specs.Run.{RunAs}

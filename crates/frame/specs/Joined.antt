@@ -4,7 +4,7 @@ use Rattle.std.proofs.Common.{sym, ◌∙◌, ap, subst, inl, inr, arith, take_a
 use Rattle.std.proofs.lemmas.List.{length-map}
 use Rattle.lemmas.specs.Counts.{count_most}
 use Rattle.paper.specs.declared.Group.{Group}
-use Rattle.paper.specs.declared.Answer.{Answer}
+use Rattle.paper.specs.Answer.Cases.{Answer}
 use Rattle.paper.specs.Panel.Input.{graph, Call, Buffers}
 use Rattle.paper.specs.Site.Acting.{acts}
 use Rattle.paper.specs.Site.Bonds.{holds}

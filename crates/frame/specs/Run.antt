@@ -9,8 +9,7 @@ use Rattle.std.proofs.lemmas.List.{length-replicate, get_or-replicate}
 use Rattle.lemmas.specs.Cells.{table}
 use Rattle.lemmas.specs.Tells.{Tells}
 use Rattle.paper.specs.declared.Group.{Group}
-use Rattle.paper.specs.declared.Answer.{Answer}
-use Rattle.paper.specs.declared.Answer.TheVariants.{Refused, Idle, Held, Moved}
+use Rattle.paper.specs.Answer.Cases.{Answer, Answer.Refused, Answer.Idle, Answer.Held, Answer.Moved}
 use Rattle.paper.specs.declared.Mode.TheVariants.{Perm}
 use Rattle.paper.specs.declared.Form.TheVariants.{Sw}
 use Rattle.paper.specs.declared.Keeps.TheVariants.{Nothing}
@@ -24,10 +23,10 @@ use Rattle.paper.specs.Panel.Made.{call_of, choices_of, buffers_of}
 use Rattle.lattice.specs.Spinning.{AllSpins, all_rows}
 use Rattle.steps.specs.Rule.{task_of}
 use Rattle.frame_lines.specs.declared.Sizes.{Sizes}
-use Rattle.frame_lines.specs.declared.Found.{Found}
-use Rattle.frame_lines.specs.declared.Found.TheVariants.{Fault, Panel}
-use Rattle.frame_lines.specs.declared.Written.{Written}
-use Rattle.frame_lines.specs.declared.Written.TheVariants.{Wrote, NoRoom}
+use Rattle.frame_lines.specs.Outcome.{Found}
+use Rattle.frame_lines.specs.Outcome.Found.{Fault, Panel}
+use Rattle.frame_lines.specs.Outcome.{Written}
+use Rattle.frame_lines.specs.Outcome.Written.{Wrote, NoRoom}
 use Rattle.frame_lines.specs.Spelling.{spelling_rules, Spelling, spelling_of, misspelt, misvalued, all_kept, broken_small, misspelt_small}
 use Rattle.frame_lines.specs.Reading.{AnyPanelFits, Held as Lent, Misread, Readout, FoundAs}
 use Rattle.frame_lines.specs.Writing.{result_of, TwoByte, Fitted, WrittenAs, RefusalAs, count, shorter, fitted_take, fitted_drop}

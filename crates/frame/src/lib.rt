@@ -4,12 +4,11 @@
 mod panel;
 
 ghost use Rattle.std.specs.Prelude.{length};
+ghost use Rattle.frame_lines.specs.Outcome.{written_of};
 ghost use Rattle.frame_lines.specs.Reading.{AnyPanelFits};
 ghost use Rattle.frame.specs.Run.{Blank, RunAs};
 
-use frame_lines::{Found, Frames, Sizes, Written};
 use panel::run_panel;
-use paper::Group;
 
 // A text's answer, on lent work arrays.
 fn run_in(
@@ -22,23 +21,21 @@ fn run_in(
     counts: &mut [u32],
     sizes: &mut [u32],
     out: &mut [u8],
-) -> Written
+) -> Option<usize>
     requires any_panel_fits { AnyPanelFits (length spins.old) (length fwd.old) (length perms.old) }
     requires blank { Blank bwd.old labels.old counts.old sizes.old }
-    ensures { RunAs text.now out.old result out.new }
+    ensures { RunAs text.now out.old (written_of result) out.new }
 {
-    let frames = frame_lines::read(text, spins, fwd, perms);
-    let found = frames.found;
-    let group = frames.group;
-    match found {
-        Found::Fault(r) => frame_lines::write_refusal(r, out),
-        Found::Panel(z) => run_panel(z, group, spins, fwd, perms, bwd, labels, counts, sizes, out),
+    match frame_lines::read(text, spins, fwd, perms) {
+        Err(r) => frame_lines::write_refusal(r, out),
+        Ok(shape) => run_panel(shape, spins, fwd, perms, bwd, labels, counts, sizes, out),
     }
 }
 
-// The program: reads the text, runs its move and writes the answer, or writes what is wrong.
-pub fn run(text: &[u8], out: &mut [u8]) -> Written
-    ensures { RunAs text.now out.old result out.new }
+// The program: reads the text, runs its move and writes the answer, or writes what is wrong. It says how many bytes the answer has; where there is no
+// room for it, nothing is written.
+pub fn run(text: &[u8], out: &mut [u8]) -> Option<usize>
+    ensures { RunAs text.now out.old (written_of result) out.new }
 {
     let mut spins = [0i8; 2048];
     let mut fwd = [0u32; 1024];

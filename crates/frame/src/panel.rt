@@ -2,12 +2,14 @@
 ghost use Rattle.std.specs.Prelude.{List, [], ◌∷◌, ℕ, ◌*◌};
 ghost use Rattle.neighbours.specs.Backward.{Turnable};
 ghost use Rattle.paper.specs.Panel.Made.{buffers_of};
+ghost use Rattle.paper.specs.Answer.Cases.{answer_of};
+ghost use Rattle.frame_lines.specs.Outcome.{written_of};
 ghost use Rattle.frame_lines.specs.Reading.{Held, Readout};
 ghost use Rattle.frame_lines.specs.Writing.{WrittenAs};
 ghost use Rattle.frame.specs.Run.{PermMoved, Writable, answer_text, PanelWritten, PanelGiven, RunAs};
 
-use frame_lines::{Sizes, Written};
-use paper::{Answer, Form, Group, Keeps, Mode, Task};
+use frame_lines::Shape;
+use paper::{Form, Group, Keeps, Mode, Outcome, Refusal, Task};
 
 // The move keeps no totals, and takes no couplings, cuts, grey numbers or members: they are empty. No site is pinned. How many components it finds is
 // not written out.
@@ -23,11 +25,11 @@ fn perm_move(
     labels: &mut [u32],
     counts: &mut [u32],
     sizes: &mut [u32],
-) -> Answer
+) -> Result<Outcome, Refusal>
     requires { Turnable n d fwd.now bwd.old }
     ensures { PermMoved n d s group fwd.now perms.now
         (buffers_of spins.old labels.old [] counts.old sizes.old [] (0 ∷ []) [])
-        result bwd.new spins.new labels.new counts.new sizes.new }
+        (answer_of result) bwd.new spins.new labels.new counts.new sizes.new }
 {
     neighbours::backward(n, d, fwd, bwd);
     let mut totals = [0i64; 1];
@@ -72,15 +74,21 @@ fn perm_move(
 }
 
 // Idle, held and moved are written alike.
-fn write_answer(r: Answer, labels: &[u32], counts: &[u32], spins: &[i8], out: &mut [u8]) -> Written
-    requires { Writable r labels.now counts.now }
-    ensures { WrittenAs (answer_text r labels.now counts.now spins.now) out.old result out.new }
+fn write_answer(
+    r: Result<Outcome, Refusal>,
+    labels: &[u32],
+    counts: &[u32],
+    spins: &[i8],
+    out: &mut [u8],
+) -> Option<usize>
+    requires { Writable (answer_of r) labels.now counts.now }
+    ensures { WrittenAs (answer_text (answer_of r) labels.now counts.now spins.now) out.old (written_of result) out.new }
 {
     match r {
-        Answer::Refused(c) => frame_lines::write_refusal(c, out),
-        Answer::Idle => frame_lines::write(labels, counts, spins, out),
-        Answer::Held => frame_lines::write(labels, counts, spins, out),
-        Answer::Moved => frame_lines::write(labels, counts, spins, out),
+        Ok(Outcome::Idle) => frame_lines::write(labels, counts, spins, out),
+        Ok(Outcome::Held) => frame_lines::write(labels, counts, spins, out),
+        Ok(Outcome::Moved) => frame_lines::write(labels, counts, spins, out),
+        Err(refusal) => frame_lines::write_refusal(refusal.number(), out),
     }
 }
 
@@ -98,14 +106,14 @@ fn move_and_write(
     counts: &mut [u32],
     sizes: &mut [u32],
     out: &mut [u8],
-) -> Written
+) -> Option<usize>
     requires { Turnable n d fwd.now bwd.old }
     ensures { PanelWritten n d s group fwd.now perms.now
         (buffers_of spins.old labels.old [] counts.old sizes.old [] (0 ∷ []) [])
-        out.old result out.new }
+        out.old (written_of result) out.new }
 {
     if !lattice::spins_ok(spins) {
-        return frame_lines::write_refusal(3, out);
+        return frame_lines::write_refusal(Refusal::Spins.number(), out);
     }
     let r = perm_move(
         n, d, s, group, spins, fwd, perms, bwd, labels, counts, sizes,
@@ -115,8 +123,7 @@ fn move_and_write(
 
 // The same on the used parts of the buffers.
 pub(crate) fn run_panel(
-    z: Sizes,
-    group: Group,
+    shape: Shape,
     spins: &mut [i8],
     fwd: &[u32],
     perms: &[u8],
@@ -125,15 +132,19 @@ pub(crate) fn run_panel(
     counts: &mut [u32],
     sizes: &mut [u32],
     out: &mut [u8],
-) -> Written
-    requires { PanelGiven z group spins.old fwd.now perms.now bwd.old labels.old counts.old sizes.old }
+) -> Option<usize>
+    requires { PanelGiven shape.sizes shape.group spins.old fwd.now perms.now bwd.old labels.old counts.old sizes.old }
     ensures { (text : List ℕ) (b : Held)
-        → Readout text b z group (record { spins = spins.old; fwd = fwd.now; perms = perms.now })
-        → RunAs text out.old result out.new }
+        → Readout text b shape.sizes shape.group (record { spins = spins.old; fwd = fwd.now; perms = perms.now })
+        → RunAs text out.old (written_of result) out.new }
 {
-    let n = z.n;
-    let d = z.d;
-    let s = z.s;
+    let Shape {
+        sizes: panel,
+        group,
+    } = shape;
+    let n = panel.n;
+    let d = panel.d;
+    let s = panel.s;
     let cells = s * n;
     let bonds = n * d;
     let places = n * group.len;

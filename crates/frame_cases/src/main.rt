@@ -4,113 +4,84 @@
 
 ghost use Rattle.std.specs.Prelude.{◌≡◌, ◌≤◌, length};
 
-use frame_lines::Written;
 use input::read_full;
+use std::alloc::{AllocError, Global};
 use std::io;
 use std::io::Read;
 
-// 65,536 zeros. The `ensures` gives only the length, which lending the array as a slice needs.
-fn large_buffer() -> [u8; 65536]
-    ensures { 65536 ≡ length result }
-{
-    [0; 65536]
-}
-
-#[derive(Clone, Copy)]
+#[derive(Clone, Copy, Debug, PartialEq, Eq)]
 enum Verdict {
-    Ended,
     Agrees,
     Differs,
 }
 
-fn digit(b: u8) -> usize
-    ensures { result ≤ 9 }
-{
-    if b < 48 {
-        return 0;
-    }
-    if 57 < b {
-        return 0;
-    }
-    (b - 48) as usize
-}
-
-fn number(a: u8, b: u8, c: u8, d: u8, e: u8) -> usize
-    ensures { result ≤ 99999 }
-{
-    10000 * digit(a) + 1000 * digit(b) + 100 * digit(c) + 10 * digit(d) + digit(e)
+// A byte that is no digit reads as 0.
+fn number(digits: &[u8]) -> usize {
+    let value = |digit: u8| char::from(digit).to_digit(10).unwrap_or(0) as usize;
+    digits.iter().fold(0usize, |number, &digit| {
+        number.saturating_mul(10).saturating_add(value(digit))
+    })
 }
 
 fn compare(text: &[u8], want: &[u8]) -> Verdict {
     let mut out = [0u8; 8192];
-    let w = frame::run(text, &mut out);
-    if let Written::Wrote(m) = w {
-        if check::same(&out[..m], want) {
-            return Verdict::Agrees;
+    match frame::run(text, &mut out) {
+        Some(m) if &out[..m] == want => Verdict::Agrees,
+        _ => Verdict::Differs,
+    }
+}
+
+// Room for one case at a time: a text and its answer.
+#[derive(Debug, Drop)]
+struct Room {
+    text: Vec<u8>,
+    want: Vec<u8>,
+}
+
+impl Room {
+    fn new(alloc: Global) -> Result<Room, AllocError> {
+        Ok(Room {
+            text: vec![in alloc; 0u8; 65536]?,
+            want: vec![in alloc; 0u8; 8192]?,
+        })
+    }
+
+    // No verdict where the input has ended. A case for which there is no room differs.
+    fn next<R: Read>(&mut self, input: &mut R) -> io::Result<Option<Verdict>> {
+        let mut head = [0u8; 12];
+        if read_full(input, &mut head)? < head.len() {
+            return Ok(None);
         }
+        let n = number(&head[..5]);
+        let m = number(&head[6..11]);
+        if self.text.len() < n || self.want.len() < m {
+            return Ok(Some(Verdict::Differs));
+        }
+        let text = &mut self.text[..n];
+        let want = &mut self.want[..m];
+        read_full(input, text)?;
+        read_full(input, want)?;
+        Ok(Some(compare(text, want)))
     }
-    Verdict::Differs
 }
 
-fn take_case<R: Read>(stdin: &mut R, text: &mut [u8], want: &mut [u8]) -> io::Result<Verdict> {
-    read_full(stdin, text)?;
-    read_full(stdin, want)?;
-    Ok(compare(text, want))
-}
-
-fn next<R: Read>(stdin: &mut R, text: &mut [u8], want: &mut [u8]) -> io::Result<Verdict> {
-    let mut head = [0u8; 12];
-    let got = read_full(stdin, &mut head)?;
-    if got < 12 {
-        return Ok(Verdict::Ended);
-    }
-    let n = number(head[0], head[1], head[2], head[3], head[4]);
-    let m = number(head[6], head[7], head[8], head[9], head[10]);
-    if text.len() < n {
-        return Ok(Verdict::Differs);
-    }
-    if want.len() < m {
-        return Ok(Verdict::Differs);
-    }
-    take_case(stdin, &mut text[..n], &mut want[..m])
-}
-
-fn report(rt: &impl Print, agree: u32, differ: u32) -> io::Result<()> {
-    println!(rt; "{agree} agree, {differ} differ")
-}
-
-// Says which case differs, counted from 0.
-fn differs(rt: &impl Print, at: u32) -> io::Result<()> {
-    println!(rt; "differs: {at}")
-}
-
-// The count of turns makes the loop end, whatever the input.
-fn run_cases<R: Read>(
-    rt: &impl Print,
-    stdin: &mut R,
-    text: &mut [u8],
-    want: &mut [u8],
-) -> io::Result<()> {
+// Says which case differs, counted from 0. No input has more than a million cases.
+fn run_cases<R: Read>(rt: &impl Print, mut room: Room, input: &mut R) -> io::Result<()> {
     let mut agree = 0u32;
     let mut differ = 0u32;
-    let mut turns = 1000000u32;
-    while turns > 0 {
-        turns -= 1;
-        let c = next(stdin, text, want)?;
-        match c {
-            Verdict::Ended => turns = 0,
-            Verdict::Agrees => agree += 1,
-            Verdict::Differs => {
-                differs(rt, agree + differ)?;
-                differ += 1;
+    for at in 0..1000000 {
+        match room.next(input)? {
+            None => break,
+            Some(Verdict::Agrees) => agree = agree.saturating_add(1),
+            Some(Verdict::Differs) => {
+                println!(rt; "differs: {at}")?;
+                differ = differ.saturating_add(1);
             }
         }
     }
-    report(rt, agree, differ)
+    println!(rt; "{agree} agree, {differ} differ")
 }
 
 fn main(rt: HostRuntime) -> io::Result<()> {
-    let mut text = large_buffer();
-    let mut want = [0u8; 8192];
-    run_cases(&rt, &mut rt.stdin(), &mut text, &mut want)
+    run_cases(&rt, Room::new(rt.alloc())?, &mut rt.stdin())
 }

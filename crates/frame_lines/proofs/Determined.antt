@@ -4,8 +4,8 @@ use Rattle.std.proofs.Common.{sym, ◌∙◌, ap, arith}
 use Rattle.std.proofs.Math.Decide.{dec_lt}
 use Rattle.paper.specs.Refusal.Rule.{broken_not_kept}
 use Rattle.paper.specs.Answer.Frame.{refusal}
-use Rattle.frame_lines.specs.declared.Written.{Written}
-use Rattle.frame_lines.specs.declared.Written.TheVariants.{Wrote, NoRoom}
+use Rattle.frame_lines.specs.Outcome.{Written}
+use Rattle.frame_lines.specs.Outcome.Written.{Wrote, NoRoom}
 use Rattle.frame_lines.specs.Writing.{room_rules, WrittenAs, RefusalAs, count, result_of}
 use Rattle.frame_lines.specs.Determined.{SameWritten}
 

@@ -10,9 +10,7 @@ use Rattle.paper.specs.Answer.Frame.{bytes, words, signed, Frame, FrameSizes, fr
 use Rattle.frame_lines.specs.declared.Places.{Places}
 use Rattle.frame_lines.specs.Spelling.{spelling_kept, spelling_rules}
 use Rattle.frame_lines.specs.Scan.{lattice_of, group_in, Placed}
-use Rattle.frame_lines.specs.Reading.{Held, Readout, ReadAs, no_group}
-use Rattle.frame_lines.specs.declared.Frames.{Frames}
-use Rattle.frame_lines.specs.declared.Found.TheVariants.{Fault}
+use Rattle.frame_lines.specs.Reading.{Held, Misread, Readout, no_group}
 use Rattle.frame_lines.proofs.Steps.{bare}
 
 module _ {t : List ℕ} {p : Places} (k : Placed t p) where
@@ -67,5 +65,5 @@ module _ {t : List ℕ} {p : Places} (k : Placed t p) where
       len : g.len ≡ p.len
       len = ap (λ (h : Group). h.len) e ∙ group_there.long
 
-pub misread : (t : List ℕ) (b : Held) (r : ℕ) (f : Frames) → f ≡ record { found = Fault r; group = no_group } → Broken (spelling_rules t) r → ReadAs t b f b
-misread t b r f e w = rw e (record { why = w; group = refl; kept = refl })
+pub misread : (t : List ℕ) (b : Held) (r : ℕ) → Broken (spelling_rules t) r → Misread t b r no_group b
+misread t b r w = record { why = w; group = refl; kept = refl }

@@ -5,10 +5,9 @@ use Rattle.paper.specs.declared.Group.{Group}
 use Rattle.paper.specs.Refusal.Rule.{broken_unique, broken_not_kept}
 use Rattle.paper.specs.Answer.Frame.{bytes, words, signed}
 use Rattle.frame_lines.specs.declared.Sizes.{Sizes}
-use Rattle.frame_lines.specs.declared.Found.{Found}
-use Rattle.frame_lines.specs.declared.Found.TheVariants.{Fault, Panel}
-use Rattle.frame_lines.specs.declared.Frames.{Frames}
-use Rattle.frame_lines.specs.declared.Written.{Written}
+use Rattle.frame_lines.specs.Outcome.{Found, Frames}
+use Rattle.frame_lines.specs.Outcome.Found.{Fault, Panel}
+use Rattle.frame_lines.specs.Outcome.{Written}
 use Rattle.frame_lines.specs.Spelling.{line2, line3, line5, spelling_rules}
 use Rattle.frame_lines.specs.Reading.{Held, FoundAs, ReadAs}
 

@@ -1,4 +1,5 @@
 -- Answers first, then digits to words and lines; reading, writing and the way back; that each promise allows one answer.
+pub mod Outcome
 pub mod Number
 pub mod Words
 pub mod Lines

@@ -1,9 +1,9 @@
 -- What each case of an answer stands for: its number, 0 where the call is accepted, and its values.
 use Rattle.std.specs.Prelude.{ℕ, List, [], ◌∷◌}
-use Rattle.frame_lines.specs.declared.Found.{Found}
-use Rattle.frame_lines.specs.declared.Found.TheVariants.{Fault, Panel}
-use Rattle.frame_lines.specs.declared.Written.{Written}
-use Rattle.frame_lines.specs.declared.Written.TheVariants.{Wrote, NoRoom}
+use Rattle.frame_lines.specs.Outcome.{Found}
+use Rattle.frame_lines.specs.Outcome.Found.{Fault, Panel}
+use Rattle.frame_lines.specs.Outcome.{Written}
+use Rattle.frame_lines.specs.Outcome.Written.{Wrote, NoRoom}
 
 -- of a text that is read: the paper's number. The sizes that a panel comes with are those of `Readout`
 abbrev pub found_number : Found → ℕ

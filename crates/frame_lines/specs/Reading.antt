@@ -1,5 +1,5 @@
 -- What reading a text answers and leaves in the lent buffers.
-use Rattle.std.specs.Prelude.{ℕ, ◌*◌, ◌≤◌, ◌≡◌, List, [], ◌++◌, map, drop, replicate, ℤ}
+use Rattle.std.specs.Prelude.{ℕ, ◌*◌, ◌≤◌, ◌≡◌, List, [], ◌++◌, map, drop, replicate, ℤ, Result, Ok, Err}
 use Rattle.paper.specs.declared.Group.{Group}
 use Rattle.paper.specs.Refusal.Rule.{Broken}
 use Rattle.paper.specs.Refusal.Verdict.{Verdict}
@@ -9,9 +9,9 @@ use Rattle.frame_lines.specs.Spelling.{line2, line3, line5, spelling_rules}
 use Rattle.frame_lines.specs.Scan.{sizes_in, Placed}
 use Rattle.frame_lines.specs.declared.Sizes.{Sizes}
 use Rattle.frame_lines.specs.declared.Places.{Places}
-use Rattle.frame_lines.specs.declared.Found.{Found}
-use Rattle.frame_lines.specs.declared.Found.TheVariants.{Fault, Panel}
-use Rattle.frame_lines.specs.declared.Frames.{Frames}
+use Rattle.frame_lines.specs.declared.Shape.{Shape}
+use Rattle.frame_lines.specs.Outcome.{Found, Frames}
+use Rattle.frame_lines.specs.Outcome.Found.{Fault, Panel}
 
 -- room for the largest panel: 8 systems of 256 sites, 4 directions, groups of 8
 pub record AnyPanelFits (s f p : ℕ) : Type 0 where
@@ -33,6 +33,11 @@ pub record Held : Type 0 where
 -- the group of a text that is refused
 abbrev pub no_group : Group
 no_group = record { len = 0; systems = replicate 8 0 }
+
+-- what `read` answers, with the group of a text that is refused
+abbrev pub frames_of : Result Shape ℕ → Frames
+frames_of (Ok shape) = record { found = Panel shape.sizes; group = shape.group }
+frames_of (Err r) = record { found = Fault r; group = no_group }
 
 -- the first broken rule has the number r, and nothing is written
 pub record Misread (text : List ℕ) (b : Held) (r : ℕ) (g : Group) (a : Held) : Type 0 where

@@ -11,12 +11,10 @@ use Rattle.frame_lines.specs.Lines.{byte_at, line_of, line_next}
 use Rattle.frame_lines.specs.Spelling.{line2, line3, line4, line5, Spelling, spelling_rules}
 use Rattle.frame_lines.specs.declared.Sizes.{Sizes}
 use Rattle.frame_lines.specs.declared.Places.{Places}
-use Rattle.frame_lines.specs.declared.Scanned.{Scanned}
-use Rattle.frame_lines.specs.declared.Scanned.TheVariants.{Wrong, Whole}
-use Rattle.frame_lines.specs.declared.Line.{Line}
-use Rattle.frame_lines.specs.declared.Line.TheVariants.{Bad, Good}
-use Rattle.frame_lines.specs.declared.Next.{Next}
-use Rattle.frame_lines.specs.declared.Next.TheVariants.{Nowhere, At}
+use Rattle.frame_lines.specs.Outcome.{Scanned, Line, Next}
+use Rattle.frame_lines.specs.Outcome.Scanned.{Wrong, Whole}
+use Rattle.frame_lines.specs.Outcome.Line.{Bad, Good}
+use Rattle.frame_lines.specs.Outcome.Next.{Nowhere, At}
 
 -- a frame at the place a, behind which the next line begins at p
 pub record Passed (tag m : ℕ) (t : List ℕ) (a p : ℕ) : Type 0 where

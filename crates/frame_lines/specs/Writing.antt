@@ -10,8 +10,8 @@ use Rattle.paper.specs.Panel.Made.{buffers_of}
 use Rattle.paper.specs.Refusal.Rule.{Rule, rule}
 use Rattle.paper.specs.Refusal.Verdict.{Verdict}
 use Rattle.paper.specs.Answer.Frame.{digit, hex, line, result, refusal, two_bytes, spin_byte}
-use Rattle.frame_lines.specs.declared.Written.{Written}
-use Rattle.frame_lines.specs.declared.Written.TheVariants.{Wrote, NoRoom}
+use Rattle.frame_lines.specs.Outcome.{Written}
+use Rattle.frame_lines.specs.Outcome.Written.{Wrote, NoRoom}
 use Rattle.frame_lines.specs.Number.{written_number, written_values}
 use Rattle.frame_text.specs.Digits.{Below, hex_length}
 use Rattle.frame_lines.specs.Words.{two_bytes_length}

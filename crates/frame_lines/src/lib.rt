@@ -6,9 +6,10 @@ mod lines;
 mod put;
 mod scan;
 
-ghost use Rattle.std.specs.Prelude.{◌≡◌, length};
+ghost use Rattle.std.specs.Prelude.{length};
+ghost use Rattle.frame_lines.specs.Outcome.{written_of};
 ghost use Rattle.frame_lines.specs.Writing.{TwoByte, result_of, WrittenAs, RefusalAs};
-ghost use Rattle.frame_lines.specs.Reading.{AnyPanelFits, LinesFit, no_group, ReadAs};
+ghost use Rattle.frame_lines.specs.Reading.{AnyPanelFits, LinesFit, frames_of, Readout, ReadAs};
 
 use fill::{fill_bytes, fill_spins, fill_words, read_group};
 use paper::Group;
@@ -23,25 +24,11 @@ pub struct Sizes {
     pub s: usize,
 }
 
-// What a text is: refused with a number, or a panel of these sizes.
+// What a text says beside its tables.
 #[derive(Clone, Copy)]
-pub enum Found {
-    Fault(u8),
-    Panel(Sizes),
-}
-
-// With the group, which a refused text has not: then it is empty.
-#[derive(Clone, Copy)]
-pub struct Frames {
-    pub found: Found,
+pub struct Shape {
+    pub sizes: Sizes,
     pub group: Group,
-}
-
-// So many bytes are written; or there is no room for the answer, and nothing is written.
-#[derive(Clone, Copy)]
-pub enum Written {
-    Wrote(usize),
-    NoRoom,
 }
 
 // Where the lines of a text that is spelt well begin.
@@ -55,51 +42,21 @@ struct Places {
     perms: usize,
 }
 
+// A line: so many bytes are behind its tag, and where the next begins.
 #[derive(Clone, Copy)]
-enum Scanned {
-    Wrong(u8),
-    Whole(Places),
+struct FrameLine {
+    count: usize,
+    next: usize,
 }
 
-// A line at a place of the text: no frame of the tag asked for, or one of so many bytes behind the tag, and where the next begins.
-#[derive(Clone, Copy)]
-enum Line {
-    Bad,
-    Good(usize, usize),
-}
-
-#[derive(Clone, Copy)]
-enum Next {
-    Nowhere,
-    At(usize),
-}
-
-fn faulty(r: u8) -> Frames
-    ensures { result ≡ record { found = Found.Fault r; group = no_group } }
-{
-    let group = Group {
-        len: 0,
-        systems: [0; 8],
-    };
-    Frames {
-        found: Found::Fault(r),
-        group,
-    }
-}
-
-fn read_places(
-    text: &[u8],
-    p: Places,
-    spins: &mut [i8],
-    fwd: &mut [u32],
-    perms: &mut [u8],
-) -> Frames
+fn read_places(text: &[u8], p: Places, spins: &mut [i8], fwd: &mut [u32], perms: &mut [u8]) -> Shape
     requires { LinesFit text.now p (length spins.old) (length fwd.old) (length perms.old) }
-    ensures { ReadAs
+    ensures { Readout
         text.now
-        (record { spins = spins.entry.now; fwd = fwd.old; perms = perms.old })
-        result
-        (record { spins = spins.exit.now; fwd = fwd.new; perms = perms.new }) }
+        (record { spins = spins.old; fwd = fwd.old; perms = perms.old })
+        result.sizes
+        result.group
+        (record { spins = spins.new; fwd = fwd.new; perms = perms.new }) }
 {
     let sizes = p.sizes;
     let len = p.len;
@@ -107,64 +64,60 @@ fn read_places(
     fill_words(text, p.fwd, sizes.n * sizes.d, fwd);
     fill_bytes(text, p.perms, sizes.n * len, perms);
     let group = read_group(text, p.group, len);
-    Frames {
-        found: Found::Panel(sizes),
-        group,
-    }
+    Shape { sizes, group }
 }
 
 // The rules on spelling and sizes are tested first; then the spins, the neighbours and the permutations are written from the front of their buffers.
-pub fn read(text: &[u8], spins: &mut [i8], fwd: &mut [u32], perms: &mut [u8]) -> Frames
+pub fn read(text: &[u8], spins: &mut [i8], fwd: &mut [u32], perms: &mut [u8]) -> Result<Shape, u8>
     requires { AnyPanelFits (length spins.old) (length fwd.old) (length perms.old) }
     ensures { ReadAs
         text.now
-        (record { spins = spins.entry.now; fwd = fwd.old; perms = perms.old })
-        result
-        (record { spins = spins.exit.now; fwd = fwd.new; perms = perms.new }) }
+        (record { spins = spins.old; fwd = fwd.old; perms = perms.old })
+        (frames_of result)
+        (record { spins = spins.new; fwd = fwd.new; perms = perms.new }) }
 {
-    match scan(text) {
-        Scanned::Wrong(r) => faulty(r),
-        Scanned::Whole(p) => read_places(text, p, spins, fwd, perms),
-    }
+    let places = scan(text)?;
+    Ok(read_places(text, places, spins, fwd, perms))
 }
 
-// The three lines of an accepted move.
-pub fn write(labels: &[u32], counts: &[u32], spins: &[i8], out: &mut [u8]) -> Written
+// The three lines of an accepted move, and how many bytes they are. Where there is no room for them, nothing is written.
+pub fn write(labels: &[u32], counts: &[u32], spins: &[i8], out: &mut [u8]) -> Option<usize>
     requires { TwoByte labels.now counts.now }
-    ensures { WrittenAs (result_of labels.now counts.now spins.now) out.old result out.new }
+    ensures { WrittenAs (result_of labels.now counts.now spins.now) out.old (written_of result) out.new }
 {
     // No sum here can wrap, however long the slices are.
     let words = 4 * labels.len() + 4 * counts.len() + 6;
     if out.len() < words {
-        return Written::NoRoom;
+        return None;
     }
     let left = out.len() - words;
     if left < 3 {
-        return Written::NoRoom;
+        return None;
     }
     if (left - 3) / 2 < spins.len() {
-        return Written::NoRoom;
+        return None;
     }
     let second = put_words(0x20, labels, out, 0);
     let third = put_words(0x21, counts, out, second);
     let end = put_spins(0x22, spins, out, third);
-    Written::Wrote(end)
+    Some(end)
 }
 
-// The one line of a refusal, with its number in two decimal digits. They have no room for a number from 100 on: then nothing is written.
-pub fn write_refusal(r: u8, out: &mut [u8]) -> Written
-    ensures { RefusalAs r out.old result out.new }
+// The one line of a refusal, with its number in two decimal digits, and how many bytes it is. Two digits have no room for a number from 100 on: then
+// nothing is written.
+pub fn write_refusal(r: u8, out: &mut [u8]) -> Option<usize>
+    ensures { RefusalAs r out.old (written_of result) out.new }
 {
     if 99 < r {
-        return Written::NoRoom;
+        return None;
     }
     if out.len() < 5 {
-        return Written::NoRoom;
+        return None;
     }
     out[0] = b'2';
     out[1] = b'f';
     out[2] = b'0' + r / 10;
     out[3] = b'0' + r % 10;
     out[4] = b'\n';
-    Written::Wrote(5)
+    Some(5)
 }

@@ -2,9 +2,10 @@
 ghost use Rattle.std.specs.Prelude.{◌≡◌, ◌≤◌, length};
 ghost use Rattle.frame_text.specs.Digits.{Digit, Valued};
 ghost use Rattle.frame_lines.specs.Lines.{byte_at, word_at, TwoDigits, FourDigits};
+ghost use Rattle.frame_lines.specs.Outcome.{line_found, next_found};
 ghost use Rattle.frame_lines.specs.Scan.{LineAt, AfterAs};
 
-use super::{Line, Next};
+use super::FrameLine;
 use frame_text::digits_end;
 
 fn value(a: u8) -> u8
@@ -27,43 +28,44 @@ pub(crate) fn word_at(text: &[u8], p: usize) -> u32
 {
     let high = byte_at(text, p);
     let low = byte_at(text, p + 2);
-    256 * (high as u32) + (low as u32)
+    256 * u32::from(high) + u32::from(low)
 }
 
-pub(crate) fn line_at(text: &[u8], at: usize, tag: u8) -> Line
+pub(crate) fn line_at(text: &[u8], at: usize, tag: u8) -> Option<FrameLine>
     requires { at ≤ length text.now }
-    ensures { LineAt tag text.now at result }
+    ensures { LineAt tag text.now at (line_found result) }
 {
     let e = digits_end(text, at);
     if e == text.len() {
-        return Line::Bad;
+        return None;
     }
     if text[e] != b'\n' {
-        return Line::Bad;
+        return None;
     }
     let w = (e - at) / 2;
     if w < 1 {
-        return Line::Bad;
+        return None;
     }
     if at + 2 * w != e {
-        return Line::Bad;
+        return None;
     }
     if byte_at(text, at) != tag {
-        return Line::Bad;
+        return None;
     }
-    Line::Good(w - 1, e + 1)
+    Some(FrameLine {
+        count: w - 1,
+        next: e + 1,
+    })
 }
 
 // The place behind a frame of the tag and of m bytes.
-pub(crate) fn after(text: &[u8], at: usize, tag: u8, m: usize) -> Next
+pub(crate) fn after(text: &[u8], at: usize, tag: u8, m: usize) -> Option<usize>
     requires { at ≤ length text.now }
-    ensures { AfterAs tag m text.now at result }
+    ensures { AfterAs tag m text.now at (next_found result) }
 {
-    let Line::Good(count, next) = line_at(text, at, tag) else {
-        return Next::Nowhere;
-    };
-    if count != m {
-        return Next::Nowhere;
+    let line = line_at(text, at, tag)?;
+    if line.count != m {
+        return None;
     }
-    Next::At(next)
+    Some(line.next)
 }

@@ -34,10 +34,8 @@ pub(crate) fn put_words(tag: u8, xs: &[u32], out: &mut [u8], at: usize) -> usize
     ensures { Put (line tag (two_bytes xs.now)) out.old at result out.new }
 {
     put_byte(tag, out, at);
-    let mut k = 0;
-    while k < xs.len() {
-        put_word(xs[k], out, at + 4 * k + 2);
-        k += 1;
+    for (k, &x) in xs.iter().enumerate() {
+        put_word(x, out, at + 4 * k + 2);
     }
     let end = at + 4 * xs.len() + 2;
     out[end] = b'\n';
@@ -47,11 +45,7 @@ pub(crate) fn put_words(tag: u8, xs: &[u32], out: &mut [u8], at: usize) -> usize
 fn spin_byte(z: i8) -> u8
     ensures { result ≡ spin_byte z }
 {
-    if z < 0 {
-        255 - ((-1 - z) as u8)
-    } else {
-        z as u8
-    }
+    z.cast_unsigned()
 }
 
 pub(crate) fn put_spins(tag: u8, xs: &[i8], out: &mut [u8], at: usize) -> usize
@@ -59,10 +53,8 @@ pub(crate) fn put_spins(tag: u8, xs: &[i8], out: &mut [u8], at: usize) -> usize
     ensures { Put (line tag (map spin_byte xs.now)) out.old at result out.new }
 {
     put_byte(tag, out, at);
-    let mut k = 0;
-    while k < xs.len() {
-        put_byte(spin_byte(xs[k]), out, at + 2 * k + 2);
-        k += 1;
+    for (k, &spin) in xs.iter().enumerate() {
+        put_byte(spin_byte(spin), out, at + 2 * k + 2);
     }
     let end = at + 2 * xs.len() + 2;
     out[end] = b'\n';

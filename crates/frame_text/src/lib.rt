@@ -3,7 +3,7 @@
 
 ghost use Rattle.std.specs.Prelude.{◌≤◌, length};
 ghost use Rattle.lemmas.specs.Tells.{Tells};
-ghost use Rattle.frame_text.specs.Digits.{Letter, Digit};
+ghost use Rattle.frame_text.specs.Digits.{Digit};
 ghost use Rattle.frame_text.specs.Line.{DigitsEnd, LineStart};
 ghost use Rattle.frame_text.specs.Cut.{CutAs};
 
@@ -20,30 +20,10 @@ const HEAD: usize = 16384;
 // So many digits are too many for every frame; and no line behind them begins early.
 const LONG: usize = 16384;
 
-// a to f are the codes 97 to 102.
-fn is_letter(a: u8) -> bool
-    ensures { Tells result (Letter a) }
-{
-    if a < 97 {
-        return false;
-    }
-    if a < 103 {
-        return true;
-    }
-    false
-}
-
-// 0 to 9 are the codes 48 to 57.
 fn is_digit(a: u8) -> bool
     ensures { Tells result (Digit a) }
 {
-    if a < 48 {
-        return false;
-    }
-    if a < 58 {
-        return true;
-    }
-    is_letter(a)
+    matches!(a, b'0'..=b'9' | b'a'..=b'f')
 }
 
 // Where the digits that begin at a place end.
@@ -51,26 +31,22 @@ pub fn digits_end(text: &[u8], at: usize) -> usize
     requires { at ≤ length text.now }
     ensures { DigitsEnd text.now at result }
 {
-    let mut e = at;
-    while e < text.len() {
-        if !is_digit(text[e]) {
-            return e;
+    for end in at..text.len() {
+        if !is_digit(text[end]) {
+            return end;
         }
-        e += 1;
     }
-    e
+    text.len()
 }
 
 // Where the last line begins.
 fn line_start(text: &[u8]) -> usize
     ensures { LineStart text.now result }
 {
-    let mut i = text.len();
-    while 0 < i {
-        if text[i - 1] == b'\n' {
-            return i;
+    for i in (0..text.len()).rev() {
+        if text[i] == b'\n' {
+            return i + 1;
         }
-        i -= 1;
     }
     0
 }

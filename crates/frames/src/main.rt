@@ -3,7 +3,6 @@
 
 ghost use Rattle.std.specs.Prelude.{◌≡◌, length};
 
-use frame_lines::Written;
 use frame_text::Part;
 use input::read_full;
 use std::io;
@@ -18,8 +17,7 @@ fn large_buffer() -> [u8; 65536]
 // The longest answer has 6,157 bytes.
 fn answer(rt: &impl Print, text: &[u8]) -> io::Result<()> {
     let mut out = [0u8; 8192];
-    let w = frame::run(text, &mut out);
-    if let Written::Wrote(m) = w {
+    if let Some(m) = frame::run(text, &mut out) {
         rt.write_all(&out[..m])?;
     }
     Ok(())
@@ -31,17 +29,12 @@ fn main(rt: HostRuntime) -> io::Result<()> {
     let mut text = large_buffer();
     let mut stdin = rt.stdin();
     let mut len = 0;
-    let mut turn: u64 = 0;
-    while turn < 1000000000000 {
+    for _ in 0..1000000000000u64 {
         let n = read_full(&mut stdin, &mut text[len..])?;
-        let part = frame_text::cut(&text, len + n);
-        match part {
+        match frame_text::cut(&text, len + n) {
             Part::Enough(m) => return answer(&rt, &text[..m]),
-            Part::More(m) => {
-                len = m;
-            }
+            Part::More(m) => len = m,
         }
-        turn += 1;
     }
     Ok(())
 }

@@ -11,8 +11,7 @@ use Rattle.lemmas.specs.Places.{Placed, Unplaced, place}
 use Rattle.paper.specs.declared.Task.{Task}
 use Rattle.paper.specs.declared.Mode.{Mode}
 use Rattle.paper.specs.declared.Mode.TheVariants.{Houd, Pair, Perm, Gperm, Jorg, Cmr}
-use Rattle.paper.specs.declared.Answer.{Answer}
-use Rattle.paper.specs.declared.Answer.TheVariants.{Refused, Idle, Held, Moved}
+use Rattle.paper.specs.Answer.Cases.{Answer, Answer.Refused, Answer.Idle, Answer.Held, Answer.Moved}
 use Rattle.paper.specs.Panel.Input.{Call, Choices, Pattern, pinned, pattern, graph}
 use Rattle.paper.specs.Panel.Made.{call_of, choices_of}
 use Rattle.paper.specs.Panel.Takes.{is_cmr, perms_by, greys_by, takes_greys}
@@ -32,7 +31,7 @@ use Rattle.judge.specs.Judged.{Growable}
 use Rattle.judge.specs.Laws.{growable}
 use Rattle.turn.specs.Turned.{bare, acted_to, turned_to, OneCluster, Chooses, Turnable}
 use Rattle.turn.specs.Laws.{act_any, grey_any}
-use Rattle.grow.specs.Formed.{one_cluster_lem, reached_grown, is_cmr_lem, and_yes, not-true, none_flips, grown_greys, grown_perms, grown_entries}
+use Rattle.grow.specs.Formed.{one_cluster_lem, reached_grown, is_cmr_lem, and_yes, not_true, none_flips, grown_greys, grown_perms, grown_entries}
 use Rattle.grow.specs.Listed.{is_in, site_at}
 use Rattle.grow.specs.Kept.{Kept}
 use Rattle.grow.specs.Spread.{cluster_site, cluster_joined}
@@ -314,7 +313,7 @@ module _ (t : Task) (fwd bwd pins : List ℕ) (js : List ℤ) (cuts : List Float
 
     module _ (none : SeedHeld c xs → ⊥) {ys : List ℤ} (w : TurnedFree t pins choices greys l blue len xs ys) where
       free : has_one (pinned c) g.blues 1 ≡ false
-      free = not-true (has_one (pinned c) g.blues 1) (λ e. none ((held_members c xs seed_lt g.blues g.first.members).0 e))
+      free = not_true (has_one (pinned c) g.blues 1) (λ e. none ((held_members c xs seed_lt g.blues g.first.members).0 e))
 
       moved : Moves c p xs g.blues m ys
       moved = record {

@@ -6,8 +6,7 @@ use Rattle.lemmas.specs.Bools.{never}
 use Rattle.lemmas.specs.Counts.{count_where}
 use Rattle.lemmas.specs.Determined.{clear_determined}
 use Rattle.lemmas.specs.Places.{Placed}
-use Rattle.paper.specs.declared.Answer.{Answer}
-use Rattle.paper.specs.declared.Answer.TheVariants.{Refused, Idle, Held, Moved}
+use Rattle.paper.specs.Answer.Cases.{Answer, Answer.Refused, Answer.Idle, Answer.Held, Answer.Moved}
 use Rattle.paper.specs.declared.Group.{Group}
 use Rattle.paper.specs.declared.Task.{Task}
 use Rattle.paper.specs.Panel.Input.{Lattice, Call, Choices, graph}

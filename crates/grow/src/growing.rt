@@ -84,8 +84,7 @@ fn visit(
     let d = t.d;
     let base = i * d;
     let mut len = start;
-    let mut e = 0;
-    while e < d {
+    for e in 0..d {
         let to = wide(fwd[base + e]);
         if members[to] != 1 {
             let ahead = Bond(i, e);
@@ -100,7 +99,6 @@ fn visit(
                 rule, spins, members, list, cols, len, own, from, back, couplings, cuts,
             );
         }
-        e += 1;
     }
     len
 }
@@ -197,13 +195,7 @@ pub(crate) fn grow_cluster(
         let len = spread(
             both, spins, fwd, bwd, couplings, cuts, members, list, cols, blue,
         );
-        return Grown {
-            blue: blue,
-            len: len,
-        };
+        return Grown { blue, len };
     }
-    Grown {
-        blue: blue,
-        len: blue,
-    }
+    Grown { blue, len: blue }
 }

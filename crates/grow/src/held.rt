@@ -13,11 +13,8 @@ pub(crate) fn some_pinned(pins: &[u8], list: &[u32], from: usize, to: usize) -> 
     ensures { Tells result (PinAmong pins.now list.now from to) }
 {
     let mut found = false;
-    let mut a = from;
-    while a < to {
-        let i = wide(list[a]);
-        found = found | (pins[i] == 1);
-        a += 1;
+    for &site in &list[from..to] {
+        found |= pins[wide(site)] == 1;
     }
     found
 }

@@ -6,6 +6,7 @@ ghost use Rattle.paper.specs.Panel.Made.{lattice_of, call_of, choices_of};
 ghost use Rattle.paper.specs.Panel.Takes.{keeps_by};
 ghost use Rattle.paper.specs.Answer.Move.{Answers};
 ghost use Rattle.paper.specs.Answer.Totals.{TotalsReady, TotalsAfter};
+ghost use Rattle.paper.specs.Answer.Cases.{answer_by};
 ghost use Rattle.grow.specs.Kept.{Keeping};
 ghost use Rattle.grow.specs.Finding.{Findable, Finds};
 ghost use Rattle.grow.specs.Task.{Outputs, with_outputs, GrowAsks};
@@ -17,14 +18,14 @@ pub mod write;
 use growing::grow_cluster;
 use held::{choose_cluster, some_pinned};
 use lemmas::bytes::clear;
-use paper::{Answer, Task};
+use paper::{Outcome, Task};
 use write::write_cluster;
 
 // What finding a cluster comes to: what the move answers, how many sites of the list the bonds join to the seed, in CMR the blue ones, and how many
 // members there are.
 #[derive(Clone, Copy)]
 pub struct Found {
-    pub answer: Answer,
+    pub answer: Outcome,
     pub blue: usize,
     pub len: usize,
 }
@@ -47,7 +48,7 @@ pub fn find(
         t fwd.now bwd.now pins.now spins.now couplings.now cuts.now (length members.old) (length list.old) (length cols.old) }
     ensures { Keeping (Finds
         (call_of t fwd.now bwd.now pins.now couplings.now cuts.now) spins.now
-        members.new list.new result.answer result.blue result.len)
+        members.new list.new (answer_by result.answer) result.blue result.len)
         t spins.now members.new cols.new }
 {
     let mode = t.mode;
@@ -55,7 +56,7 @@ pub fn find(
     if !column_rules::acts_at(mode, t.n, spins, group, t.reference, t.seed) {
         clear(members);
         return Found {
-            answer: Answer::Idle,
+            answer: Outcome::Idle,
             blue: 0,
             len: 0,
         };
@@ -63,13 +64,13 @@ pub fn find(
     let grown = grow_cluster(t, spins, fwd, bwd, couplings, cuts, members, list, cols);
     if some_pinned(pins, list, 0, grown.blue) {
         return Found {
-            answer: Answer::Held,
+            answer: Outcome::Held,
             blue: grown.blue,
             len: grown.len,
         };
     }
     Found {
-        answer: Answer::Moved,
+        answer: Outcome::Moved,
         blue: grown.blue,
         len: grown.len,
     }
@@ -90,7 +91,7 @@ pub fn run_grow(
     choices: &[u8],
     greys: &[u8],
     members: &mut [u8],
-) -> Answer
+) -> Outcome
     requires grow_asks { GrowAsks
         (call_of t fwd.now bwd.now pins.now couplings.now cuts.now) (choices_of choices.now greys.now) spins.old members.old }
     requires totals_ready { TotalsReady (keeps_by t.keeps t.form) (lattice_of t.n t.d t.s fwd.now bwd.now couplings.now) t.group totals.old }
@@ -98,7 +99,7 @@ pub fn run_grow(
         (call_of t fwd.now bwd.now pins.now couplings.now cuts.now)
         (choices_of choices.now greys.now)
         (with_outputs o spins.old members.old)
-        result
+        (answer_by result)
         (with_outputs o spins.new members.new) }
     ensures totals_after { TotalsAfter
         (keeps_by t.keeps t.form) (lattice_of t.n t.d t.s fwd.now bwd.now couplings.now)
@@ -110,7 +111,7 @@ pub fn run_grow(
         t, spins, fwd, bwd, pins, couplings, cuts, members, &mut list, &mut cols,
     );
     let answer = found.answer;
-    let Answer::Moved = answer else {
+    let Outcome::Moved = answer else {
         return answer;
     };
     let mut news = [0u8; 4096];
@@ -120,5 +121,5 @@ pub fn run_grow(
     write_cluster(
         t, spins, totals, fwd, bwd, couplings, members, &list, found.len, &mut cols, &mut news,
     );
-    Answer::Moved
+    Outcome::Moved
 }

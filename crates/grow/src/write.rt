@@ -25,8 +25,8 @@ pub fn write_cluster(
     news: &mut [u8],
 )
     requires writable { Writable t spins.old members.now list.now len (length news.old) }
-    requires when { When (keeps_by t.keeps t.form) (Bringable (lattice_for t fwd.now bwd.now couplings.now) t.group totals.old) }
-    requires when_2 { When (keeps_by t.keeps t.form) (OldsRead t.n t.group spins.old list.now len olds.old) }
+    requires bringable { When (keeps_by t.keeps t.form) (Bringable (lattice_for t fwd.now bwd.now couplings.now) t.group totals.old) }
+    requires olds_read { When (keeps_by t.keeps t.form) (OldsRead t.n t.group spins.old list.now len olds.old) }
     ensures list_written { ListWritten t.n t.group list.now len news.old spins.old spins.new }
     ensures totals_after { TotalsAfter
         (keeps_by t.keeps t.form) (lattice_for t fwd.now bwd.now couplings.now)

@@ -30,9 +30,9 @@ pub fn prepare(t: Task, grey: bool, spins: &[i8]) -> Rule
     let gauge = columns::gauge_at(mode, spins, t.n, group, t.reference);
     Rule {
         task: t,
-        grey: grey,
-        sampler: sampler,
-        gauge: gauge,
+        grey,
+        sampler,
+        gauge,
     }
 }
 

@@ -1,2 +1,3 @@
 -- What the entry's tests leave.
 mod Tested
+pub mod Determined

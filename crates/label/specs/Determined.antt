@@ -1,12 +1,11 @@
 -- How tight the promise is: what it allows for one input is one answer and one content of every lent buffer.
-use Rattle.std.specs.Prelude.{ℕ, ◌≡◌, refl, List}
+use Rattle.std.specs.Prelude.{ℕ, ◌≡◌, refl}
 use Rattle.std.proofs.Common.{sym, ◌∙◌, ap}
 use Rattle.paper.specs.Component.Marks.{marked}
 use Rattle.paper.specs.Refusal.Rule.{Kept, Broken, broken_unique, broken_not_kept}
 use Rattle.laws.specs.Unique.{numbered_unique}
 use Rattle.sizes.specs.Determined.{SameSizes, count_determined}
-use Rattle.label.specs.declared.Labelling.{Labelling}
-use Rattle.label.specs.declared.Labelling.TheVariants.{Unlabelled, Written}
+use Rattle.label.specs.Labelling.{Labelling, Labelling.Unlabelled, Labelling.Written}
 use Rattle.label.specs.Contract.{graph_of}
 use Rattle.label.specs.Entry.{Request, Lent, rules, Accepts, Answers}
 

@@ -3,8 +3,7 @@ use Rattle.std.specs.Prelude.{ℕ, ◌+◌, ◌*◌, ◌≤◌, ◌<◌, ◌≡�
 use Rattle.paper.specs.Refusal.Rule.{Rule, rule, Broken}
 use Rattle.paper.specs.Refusal.Rules.{Sizes}
 use Rattle.paper.specs.Refusal.Verdict.{Verdict}
-use Rattle.label.specs.declared.Labelling.{Labelling}
-use Rattle.label.specs.declared.Labelling.TheVariants.{Unlabelled, Written}
+use Rattle.label.specs.Labelling.{Labelling, Labelling.Unlabelled, Labelling.Written}
 use Rattle.label.specs.Contract.{Seen}
 
 pub record Request : Type 0 where

@@ -2,5 +2,6 @@
 pub mod Contract
 pub mod Totals
 pub mod Facts
+pub mod Labelling
 pub mod Entry
 pub mod Determined

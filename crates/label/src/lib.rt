@@ -5,9 +5,11 @@ ghost use Rattle.std.specs.Prelude.{◌≤◌, length};
 ghost use Rattle.lemmas.specs.Tells.{Tells};
 ghost use Rattle.label.specs.Contract.{LabelLent, Seen};
 ghost use Rattle.label.specs.Entry.{ExactLengths, Below, Answers};
+ghost use Rattle.label.specs.Labelling.{labelling_of};
 
 pub use forest::label;
 use lemmas::wide;
+use paper::Refusal;
 pub use sizes::count;
 
 fn exact(
@@ -39,10 +41,8 @@ fn all_below(xs: &[u32], n: usize) -> bool
     ensures { Tells result (Below n xs.now) }
 {
     let mut ok = true;
-    let mut i = 0;
-    while i < xs.len() {
-        ok = ok & (wide(xs[i]) < n);
-        i += 1;
+    for &x in xs {
+        ok &= wide(x) < n;
     }
     ok
 }
@@ -68,13 +68,6 @@ fn label_and_count(
     found
 }
 
-// A refusal with its number, or all is written.
-#[derive(Clone, Copy)]
-pub enum Labelling {
-    Unlabelled(u8),
-    Written,
-}
-
 // The labels, counts and four largest sizes of any tables, and how many components there are: what is no lattice is refused, and nothing is written.
 // A component is counted where the byte of its smallest site is 1; numbered are all.
 pub fn components(
@@ -87,15 +80,15 @@ pub fn components(
     counts: &mut [u32],
     sizes: &mut [u32],
     found: &mut [u32],
-) -> Labelling
+) -> Result<(), Refusal>
     ensures { Answers
         (record { n = n; d = d; fwd = fwd.now; holds = holds.now; counted = counted.now })
-        (record { labels = labels.entry.now; counts = counts.old; sizes = sizes.old; found = found.old })
-        result
-        (record { labels = labels.exit.now; counts = counts.new; sizes = sizes.new; found = found.new }) }
+        (record { labels = labels.old; counts = counts.old; sizes = sizes.old; found = found.old })
+        (labelling_of result)
+        (record { labels = labels.new; counts = counts.new; sizes = sizes.new; found = found.new }) }
 {
     if !lattice::sizes_ok(n, d, 1) {
-        return Labelling::Unlabelled(1);
+        return Err(Refusal::Sizes);
     }
     if !exact(
         n,
@@ -108,18 +101,18 @@ pub fn components(
         sizes.len(),
         found.len(),
     ) {
-        return Labelling::Unlabelled(2);
+        return Err(Refusal::Lengths);
     }
     if !all_below(fwd, n) {
-        return Labelling::Unlabelled(4);
+        return Err(Refusal::Tables);
     }
     if !lattice::bytes_at_most(holds, 1) {
-        return Labelling::Unlabelled(9);
+        return Err(Refusal::Choices);
     }
     if !lattice::bytes_at_most(counted, 1) {
-        return Labelling::Unlabelled(9);
+        return Err(Refusal::Choices);
     }
     let mut tally = [0u32; 4096];
     found[0] = label_and_count(n, d, fwd, holds, counted, labels, counts, sizes, &mut tally);
-    Labelling::Written
+    Ok(())
 }

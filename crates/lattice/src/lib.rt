@@ -30,12 +30,6 @@ use lemmas::wide;
 pub use neighbours::tables_ok;
 use paper::{Form, Group, Mode};
 
-fn size(x: u8) -> usize
-    ensures { result ≡ x }
-{
-    x as usize
-}
-
 // ---- test 1
 
 pub fn sizes_ok(n: usize, d: usize, s: usize) -> bool
@@ -81,10 +75,8 @@ pub fn spins_ok(spins: &[i8]) -> bool
     ensures { Tells result (AllSpins spins.now) }
 {
     let mut ok = true;
-    let mut i = 0;
-    while i < spins.len() {
-        ok = ok & spin_ok(spins[i]);
-        i += 1;
+    for &x in spins {
+        ok = ok & spin_ok(x);
     }
     ok
 }
@@ -98,10 +90,8 @@ fn fresh(group: Group, k: usize) -> bool
     let systems = group.systems;
     let x = systems[k];
     let mut ok = true;
-    let mut j = 0;
-    while j < k {
+    for j in 0..k {
         ok = ok & (systems[j] != x);
-        j += 1;
     }
     ok
 }
@@ -120,10 +110,8 @@ pub fn group_ok(s: usize, group: Group) -> bool
 {
     let len = group.len;
     let mut ok = true;
-    let mut k = 0;
-    while k < len {
+    for k in 0..len {
         ok = ok & alone(s, group, k);
-        k += 1;
     }
     ok
 }
@@ -153,12 +141,10 @@ pub fn order_ok(s: usize, order: &[u32]) -> bool
 {
     let mut ok = true;
     let mut marks = 0u64;
-    let mut k = 0;
-    while k < order.len() {
-        let x = wide(order[k]);
+    for &system in order {
+        let x = wide(system);
         ok = ok & free_below(s, x, marks);
         marks = marked_below(s, x, marks);
-        k += 1;
     }
     ok
 }
@@ -175,10 +161,8 @@ pub fn couplings_ok(js: &[i32]) -> bool
     ensures { Tells result (SmallCouplings js.now) }
 {
     let mut ok = true;
-    let mut i = 0;
-    while i < js.len() {
-        ok = ok & coupling_ok(js[i]);
-        i += 1;
+    for &j in js {
+        ok = ok & coupling_ok(j);
     }
     ok
 }
@@ -204,10 +188,8 @@ pub fn temperatures_ok(ts: &[f32]) -> bool
     ensures { Tells result ((j : ℕ) → j < length ts.now → Warm (get_or ts.now j nan)) }
 {
     let mut ok = true;
-    let mut i = 0;
-    while i < ts.len() {
-        ok = ok & temperature_ok(ts[i]);
-        i += 1;
+    for &t in ts {
+        ok = ok & temperature_ok(t);
     }
     ok
 }
@@ -225,10 +207,8 @@ pub fn cuts_ok(cuts: &[f32]) -> bool
     ensures { Tells result (Cuts cuts.now) }
 {
     let mut ok = true;
-    let mut i = 0;
-    while i < cuts.len() {
-        ok = ok & cut_ok(cuts[i]);
-        i += 1;
+    for &x in cuts {
+        ok = ok & cut_ok(x);
     }
     ok
 }
@@ -239,10 +219,8 @@ pub fn bytes_at_most(xs: &[u8], top: u8) -> bool
     ensures { Tells result ((k : ℕ) → k < length xs.now → get_or xs.now k 0 ≤ top) }
 {
     let mut ok = true;
-    let mut i = 0;
-    while i < xs.len() {
-        ok = ok & (xs[i] <= top);
-        i += 1;
+    for &x in xs {
+        ok = ok & (x <= top);
     }
     ok
 }
@@ -260,10 +238,8 @@ fn row_marks(m: usize, perms: &[u8], at: usize) -> u32
     ensures { Marked m (λ k. get_or perms.now (at + k) 0) m result }
 {
     let mut marks = 0u32;
-    let mut k = 0;
-    while k < m {
+    for k in 0..m {
         marks = marked(marks, perms[at + k]);
-        k += 1;
     }
     marks
 }
@@ -274,10 +250,8 @@ fn rows_full(rows: usize, m: usize, perms: &[u8]) -> bool
 {
     let full = (1u32 << m) - 1;
     let mut ok = true;
-    let mut r = 0;
-    while r < rows {
+    for r in 0..rows {
         ok = ok & (row_marks(m, perms, r * m) == full);
-        r += 1;
     }
     ok
 }
@@ -300,10 +274,8 @@ pub fn not_identity(row: &[u8]) -> bool
     ensures { Tells result (NotIdentity (length row.now) (λ k. get_or row.now k 0)) }
 {
     let mut moved = false;
-    let mut k = 0;
-    while k < row.len() {
-        moved = moved | (size(row[k]) != k);
-        k += 1;
+    for (k, &x) in row.iter().enumerate() {
+        moved = moved | (usize::from(x) != k);
     }
     moved
 }

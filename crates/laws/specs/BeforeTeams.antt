@@ -2,12 +2,9 @@
 -- an accepted call does was the same.
 use Rattle.std.specs.Prelude.{ℕ, ◌*◌, ◌≤◌, ◌<◌, ◌≡◌, Bool, List, [], ◌∷◌, ◌++◌, length, get_or, ℤ, nat_abs}
 use Rattle.std.specs.Float.{nan}
-use Rattle.paper.specs.declared.Answer.{Answer}
-use Rattle.paper.specs.declared.Answer.TheVariants.{Refused, Idle, Held, Moved}
-use Rattle.paper.specs.declared.MeterAnswer.{MeterAnswer}
-use Rattle.paper.specs.declared.MeterAnswer.TheVariants.{Unmetered, Energy}
-use Rattle.paper.specs.declared.SweepAnswer.{SweepAnswer}
-use Rattle.paper.specs.declared.SweepAnswer.TheVariants.{Fault, Swept}
+use Rattle.paper.specs.Answer.Cases.{Answer, Answer.Refused, Answer.Idle, Answer.Held, Answer.Moved}
+use Rattle.paper.specs.Answer.Cases.{MeterAnswer, MeterAnswer.Unmetered, MeterAnswer.Energy}
+use Rattle.paper.specs.Answer.Cases.{SweepAnswer, SweepAnswer.Fault, SweepAnswer.Swept}
 use Rattle.paper.specs.Panel.Input.{Lattice, Call, Choices, Buffers, size}
 use Rattle.paper.specs.Panel.Takes.{takes_cuts}
 use Rattle.paper.specs.Site.Energy.{energy}

@@ -3,7 +3,7 @@ use Rattle.std.specs.Prelude.{ℕ, zero, suc, ◌+◌, ◌*◌, ◌≤◌, ◌<�
 use Rattle.std.proofs.Common.{sym, ◌∙◌, ap, subst, inl, inr, arith, mul-le-mul_right, ext_get_or}
 use Rattle.std.proofs.Math.Decide.{dec_lt}
 use Rattle.std.proofs.Math.ListN.{get_or-eq_default}
-use Rattle.paper.specs.declared.Answer.TheVariants.{Idle, Held, Moved}
+use Rattle.paper.specs.Answer.Cases.{Answer.Idle, Answer.Held, Answer.Moved}
 use Rattle.paper.specs.Panel.Input.{Graph, leads_to, graph, Call, Choices, Buffers, spin, pattern, size, system}
 use Rattle.paper.specs.Panel.Takes.{one_cluster, labels_by, takes_greys}
 use Rattle.paper.specs.Site.Acting.{acts, NoneActs}

@@ -8,7 +8,7 @@ use Rattle.lemmas.specs.Bools.{and_left, and_right}
 use Rattle.lemmas.specs.Counts.{count_where, count_zero}
 use Rattle.paper.specs.declared.Mode.{Mode}
 use Rattle.paper.specs.declared.Mode.TheVariants.{Houd, Pair, Perm, Gperm, Jorg, Cmr}
-use Rattle.paper.specs.declared.Answer.TheVariants.{Idle}
+use Rattle.paper.specs.Answer.Cases.{Answer.Idle}
 use Rattle.paper.specs.Panel.Input.{graph, ahead, Call, Choices, Buffers}
 use Rattle.paper.specs.Panel.Takes.{grows_by, labels_by}
 use Rattle.paper.specs.Site.Acting.{acts}

@@ -7,8 +7,7 @@ use Rattle.std.proofs.Math.Bool.{true, false}
 use Rattle.lemmas.specs.Bools.{never, and_no, and_right}
 use Rattle.paper.specs.declared.Mode.{Mode}
 use Rattle.paper.specs.declared.Mode.TheVariants.{Houd, Pair, Perm, Gperm, Jorg, Cmr}
-use Rattle.paper.specs.declared.Answer.{Answer}
-use Rattle.paper.specs.declared.Answer.TheVariants.{Refused, Idle, Held, Moved}
+use Rattle.paper.specs.Answer.Cases.{Answer, Answer.Refused, Answer.Idle, Answer.Held, Answer.Moved}
 use Rattle.paper.specs.declared.BondKind.{BondKind}
 use Rattle.paper.specs.declared.BondKind.TheVariants.{None, Blue, Red}
 use Rattle.paper.specs.declared.Sampler.{Sampler}

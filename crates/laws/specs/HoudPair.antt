@@ -11,8 +11,7 @@ use Rattle.paper.specs.declared.Mode.{Mode}
 use Rattle.paper.specs.declared.Mode.TheVariants.{Houd, Pair}
 use Rattle.paper.specs.declared.Form.{Form}
 use Rattle.paper.specs.declared.Form.TheVariants.{Sw, Wolff, Observe, Grow}
-use Rattle.paper.specs.declared.Answer.{Answer}
-use Rattle.paper.specs.declared.Answer.TheVariants.{Refused, Idle, Held, Moved}
+use Rattle.paper.specs.Answer.Cases.{Answer, Answer.Refused, Answer.Idle, Answer.Held, Answer.Moved}
 use Rattle.paper.specs.Panel.Input.{graph, Call, Choices, Buffers, Pattern, pattern, size, system, ahead}
 use Rattle.paper.specs.Panel.Takes.{is_cmr, moves, takes_greys}
 use Rattle.paper.specs.Site.Acting.{pair_differs, acts, SomeActs}

@@ -1,10 +1,9 @@
 -- A team's calls depend on its own systems alone, whatever the other's rows and totals hold, and leave those as they are.
 use Rattle.std.specs.Prelude.{ℕ, zero, suc, ◌<◌, ◌≡◌, refl, ◌↔◌, Bool, true, false, List, [], ◌∷◌, length, get_or, ℤ, pos}
 use Rattle.std.proofs.Common.{sym, ◌∙◌, ap, arith, eqb-true}
-use Rattle.paper.specs.declared.Answer.{Answer}
-use Rattle.paper.specs.declared.SweepAnswer.{SweepAnswer}
-use Rattle.paper.specs.declared.MeterAnswer.{MeterAnswer}
-use Rattle.paper.specs.declared.MeterAnswer.TheVariants.{Unmetered, Energy}
+use Rattle.paper.specs.Answer.Cases.{Answer}
+use Rattle.paper.specs.Answer.Cases.{SweepAnswer}
+use Rattle.paper.specs.Answer.Cases.{MeterAnswer, MeterAnswer.Unmetered, MeterAnswer.Energy}
 use Rattle.paper.specs.Panel.Input.{Lattice, Call, Choices, Buffers, spin}
 use Rattle.paper.specs.Site.Energy.{energy}
 use Rattle.paper.specs.Refusal.Rule.{Rule, Kept, broken_unique, broken_not_kept}

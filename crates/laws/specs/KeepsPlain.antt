@@ -2,10 +2,8 @@
 -- everything else. And so a sweep.
 use Rattle.std.specs.Prelude.{ℕ, ◌≡◌, refl, Bool, false, List, [], ℤ}
 use Rattle.lemmas.specs.Bools.{never}
-use Rattle.paper.specs.declared.Answer.{Answer}
-use Rattle.paper.specs.declared.Answer.TheVariants.{Refused, Idle, Held, Moved}
-use Rattle.paper.specs.declared.SweepAnswer.{SweepAnswer}
-use Rattle.paper.specs.declared.SweepAnswer.TheVariants.{Fault, Swept}
+use Rattle.paper.specs.Answer.Cases.{Answer, Answer.Refused, Answer.Idle, Answer.Held, Answer.Moved}
+use Rattle.paper.specs.Answer.Cases.{SweepAnswer, SweepAnswer.Fault, SweepAnswer.Swept}
 use Rattle.paper.specs.Panel.Input.{Lattice, Call, Choices, Buffers}
 use Rattle.paper.specs.Refusal.Rules.{rules}
 use Rattle.paper.specs.Answer.Move.{Accepted, Accepted.idle, Accepted.held, Accepted.moved, Answers}

@@ -5,9 +5,8 @@ use Rattle.lemmas.specs.Bools.{never, and_no}
 use Rattle.paper.specs.declared.Mode.{Mode}
 use Rattle.paper.specs.declared.Form.{Form}
 use Rattle.paper.specs.declared.Form.TheVariants.{Sw, Wolff, Observe, Grow}
-use Rattle.paper.specs.declared.Answer.{Answer}
-use Rattle.paper.specs.declared.Answer.TheVariants.{Refused, Idle, Held, Moved}
-use Rattle.paper.specs.declared.SweepAnswer.TheVariants.{Swept}
+use Rattle.paper.specs.Answer.Cases.{Answer, Answer.Refused, Answer.Idle, Answer.Held, Answer.Moved}
+use Rattle.paper.specs.Answer.Cases.{SweepAnswer.Swept}
 use Rattle.paper.specs.Panel.Input.{Call, Choices, Buffers, pattern}
 use Rattle.paper.specs.Panel.Takes.{grows_by, labels_by, moves, takes_greys}
 use Rattle.paper.specs.Site.Acting.{acts}

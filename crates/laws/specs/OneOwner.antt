@@ -4,10 +4,8 @@ use Rattle.std.proofs.Common.{sym, ◌∙◌, ap, arith}
 use Rattle.std.proofs.Math.Decide.{dec_lt}
 use Rattle.std.proofs.Math.ListN.{get_or-eq_default}
 use Rattle.paper.specs.declared.Group.{Group}
-use Rattle.paper.specs.declared.Answer.{Answer}
-use Rattle.paper.specs.declared.Answer.TheVariants.{Refused, Idle, Held, Moved}
-use Rattle.paper.specs.declared.MeterAnswer.{MeterAnswer}
-use Rattle.paper.specs.declared.MeterAnswer.TheVariants.{Unmetered, Energy}
+use Rattle.paper.specs.Answer.Cases.{Answer, Answer.Refused, Answer.Idle, Answer.Held, Answer.Moved}
+use Rattle.paper.specs.Answer.Cases.{MeterAnswer, MeterAnswer.Unmetered, MeterAnswer.Energy}
 use Rattle.paper.specs.Panel.Input.{Lattice, Call, Choices, Buffers, member, size}
 use Rattle.paper.specs.Refusal.Rule.{Kept, broken_not_kept}
 use Rattle.paper.specs.Refusal.Rules.{When, AllSystems, Spins, Names, group_names, Named, Grouped, choice_rules}

@@ -4,8 +4,7 @@ use Rattle.std.proofs.Common.{sym, ◌∙◌, ap, inl, inr}
 use Rattle.lemmas.specs.Bools.{never, and_no}
 use Rattle.paper.specs.declared.Mode.TheVariants.{Cmr}
 use Rattle.paper.specs.declared.Form.TheVariants.{Observe}
-use Rattle.paper.specs.declared.Answer.{Answer}
-use Rattle.paper.specs.declared.Answer.TheVariants.{Refused, Idle, Held, Moved}
+use Rattle.paper.specs.Answer.Cases.{Answer, Answer.Refused, Answer.Idle, Answer.Held, Answer.Moved}
 use Rattle.paper.specs.Panel.Input.{Call, Choices, Buffers, spin}
 use Rattle.paper.specs.Site.Acting.{acts}
 use Rattle.paper.specs.Panel.Takes.{grows_by, labels_by}

@@ -10,7 +10,7 @@ use Rattle.std.proofs.Math.ListN.{get_or-eq_default}
 use Rattle.std.proofs.Math.IntN.{ℤ}
 use Rattle.lemmas.specs.Places.{Placed, place}
 use Rattle.lemmas.specs.Cells.{row_of, tabulate, length_tabulate, tabulate_at, some_group}
-use Rattle.paper.specs.declared.Answer.{Answer}
+use Rattle.paper.specs.Answer.Cases.{Answer}
 use Rattle.paper.specs.Panel.Input.{Call, Buffers, pattern, spin, size, system}
 use Rattle.paper.specs.Refusal.Rule.{Kept}
 use Rattle.paper.specs.Answer.Move.{Answers, Accepted}

@@ -5,9 +5,8 @@ use Rattle.std.proofs.Math.Decide.{ℕ_discrete}
 use Rattle.lemmas.specs.Bools.{never}
 use Rattle.lemmas.specs.Counts.{count_ext}
 use Rattle.lemmas.specs.Places.{Placed, Unplaced, place}
-use Rattle.paper.specs.declared.Answer.{Answer}
-use Rattle.paper.specs.declared.SweepAnswer.{SweepAnswer}
-use Rattle.paper.specs.declared.SweepAnswer.TheVariants.{Fault, Swept}
+use Rattle.paper.specs.Answer.Cases.{Answer}
+use Rattle.paper.specs.Answer.Cases.{SweepAnswer, SweepAnswer.Fault, SweepAnswer.Swept}
 use Rattle.paper.specs.Panel.Input.{Buffers, spin, pattern, system}
 use Rattle.paper.specs.Panel.Takes.{grows_by, labels_by, takes_grey_labels}
 use Rattle.paper.specs.Refusal.Rule.{broken_unique, broken_not_kept}

@@ -8,9 +8,8 @@ use mathlib.Core.List.{List, ◌++◌}
 use Rattle.std.proofs.Math.ListN.{get_or}
 use Rattle.lemmas.specs.Bools.{and_no}
 use Rattle.lemmas.specs.Counts.{count_where, count_zero, count_pos, count_ext}
-use Rattle.paper.specs.declared.Answer.{Answer}
-use Rattle.paper.specs.declared.Answer.TheVariants.{Refused, Idle, Held, Moved}
-use Rattle.paper.specs.declared.SweepAnswer.TheVariants.{Fault, Swept}
+use Rattle.paper.specs.Answer.Cases.{Answer, Answer.Refused, Answer.Idle, Answer.Held, Answer.Moved}
+use Rattle.paper.specs.Answer.Cases.{SweepAnswer.Fault, SweepAnswer.Swept}
 use Rattle.paper.specs.Panel.Input.{Buffers}
 use Rattle.paper.specs.Site.Acting.{acts}
 use Rattle.paper.specs.Refusal.Rule.{Kept, broken_not_kept}

@@ -2,9 +2,8 @@
 use Rattle.std.specs.Prelude.{ℕ, zero, suc, ◌*◌, ◌<◌, ◌≤◌, ◌≡◌, refl, ◌↔◌, Bool, true, false, cond, List, [], length, get_or, ℤ, Float}
 use Rattle.std.proofs.Common.{sym, subst, arith, le_refl}
 use Rattle.std.specs.Float.{nan}
-use Rattle.paper.specs.declared.Answer.{Answer}
-use Rattle.paper.specs.declared.SweepAnswer.{SweepAnswer}
-use Rattle.paper.specs.declared.SweepAnswer.TheVariants.{Fault, Swept}
+use Rattle.paper.specs.Answer.Cases.{Answer}
+use Rattle.paper.specs.Answer.Cases.{SweepAnswer, SweepAnswer.Fault, SweepAnswer.Swept}
 use Rattle.paper.specs.Panel.Input.{Buffers}
 use Rattle.paper.specs.Panel.Takes.{takes_cuts, takes_choices, takes_greys, takes_reference, takes_seed, entries, choice_bytes}
 use Rattle.paper.specs.Refusal.Rules.{SmallCouplings, Warm, choice_rules}

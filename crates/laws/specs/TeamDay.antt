@@ -2,8 +2,8 @@
 use Rattle.std.specs.Prelude.{ℕ, ◌≡◌, List, ℤ}
 use Rattle.std.proofs.Common.{sym, ◌∙◌, ap}
 use Rattle.paper.specs.declared.Keeps.TheVariants.{Totals}
-use Rattle.paper.specs.declared.Answer.{Answer}
-use Rattle.paper.specs.declared.SweepAnswer.{SweepAnswer}
+use Rattle.paper.specs.Answer.Cases.{Answer}
+use Rattle.paper.specs.Answer.Cases.{SweepAnswer}
 use Rattle.paper.specs.Panel.Input.{Lattice, Call, Choices, Buffers}
 use Rattle.paper.specs.Panel.Takes.{keeps_by}
 use Rattle.paper.specs.Refusal.Rule.{Kept}

@@ -1,10 +1,9 @@
 -- One call of a team, of any kind. Its reply depends on what the team sees alone, and to the other team nothing happens.
 use Rattle.std.specs.Prelude.{ℕ, ◌≡◌, refl, Bool, List, [], length, ℤ}
 use Rattle.std.proofs.Common.{sym, ◌∙◌, ap, subst, ⊎_elim}
-use Rattle.paper.specs.declared.Answer.{Answer}
-use Rattle.paper.specs.declared.SweepAnswer.{SweepAnswer}
-use Rattle.paper.specs.declared.SweepAnswer.TheVariants.{Fault, Swept}
-use Rattle.paper.specs.declared.MeterAnswer.{MeterAnswer}
+use Rattle.paper.specs.Answer.Cases.{Answer}
+use Rattle.paper.specs.Answer.Cases.{SweepAnswer, SweepAnswer.Fault, SweepAnswer.Swept}
+use Rattle.paper.specs.Answer.Cases.{MeterAnswer}
 use Rattle.paper.specs.Panel.Input.{Lattice, Call, Choices, Buffers}
 use Rattle.paper.specs.Refusal.Verdict.{Verdict}
 use Rattle.paper.specs.Answer.Task.{Sweep}

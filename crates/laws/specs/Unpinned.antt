@@ -7,8 +7,7 @@ use Rattle.std.proofs.Math.Dec.{eqb}
 use Rattle.std.proofs.Math.ListN.{get_or-eq_default}
 use Rattle.lemmas.specs.Bools.{never, and_no}
 use Rattle.lemmas.specs.Counts.{count_zero}
-use Rattle.paper.specs.declared.Answer.{Answer}
-use Rattle.paper.specs.declared.Answer.TheVariants.{Refused, Idle, Held, Moved}
+use Rattle.paper.specs.Answer.Cases.{Answer, Answer.Refused, Answer.Idle, Answer.Held, Answer.Moved}
 use Rattle.paper.specs.Panel.Input.{Call, Choices, Buffers, pinned}
 use Rattle.paper.specs.Component.Sizes.{label_of}
 use Rattle.paper.specs.Move.Moving.{reached_by, has_one, reached, final, Moves}

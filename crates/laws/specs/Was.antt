@@ -3,8 +3,7 @@
 use Rattle.std.specs.Prelude.{ℕ, ◌+◌, ◌*◌, ◌≤◌, ◌<◌, ◌≡◌, ◌≢◌, Bool, true, false, not, cond, ◌&&◌, List, [], ◌∷◌, ◌++◌, eqb, length, get_or, ℤ}
 use Rattle.std.specs.Float.{nan}
 use Rattle.lemmas.specs.Counts.{count_where}
-use Rattle.paper.specs.declared.Answer.{Answer}
-use Rattle.paper.specs.declared.Answer.TheVariants.{Refused, Idle, Held, Moved}
+use Rattle.paper.specs.Answer.Cases.{Answer, Answer.Refused, Answer.Idle, Answer.Held, Answer.Moved}
 use Rattle.paper.specs.Panel.Input.{graph, Call, Choices, Buffers, Pattern, pattern, spin, size, system}
 use Rattle.paper.specs.Panel.Takes.{grows_by, labels_by, entries, choice_bytes, takes_cuts, takes_choices, takes_greys, takes_grey_labels, takes_reference, takes_seed}
 use Rattle.paper.specs.Site.Acting.{acts, SomeActs, NoneActs}

@@ -1,8 +1,9 @@
 -- Laws of `count_where`.
 use Prim.Native.Nat.{ℕ, zero, suc, ◌+◌, ◌≤◌, ◌<◌, zero-le}
-use Rattle.std.specs.Prelude.{◌≡◌, Bool, true, false}
+use Rattle.std.specs.Prelude.{◌≡◌, Bool, true, false, cond, List, [], ◌∷◌, length, get_or, count_by}
 use Rattle.std.proofs.Math.Path.{refl}
 use Rattle.std.proofs.Common.{◌∙◌, le_refl, add-zero, eq-or-lt_of_le, le_of_suc-le-suc, not-suc-le-zero, arith}
+use Rattle.std.proofs.lemmas.List.Sums.{sum_by-cons}
 use Rattle.std.proofs.Math.Logic.{⊎_elim}
 use Rattle.std.proofs.Math.Numerals.{add-one}
 
@@ -64,3 +65,21 @@ count_le f g (suc m) h = omega (arith, count_le f g m h, step (f m) refl)
     step : (b : Bool) → f m ≡ b → bit b ≤ bit (g m)
     step true e = rw (h m e) (le_refl 1)
     step false e = omega arith
+
+-- the first of them apart
+count_front : (f : ℕ → Bool) (m : ℕ) → count_where f (suc m) ≡ bit (f 0) + count_where (λ k. f (suc k)) m
+unfolding count_where
+count_front f zero = omega arith
+count_front f (suc m) = omega (arith, count_front f m)
+
+bit_cond : (b : Bool) → cond b 1 0 ≡ bit b
+bit_cond true = refl
+bit_cond false = refl
+
+-- of a list, the elements that pass are counted by their places
+pub count_places : {A : Type 0} (d : A) (p : A → Bool) (xs : List A) → count_by p xs ≡ count_where (λ k. p (get_or xs k d)) (length xs)
+unfolding count_where
+count_places d p [] = refl
+count_places d p (x ∷ xs) =
+    let first : count_by p (x ∷ xs) ≡ cond (p x) 1 0 + count_by p xs = sum_by-cons (λ y. cond (p y) 1 0) x xs in
+    omega (arith, first, bit_cond (p x), count_places d p xs, count_front (λ k. p (get_or (x ∷ xs) k d)) (length xs))

@@ -32,6 +32,10 @@ filled_more {A} {d} {f} {i} {xs} {ys} {v} was h e =
     at j l (yes q) = rw q (get_or-set_same ys i v d (omega (arith, was.long)) ∙ e)
     at j l (no q) = get_or-set_other ys i j v d q ∙ was.done j (omega arith)
 
+-- the number of places, written in another way
+pub filled_to : {A : Type 0} {d : A} {f : ℕ → A} {i j : ℕ} {xs ys : List A} → Filled d f i xs ys → i ≡ j → Filled d f j xs ys
+filled_to {A} {d} {f} {i} {j} {xs} {ys} w e = rw (← e) w
+
 -- what stands at y after a store at x
 pub data AfterSet (p : List ℕ) (x v y : ℕ) : Type 0 where
   here : y ≡ x → get_or (set p x v) y 0 ≡ v → AfterSet p x v y

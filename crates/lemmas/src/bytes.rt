@@ -6,9 +6,5 @@ ghost use Rattle.lemmas.specs.Stores.{Cleared};
 pub fn clear(xs: &mut [u8])
     ensures { Cleared (length xs.old) xs.new }
 {
-    let mut i = 0;
-    while i < xs.len() {
-        xs[i] = 0;
-        i += 1;
-    }
+    xs.fill(0);
 }

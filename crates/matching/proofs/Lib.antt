@@ -2,6 +2,7 @@
 pub mod Bytes
 pub mod Word
 pub mod Parts
+pub mod Repeated
 pub mod Counted
 pub mod Kept
 pub mod Alike

@@ -17,7 +17,7 @@ use lemmas::wide;
 fn repeat(x: u8) -> u64
     ensures { result ≡ repeated x }
 {
-    (x as u64) * 0x0101010101010101
+    u64::from(x) * 0x0101010101010101
 }
 
 // Byte k is 255 where x has bit k, and else 0.
@@ -46,24 +46,10 @@ fn narrow_all(gauge: u8, olds: &[u8], news: &[u8], labels: &[u32], pins: &[u8], 
     ensures { NarrowedAll gauge olds.now news.now labels.now pins.now
         sets.old sets.new }
 {
-    let n = olds.len();
-    let mut i: usize = 0;
-    while i < n {
+    for i in 0..olds.len() {
         let set = sources(olds[i] ^ gauge, news[i] ^ gauge, pins[i]);
         let label = wide(labels[i]);
-        sets[label] = sets[label] & set;
-        i += 1;
-    }
-}
-
-fn fill(x: u64, sets: &mut [u64])
-    ensures { Whole 0 (λ k. x) sets.old sets.new }
-{
-    let n = sets.len();
-    let mut i: usize = 0;
-    while i < n {
-        sets[i] = x;
-        i += 1;
+        sets[label] &= set;
     }
 }
 
@@ -80,13 +66,10 @@ fn count_up(size: usize, rows: &mut [u8])
     requires { Members size }
     ensures { Whole 0 (λ a. a % size) rows.old rows.new }
 {
-    let n = rows.len();
     let mut k: usize = 0;
-    let mut i: usize = 0;
-    while i < n {
-        rows[i] = k as u8;
+    for place in rows.iter_mut() {
+        *place = k as u8;
         k = following(size, k);
-        i += 1;
     }
 }
 
@@ -95,7 +78,7 @@ fn lowest(x: u8) -> u8
     requires { 0 < x }
     ensures { Lowest 8 x result }
 {
-    u8::trailing_zeros(x) as u8
+    x.trailing_zeros() as u8
 }
 
 // From the places that each place may have come from, for each place in turn the smallest that is left. Where none is left no permutation fits.
@@ -103,18 +86,15 @@ fn least_row(row: &mut [u8]) -> bool
     requires { Row row.old }
     ensures { LeastRow row.old result row.new }
 {
-    let size = row.len();
     let mut free: u8 = 255;
-    let mut k: usize = 0;
-    while k < size {
-        let left = row[k] & free;
+    for place in row.iter_mut() {
+        let left = *place & free;
         if left == 0 {
             return false;
         }
         let j = lowest(left);
-        free = free ^ (1u8 << j);
-        row[k] = j;
-        k += 1;
+        free ^= 1u8 << j;
+        *place = j;
     }
     true
 }
@@ -124,11 +104,8 @@ fn unpack(set: u64, row: &mut [u8])
     requires { length row.old ≤ 8 }
     ensures { Whole 0 (byte_of set) row.old row.new }
 {
-    let size = row.len();
-    let mut k: usize = 0;
-    while k < size {
-        row[k] = ((set >> (8 * k)) % 256) as u8;
-        k += 1;
+    for (k, place) in row.iter_mut().enumerate() {
+        *place = ((set >> (8 * k)) % 256) as u8;
     }
 }
 
@@ -158,17 +135,13 @@ fn first_fault(size: usize, sets: &[u64], rows: &mut [u8]) -> usize
     ensures { Settled size sets.now rows.old result rows.new }
 {
     let own = own_places(size);
-    let n = sets.len();
-    let mut r: usize = 0;
-    while r < n {
-        let a = r * size;
-        let e = a + size;
-        if !settle_row(own, sets[r], &mut rows[a..e]) {
+    for (r, &set) in sets.iter().enumerate() {
+        let start = r * size;
+        if !settle_row(own, set, &mut rows[start..start + size]) {
             return r;
         }
-        r += 1;
     }
-    n
+    sets.len()
 }
 
 // The least permutation of each component, up to the first that has none: its number, or that of sites. A label that no site has gets the identity.
@@ -188,7 +161,7 @@ fn settle(
     let n = olds.len();
     let mut area = [0u64; 4096];
     let sets = &mut area[..n];
-    fill(repeat(packing::highest(size)), sets);
+    sets.fill(repeat(packing::highest(size)));
     narrow_all(gauge, olds, news, labels, pins, sets);
     count_up(size, rows);
     first_fault(size, sets, rows)

@@ -10,12 +10,14 @@ ghost use Rattle.paper.specs.Answer.Team.{own, Ours, hand_over_rules};
 ghost use Rattle.paper.specs.Panel.Made.{lattice_of};
 ghost use Rattle.paper.specs.Refusal.Verdict.{Verdict};
 ghost use Rattle.paper.specs.Site.Energy.{energy};
+ghost use Rattle.paper.specs.Refusal.Numbers.{verdict_of};
+ghost use Rattle.paper.specs.Answer.Cases.{meter_answer_of};
 ghost use Rattle.systems.specs.Owners.{team_of};
 ghost use Rattle.meter.specs.Part.{Holding, Handed, CurrentAt, metered};
 ghost use Rattle.meter.specs.Row.{Lengths, Row, RowAt, RowSite, RowBond, RowSum, Bond, bond_term, site_term};
 
 use lemmas::wide;
-use paper::MeterAnswer;
+use paper::Refusal;
 
 fn exact(
     n: usize,
@@ -54,10 +56,8 @@ fn site_sum(n: usize, d: usize, fwd: &[u32], js: &[i32], row: &[i8], i: usize) -
     ensures { result ≡ site_term d fwd.now js.now row.now i }
 {
     let mut total: i64 = 0;
-    let mut e = 0;
-    while e < d {
+    for e in 0..d {
         total = total + bond_at(n, d, fwd, js, row, i, e);
-        e += 1;
     }
     total
 }
@@ -67,10 +67,8 @@ fn row_sum(n: usize, d: usize, fwd: &[u32], js: &[i32], row: &[i8]) -> i64
     ensures { RowSum n d fwd.now js.now row.now result }
 {
     let mut total: i64 = 0;
-    let mut i = 0;
-    while i < n {
+    for i in 0..n {
         total = total + site_sum(n, d, fwd, js, row, i);
-        i += 1;
     }
     total
 }
@@ -93,28 +91,28 @@ pub fn energy(
     bwd: &[u32],
     couplings: &[i32],
     system: usize,
-) -> MeterAnswer
-    ensures { MeterAnswers (lattice_of n d s fwd.now bwd.now couplings.now) spins.now system result }
+) -> Result<i64, Refusal>
+    ensures { MeterAnswers (lattice_of n d s fwd.now bwd.now couplings.now) spins.now system (meter_answer_of result) }
 {
     if !lattice::sizes_ok(n, d, s) {
-        return MeterAnswer::Unmetered(1);
+        return Err(Refusal::Sizes);
     }
     if !exact(n, d, s, spins.len(), fwd.len(), bwd.len(), couplings.len()) {
-        return MeterAnswer::Unmetered(2);
+        return Err(Refusal::Lengths);
     }
     if !systems::row_ok(n, s, spins, system) {
-        return MeterAnswer::Unmetered(3);
+        return Err(Refusal::Spins);
     }
     if !lattice::tables_ok(n, d, fwd, bwd) {
-        return MeterAnswer::Unmetered(4);
+        return Err(Refusal::Tables);
     }
     if s <= system {
-        return MeterAnswer::Unmetered(5);
+        return Err(Refusal::Systems);
     }
     if !lattice::couplings_ok(couplings) {
-        return MeterAnswer::Unmetered(6);
+        return Err(Refusal::Couplings);
     }
-    MeterAnswer::Energy(system_energy(n, d, fwd, couplings, spins, system))
+    Ok(system_energy(n, d, fwd, couplings, spins, system))
 }
 
 fn current(
@@ -170,15 +168,13 @@ fn all_current(
         spins.now totals.now) }
 {
     let mut ok = true;
-    let mut t = 0;
-    while t < s {
+    for t in 0..s {
         ok = ok & settled(n, d, team, owners, fwd, js, spins, totals, t);
-        t += 1;
     }
     ok
 }
 
-// Whether each total of the team's systems is its system's energy: the number of the first test that fails, or 0.
+// Whether each total of the team's systems is its system's energy: the refusal of the first test that fails.
 pub fn hand_over(
     n: usize,
     d: usize,
@@ -190,31 +186,28 @@ pub fn hand_over(
     fwd: &[u32],
     bwd: &[u32],
     couplings: &[i32],
-) -> u8
+) -> Result<(), Refusal>
     ensures { Verdict (hand_over_rules (team_of team owners.now)
-        (lattice_of n d s fwd.now bwd.now couplings.now) spins.now totals.now) result }
+        (lattice_of n d s fwd.now bwd.now couplings.now) spins.now totals.now) (verdict_of result) }
 {
-    let fault = systems::owners::test_owners(s, team, owners);
-    if fault != 0 {
-        return fault;
-    }
+    systems::owners::test_owners(s, team, owners)?;
     if !lattice::sizes_ok(n, d, s) {
-        return 1;
+        return Err(Refusal::Sizes);
     }
     if !(exact(n, d, s, spins.len(), fwd.len(), bwd.len(), couplings.len()) & (totals.len() == s)) {
-        return 2;
+        return Err(Refusal::Lengths);
     }
     if !systems::owners::own_rows_ok(n, s, team, owners, spins) {
-        return 3;
+        return Err(Refusal::Spins);
     }
     if !lattice::tables_ok(n, d, fwd, bwd) {
-        return 4;
+        return Err(Refusal::Tables);
     }
     if !lattice::couplings_ok(couplings) {
-        return 6;
+        return Err(Refusal::Couplings);
     }
     if !all_current(n, d, s, team, owners, fwd, couplings, spins, totals) {
-        return 14;
+        return Err(Refusal::Totals);
     }
-    0
+    Ok(())
 }

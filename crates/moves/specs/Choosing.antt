@@ -12,7 +12,7 @@ use Rattle.column_rules.specs.Tables.{Table}
 use Rattle.choose.specs.Chosen.{Becomes, reached_at, flipped_at, permuted_at, greyed, greyed_at}
 use Rattle.column_rules.specs.Sight.{flag_at}
 use Rattle.column_rules.specs.Acted.{choice_column, flip_choice, perm_choice, cmr_narrow}
-use Rattle.moves.specs.Steps.{chosen_at_lem, final_at}
+use Rattle.moves.specs.Steps.{column_chosen_at, final_at}
 
 -- ---- `choose_columns`
 module _
@@ -28,7 +28,7 @@ module _
     pub by_flips :
         (table : List ℕ) → is_perm t.mode ≡ false → Table m (λ x. column_of m (flipped t.mode m (shown x))) table
         → (i : ℕ) → i < n → get_or cols i 0 < 2 ^ m
-        → flipped_at t.form reached labels choices table cols i ≡ chosen_at_lem t pins acts labels choices cols i
+        → flipped_at t.form reached labels choices table cols i ≡ column_chosen_at t pins acts labels choices cols i
     by_flips table e h i l narrow =
         rw (flag_at n (reached_at t.form t.mode t.seed pins acts labels) reached marks i l, h.at (get_or cols i 0) narrow)
         (go (reached_at t.form t.mode t.seed pins acts labels i) (flip_by t.form choices (label_of labels i)) refl)
@@ -42,14 +42,14 @@ module _
 
     pub by_perms :
         (x : ℕ) → x ≡ g → is_perm t.mode ≡ true → (i : ℕ) → i < n
-        → permuted_at t.form m x reached labels choices cols i ≡ chosen_at_lem t pins acts labels choices cols i
+        → permuted_at t.form m x reached labels choices cols i ≡ column_chosen_at t pins acts labels choices cols i
     by_perms x q e i l =
         rw (flag_at n (reached_at t.form t.mode t.seed pins acts labels) reached marks i l, q)
         (ap (λ (y : ℕ). cond (reached_at t.form t.mode t.seed pins acts labels i) y (get_or cols i 0))
         (perm_choice t.mode t.form m g choices (label_of labels i) (get_or cols i 0) e))
 
 -- ---- with the grey half
-module _ (t : Task) (pins acts labels choices : List ℕ) {cols mid : List ℕ} (b : Becomes (chosen_at_lem t pins acts labels choices cols) cols mid) where
+module _ (t : Task) (pins acts labels choices : List ℕ) {cols mid : List ℕ} (b : Becomes (column_chosen_at t pins acts labels choices cols) cols mid) where
   pub mid_two : is_cmr t.mode ≡ true → t.group.len ≡ 2 → (i : ℕ) → i < length cols → get_or cols i 0 < 2 ^ t.group.len → get_or mid i 0 < 4
   mid_two e two i l h = subst (λ (z : ℕ). get_or mid i 0 < 2 ^ z) two (rw (b.at i l) (go (reached_at t.form t.mode t.seed pins acts labels i)))
     where

@@ -23,7 +23,7 @@ use Rattle.choose.specs.Chosen.{Becomes, greyed}
 use Rattle.moves.specs.Tested.{TestedFor}
 use Rattle.column_rules.specs.Acted.{choice_column}
 use Rattle.moves.specs.Moved.{Rows, chosen_column, after_spin}
-use Rattle.moves.specs.Steps.{chosen_at_lem, final_at}
+use Rattle.moves.specs.Steps.{column_chosen_at, final_at}
 use Rattle.moves.specs.Choices.{reached_is}
 
 -- ---- to observe moves nothing
@@ -110,7 +110,7 @@ module _
     y = gauge_of t.mode m (get_or cols t.reference 0)
 
     abbrev chosen : ℕ → ℕ
-    chosen i = chosen_at_lem t pins flags l p.choices cols i
+    chosen i = column_chosen_at t pins flags l p.choices cols i
 
     chosen_at : (i : ℕ) → i < t.n → chosen i ≡ column_of m (after c p xs l i)
     chosen_at i hi =

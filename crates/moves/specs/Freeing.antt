@@ -6,8 +6,7 @@ use Rattle.lemmas.specs.Bools.{never}
 use Rattle.paper.specs.declared.Form.{Form}
 use Rattle.paper.specs.declared.Form.TheVariants.{Sw, Wolff, Observe, Grow}
 use Rattle.paper.specs.declared.Task.{Task}
-use Rattle.paper.specs.declared.Answer.{Answer}
-use Rattle.paper.specs.declared.Answer.TheVariants.{Idle, Held, Moved}
+use Rattle.paper.specs.Answer.Cases.{Answer, Answer.Idle, Answer.Held, Answer.Moved}
 use Rattle.paper.specs.Panel.Takes.{is_cmr, one_cluster, moves}
 use Rattle.paper.specs.Component.Sizes.{label_of, size_of}
 use Rattle.paper.specs.Move.Moving.{has_one}

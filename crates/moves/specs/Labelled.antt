@@ -6,8 +6,7 @@ use Rattle.lemmas.specs.Tells.{Tells}
 use Rattle.paper.specs.declared.Task.{Task}
 use Rattle.paper.specs.declared.Mode.{Mode}
 use Rattle.paper.specs.declared.Mode.TheVariants.{Houd, Pair, Perm, Gperm, Jorg, Cmr}
-use Rattle.paper.specs.declared.Answer.{Answer}
-use Rattle.paper.specs.declared.Answer.TheVariants.{Idle, Held, Moved}
+use Rattle.paper.specs.Answer.Cases.{Answer, Answer.Idle, Answer.Held, Answer.Moved}
 use Rattle.paper.specs.Panel.Input.{Call, pinned, graph}
 use Rattle.paper.specs.Panel.Made.{call_of, buffers_of}
 use Rattle.paper.specs.Panel.Takes.{is_cmr, one_cluster, moves, takes_greys}

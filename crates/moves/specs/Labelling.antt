@@ -1,8 +1,7 @@
 -- What the label step of a task asks and what it leaves, and its second half, which takes the held components out of the sizes.
 use Rattle.std.specs.Prelude.{ℕ, ◌+◌, ◌*◌, ◌≤◌, ◌<◌, ◌≡◌, Bool, true, false, cond, ◌&&◌, List, [], length, get_or, ℤ, Float}
 use Rattle.paper.specs.declared.Task.{Task}
-use Rattle.paper.specs.declared.Answer.{Answer}
-use Rattle.paper.specs.declared.Answer.TheVariants.{Refused, Idle, Held, Moved}
+use Rattle.paper.specs.Answer.Cases.{Answer, Answer.Refused, Answer.Idle, Answer.Held, Answer.Moved}
 use Rattle.paper.specs.Panel.Input.{Call, pattern, size}
 use Rattle.paper.specs.Panel.Made.{call_of}
 use Rattle.paper.specs.Panel.Takes.{is_cmr, one_cluster, moves, greys_by, takes_greys}

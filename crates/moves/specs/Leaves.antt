@@ -1,8 +1,7 @@
 -- A task on columns: what it asks and what it leaves, for any rows that have these columns.
 use Rattle.std.specs.Prelude.{ℕ, ◌^◌, ◌<◌, ◌≡◌, Bool, true, false, List, [], length, get_or, ℤ}
 use Rattle.paper.specs.declared.Form.{Form}
-use Rattle.paper.specs.declared.Answer.{Answer}
-use Rattle.paper.specs.declared.Answer.TheVariants.{Refused, Idle, Held, Moved}
+use Rattle.paper.specs.Answer.Cases.{Answer, Answer.Refused, Answer.Idle, Answer.Held, Answer.Moved}
 use Rattle.paper.specs.Panel.Input.{Call, Choices, Buffers, pattern, size}
 use Rattle.paper.specs.Panel.Made.{buffers_of}
 use Rattle.paper.specs.Panel.Takes.{labels_by, moves}

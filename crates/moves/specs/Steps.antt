@@ -131,8 +131,8 @@ pub record ChooseAsks (t : Task) (choices greys flags labels tally grey_labels g
   pub greyable : is_cmr t.mode ≡ true → Greyable t pins greys grey_labels greyTally cols
 
 -- the new column of the site i from the choice of its component
-abbrev pub chosen_at_lem : Task → List ℕ → List ℕ → List ℕ → List ℕ → List ℕ → ℕ → ℕ
-chosen_at_lem t pins flags labels choices cols i =
+abbrev pub column_chosen_at : Task → List ℕ → List ℕ → List ℕ → List ℕ → List ℕ → ℕ → ℕ
+column_chosen_at t pins flags labels choices cols i =
     cond (reached_at t.form t.mode t.seed pins flags labels i)
     (choice_column t.mode t.form t.group.len (gauge_of t.mode t.group.len (get_or cols t.reference 0)) choices (label_of labels i)
     (get_or cols i 0))
@@ -140,14 +140,14 @@ chosen_at_lem t pins flags labels choices cols i =
 
 -- for the pins by which the components were taken from the sizes
 abbrev pub ColumnsLeave : Task → List ℕ → List ℕ → List ℕ → List ℕ → List ℕ → List ℕ → Type 0
-ColumnsLeave t flags labels tally choices cols new = (pins : List ℕ) → Freed pins labels tally → Becomes (chosen_at_lem t pins flags labels choices cols) cols new
+ColumnsLeave t flags labels tally choices cols new = (pins : List ℕ) → Freed pins labels tally → Becomes (column_chosen_at t pins flags labels choices cols) cols new
 
 -- and in CMR then from the grey number of its grey component
 abbrev pub final_at : Task → List ℕ → List ℕ → List ℕ → List ℕ → List ℕ → List ℕ → List ℕ → ℕ → ℕ
 final_at t pins flags labels grey_labels choices greys cols i =
     cond (is_cmr t.mode && reached_at t.form t.mode t.seed pins flags grey_labels i)
-    (greyed (grey_at t.form greys (label_of grey_labels i)) (chosen_at_lem t pins flags labels choices cols i))
-    (chosen_at_lem t pins flags labels choices cols i)
+    (greyed (grey_at t.form greys (label_of grey_labels i)) (column_chosen_at t pins flags labels choices cols i))
+    (column_chosen_at t pins flags labels choices cols i)
 
 -- for the pins by which the components were taken from both lists of sizes
 abbrev pub ChooseLeaves : Task → List ℕ → List ℕ → List ℕ → List ℕ → List ℕ → List ℕ → List ℕ → List ℕ → List ℕ → Type 0

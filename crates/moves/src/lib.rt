@@ -2,7 +2,7 @@
 #![tactic(auto)]
 
 ghost use Rattle.std.specs.Prelude.{◌≡◌, true, cond, ◌&&◌, eqb, get_or};
-ghost use Rattle.paper.specs.declared.Answer.TheVariants.{Held, Moved};
+ghost use Rattle.paper.specs.Answer.Cases.{Answer.Held, Answer.Moved, answer_by};
 ghost use Rattle.paper.specs.Panel.Takes.{is_cmr, one_cluster};
 ghost use Rattle.paper.specs.Panel.Made.{call_of, choices_of};
 ghost use Rattle.moves.specs.Leaves.{RunAsks, beside_of, changes, RunLeaves};
@@ -20,7 +20,7 @@ ghost use Rattle.moves.specs.Steps.{
 };
 
 use lemmas::wide;
-use paper::{Answer, Form, Sampler, Task};
+use paper::{Form, Outcome, Sampler, Task};
 
 // The table of holding bonds. CMR has two: these are its blue ones, and grey the table of its grey ones.
 fn hold(
@@ -46,15 +46,13 @@ fn hold(
         } else {
             bonds::blue_bonds(t.n, t.d, fwd, couplings, cuts, sampler, cols, holds);
         }
+    } else if mode.is_drawn() {
+        let group = t.group;
+        bonds::jorg_bonds(
+            t.n, t.d, fwd, couplings, cuts, group, sampler, acts, cols, holds,
+        );
     } else {
-        if mode.is_drawn() {
-            let group = t.group;
-            bonds::jorg_bonds(
-                t.n, t.d, fwd, couplings, cuts, group, sampler, acts, cols, holds,
-            );
-        } else {
-            bonds::active_bonds(t.n, t.d, fwd, acts, holds);
-        }
+        bonds::active_bonds(t.n, t.d, fwd, acts, holds);
     }
 }
 
@@ -129,17 +127,14 @@ fn seed_held(form: Form, seed: usize, labels: &[u32], tally: &[u32]) -> bool
     requires { one_cluster form ≡ true → SeedAsks seed labels.now tally.now }
     ensures { result ≡ (one_cluster form && eqb (get_or tally.now (get_or labels.now seed 0) 0) 0) }
 {
-    if form.one_cluster() {
-        return tally[wide(labels[seed])] == 0;
-    }
-    false
+    form.one_cluster() && tally[wide(labels[seed])] == 0
 }
 
 // The answer where some site acts.
-fn answered(held: bool) -> Answer
-    ensures { result ≡ cond held Held Moved }
+fn answered(held: bool) -> Outcome
+    ensures { answer_by result ≡ cond held Held Moved }
 {
-    if held { Answer::Held } else { Answer::Moved }
+    if held { Outcome::Held } else { Outcome::Moved }
 }
 
 // In CMR the grey labels, how many grey components there are, and the sizes of those that are not held.
@@ -177,14 +172,14 @@ fn free_task(
     grey_labels: &mut [u32],
     grey_tally: &mut [u32],
     grey_found: &mut [u32],
-) -> Answer
+) -> Outcome
     requires { FreeAsks t fwd.now pins.now grey.now labels.now tally.old grey_labels.old grey_tally.old grey_found.old }
     ensures { FreeLeaves t some fwd.now pins.now grey.now labels.now
         grey_labels.old grey_found.old
-        tally.new grey_labels.new grey_tally.new grey_found.new result }
+        tally.new grey_labels.new grey_tally.new grey_found.new (answer_by result) }
 {
     if !some {
-        return Answer::Idle;
+        return Outcome::Idle;
     }
     let form = t.form;
     if form.moves() {
@@ -193,7 +188,7 @@ fn free_task(
         let held = seed_held(form, t.seed, labels, tally);
         return answered(held);
     }
-    Answer::Moved
+    Outcome::Moved
 }
 
 // The label step of a task of a form that labels, on the columns of its group, whose input is tested: all that the task writes beside the spins, and the
@@ -216,7 +211,7 @@ pub fn label_task(
     sizes: &mut [u32],
     found: &mut [u32],
     grey_found: &mut [u32],
-) -> Answer
+) -> Outcome
     requires { TaskAsks t fwd.now pins.now couplings.now cuts.now cols.now
         acts.old holds.old grey.old tally.old grey_tally.old
         labels.old grey_labels.old counts.old sizes.old found.old grey_found.old }
@@ -225,7 +220,7 @@ pub fn label_task(
         found.old grey_found.old)
         acts.new tally.new grey_tally.new
         (beside_of labels.new grey_labels.new counts.new sizes.new
-        found.new grey_found.new) result }
+        found.new grey_found.new) (answer_by result) }
 {
     let some = label_columns(
         t, cols, fwd, couplings, cuts, acts, holds, grey, tally, labels, counts, sizes, found,
@@ -273,14 +268,13 @@ pub fn choose_task(
 }
 
 // May a task of the form that gave this answer have changed columns?
-fn changed(form: Form, answer: Answer) -> bool
-    ensures { result ≡ changes form answer }
+pub fn changed(form: Form, answer: Outcome) -> bool
+    ensures { result ≡ changes form (answer_by answer) }
 {
     match answer {
-        Answer::Refused(_) => false,
-        Answer::Idle => false,
-        Answer::Held => false,
-        Answer::Moved => form.moves(),
+        Outcome::Idle => false,
+        Outcome::Held => false,
+        Outcome::Moved => form.moves(),
     }
 }
 
@@ -304,7 +298,7 @@ pub fn run_columns(
     sizes: &mut [u32],
     found: &mut [u32],
     grey_found: &mut [u32],
-) -> Answer
+) -> Outcome
     requires { RunAsks
         (call_of t fwd.now bwd.now pins.now couplings.now cuts.now)
         (choices_of choices.now greys.now)
@@ -315,7 +309,7 @@ pub fn run_columns(
         cols.now
         (beside_of labels.old grey_labels.old counts.old sizes.old
         found.old grey_found.old)
-        result
+        (answer_by result)
         news.new
         (beside_of labels.new grey_labels.new counts.new sizes.new
         found.new grey_found.new) }

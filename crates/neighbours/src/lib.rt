@@ -9,7 +9,6 @@ ghost use Rattle.neighbours.specs.Backward.{Turnable, Turned, Led, Filling, Fill
 ghost use Rattle.neighbours.specs.Tables.{Tabled, TabledSite, TabledBond};
 
 use lemmas::wide;
-use lemmas::words::clear;
 
 fn back_ok(n: usize, d: usize, a: &[u32], b: &[u32], i: usize, e: usize) -> bool
     requires { TabledBond n d a.now b.now i e }
@@ -28,10 +27,8 @@ fn site_ok(n: usize, d: usize, a: &[u32], b: &[u32], i: usize) -> bool
     ensures { Tells result (Each d (λ e. Back n d a.now b.now i e)) }
 {
     let mut ok = true;
-    let mut e = 0;
-    while e < d {
+    for e in 0..d {
         ok = ok & back_ok(n, d, a, b, i, e);
-        e += 1;
     }
     ok
 }
@@ -42,10 +39,8 @@ pub fn tables_ok(n: usize, d: usize, fwd: &[u32], bwd: &[u32]) -> bool
     ensures { Tells result (Inverse n d fwd.now bwd.now) }
 {
     let mut ok = true;
-    let mut i = 0;
-    while i < n {
+    for i in 0..n {
         ok = ok & site_ok(n, d, fwd, bwd, i);
-        i += 1;
     }
     ok
 }
@@ -66,10 +61,8 @@ fn lead_site_back(n: usize, d: usize, fwd: &[u32], bwd: &mut [u32], i: usize)
     requires { FillingSite n d fwd.now bwd.old i }
     ensures { Led n d fwd.now (i * d + d) bwd.new }
 {
-    let mut e = 0;
-    while e < d {
+    for e in 0..d {
         lead_back(n, d, fwd, bwd, i, e);
-        e += 1;
     }
 }
 
@@ -77,10 +70,8 @@ fn lead_all_back(n: usize, d: usize, fwd: &[u32], bwd: &mut [u32])
     requires { Filling n d fwd.now 0 bwd.old }
     ensures { Led n d fwd.now (n * d) bwd.new }
 {
-    let mut i = 0;
-    while i < n {
+    for i in 0..n {
         lead_site_back(n, d, fwd, bwd, i);
-        i += 1;
     }
 }
 
@@ -93,6 +84,6 @@ pub fn backward(n: usize, d: usize, fwd: &[u32], bwd: &mut [u32]) -> bool
     if tables_ok(n, d, fwd, bwd) {
         return true;
     }
-    clear(bwd);
+    bwd.fill(0);
     false
 }

@@ -1,8 +1,7 @@
 // A permutation of five as one number: its row's place in a table of all 120, ascending as words.
 #![tactic(auto)]
 
-ghost use Rattle.std.specs.Prelude.{◌≡◌, ltb, get_or};
-ghost use Rattle.lemmas.specs.Counts.{bit};
+ghost use Rattle.std.specs.Prelude.{◌≡◌, ltb, get_or, count_by};
 ghost use Rattle.orders.specs.Table.{orders, row};
 ghost use Rattle.orders.specs.Rank.{rank};
 ghost use Rattle.orders.specs.Answers.{Place, PlaceIn, Five, Behind, Later, RowAnswers, NumberAnswers};
@@ -71,18 +70,16 @@ pub fn row_of(number: u8, row: &mut [u8]) -> u8
         return 9;
     }
     let table = table();
-    let mut k = 0;
-    while k < 5 {
+    for k in 0..5 {
         row[k] = entry_in(&table, number, k);
-        k += 1;
     }
     0
 }
 
-fn less(x: u8, y: u8) -> u8
-    ensures { result ≡ bit (ltb x y) }
+fn count_below(xs: &[u8], x: u8) -> usize
+    ensures { result ≡ count_by (λ y. ltb y x) xs.now }
 {
-    if x < y { 1 } else { 0 }
+    xs.iter().filter(|y| **y < x).count()
 }
 
 // How many entries behind place i are smaller than the one there.
@@ -90,14 +87,7 @@ fn later(row: &[u8], i: usize) -> u8
     requires { Behind row.now i }
     ensures { Later row.now i result }
 {
-    let x = row[i];
-    let mut n = 0;
-    let mut k = 0;
-    while k < 4 - i {
-        n = n + less(row[i + 1 + k], x);
-        k += 1;
-    }
-    n
+    count_below(&row[i + 1..], row[i]) as u8
 }
 
 // The table is not searched: a row's number is worked out of the row.

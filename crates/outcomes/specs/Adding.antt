@@ -1,17 +1,16 @@
 -- One more task's answer, counted.
 use Rattle.std.specs.Prelude.{ℕ, ◌+◌, ◌≤◌, ◌≡◌}
 use Rattle.lemmas.specs.Counts.{bit}
-use Rattle.paper.specs.declared.Answer.{Answer}
-use Rattle.paper.specs.declared.Answer.TheVariants.{Refused, Idle, Held, Moved}
+use Rattle.paper.specs.Answer.Cases.{Answer, Answer.Refused, Answer.Idle, Answer.Held, Answer.Moved}
 use Rattle.paper.specs.Answer.Task.{is_idle, is_held}
 use Rattle.outcomes.specs.declared.Outcomes.{Outcomes}
 
 -- what one answer adds to the tasks that moved; `is_idle` and `is_held` tell it of the others
-abbrev pub moved_by_lem : Answer → ℕ
-moved_by_lem (Refused r) = 0
-moved_by_lem Idle = 0
-moved_by_lem Held = 0
-moved_by_lem Moved = 1
+abbrev pub moved_count : Answer → ℕ
+moved_count (Refused r) = 0
+moved_count Idle = 0
+moved_count Held = 0
+moved_count Moved = 1
 
 -- the counts can grow
 pub record Growable (t : Outcomes) : Type 0 where
@@ -21,5 +20,5 @@ pub record Growable (t : Outcomes) : Type 0 where
 
 pub record Added (t : Outcomes) (a : Answer) (t' : Outcomes) : Type 0 where
   pub idle : t'.idle ≡ t.idle + bit (is_idle a)
-  pub moved : t'.moved ≡ t.moved + moved_by_lem a
+  pub moved : t'.moved ≡ t.moved + moved_count a
   pub held : t'.held ≡ t.held + bit (is_held a)

@@ -2,9 +2,8 @@
 use Rattle.std.specs.Prelude.{◌≡◌}
 use Rattle.std.proofs.Common.{sym, ◌∙◌}
 use Rattle.lemmas.specs.Determined.{one_value}
-use Rattle.paper.specs.declared.Answer.{Answer}
-use Rattle.paper.specs.declared.SweepAnswer.{SweepAnswer}
-use Rattle.paper.specs.declared.SweepAnswer.TheVariants.{Swept}
+use Rattle.paper.specs.Answer.Cases.{Answer}
+use Rattle.paper.specs.Answer.Cases.{SweepAnswer, SweepAnswer.Swept}
 use Rattle.outcomes.specs.declared.Outcomes.{Outcomes}
 use Rattle.outcomes.specs.Adding.{Added}
 

@@ -2,46 +2,46 @@
 #![tactic(auto)]
 
 ghost use Rattle.std.specs.Prelude.{◌≡◌};
-ghost use Rattle.paper.specs.declared.SweepAnswer.TheVariants.{Swept};
+ghost use Rattle.paper.specs.Answer.Cases.{SweepAnswer.Swept, answer_by, sweep_answer_by};
 ghost use Rattle.outcomes.specs.Adding.{Growable, Added};
 
-use paper::{Answer, SweepAnswer};
+use paper::{Counts, Outcome};
 
 // How many tasks were idle so far, how many moved, and how many were held.
-#[derive(Clone, Copy)]
+#[derive(Clone, Copy, PartialEq, Eq, Debug)]
 pub struct Outcomes {
     pub idle: u32,
     pub moved: u32,
     pub held: u32,
 }
 
-pub fn add(outcomes: Outcomes, answer: Answer) -> Outcomes
+pub fn add(outcomes: Outcomes, answer: Outcome) -> Outcomes
     requires { Growable outcomes }
-    ensures { Added outcomes answer result }
+    ensures { Added outcomes (answer_by answer) result }
 {
     match answer {
-        Answer::Refused(_) => outcomes,
-        Answer::Idle => Outcomes {
+        Outcome::Idle => Outcomes {
             idle: outcomes.idle + 1,
-            moved: outcomes.moved,
-            held: outcomes.held,
+            ..outcomes
         },
-        Answer::Held => Outcomes {
-            idle: outcomes.idle,
-            moved: outcomes.moved,
+        Outcome::Held => Outcomes {
             held: outcomes.held + 1,
+            ..outcomes
         },
-        Answer::Moved => Outcomes {
-            idle: outcomes.idle,
+        Outcome::Moved => Outcomes {
             moved: outcomes.moved + 1,
-            held: outcomes.held,
+            ..outcomes
         },
     }
 }
 
 // The answer to a sweep whose tasks have all run.
-pub fn told(outcomes: Outcomes) -> SweepAnswer
-    ensures { result ≡ Swept outcomes.idle outcomes.moved outcomes.held }
+pub fn told(outcomes: Outcomes) -> Counts
+    ensures { sweep_answer_by result ≡ Swept outcomes.idle outcomes.moved outcomes.held }
 {
-    SweepAnswer::Swept(outcomes.idle, outcomes.moved, outcomes.held)
+    Counts {
+        idle: outcomes.idle,
+        moved: outcomes.moved,
+        held: outcomes.held,
+    }
 }

@@ -4,8 +4,9 @@
 ghost use Rattle.paper.specs.Answer.Totals.{KeepAnswers};
 ghost use Rattle.paper.specs.Panel.Made.{call_of, choices_of, buffers_of};
 ghost use Rattle.paper.specs.Panel.Takes.{keeps_by};
+ghost use Rattle.paper.specs.Answer.Cases.{answer_of};
 
-use paper::{Answer, Lengths, Task};
+use paper::{Lengths, Outcome, Refusal, Task};
 
 // One move or observation in any mode and form. An input that the mode and form do not take is ignored, whatever it holds, and so are totals that are
 // not kept.
@@ -27,7 +28,7 @@ pub fn overlap_step(
     members: &mut [u8],
     found: &mut [u32],
     grey_found: &mut [u32],
-) -> Answer
+) -> Result<Outcome, Refusal>
     ensures { KeepAnswers
         (keeps_by t.keeps t.form)
         (call_of t fwd.now bwd.now pins.now couplings.now cuts.now)
@@ -35,7 +36,7 @@ pub fn overlap_step(
         (buffers_of spins.old labels.old grey_labels.old counts.old sizes.old
         members.old found.old grey_found.old)
         totals.old
-        result
+        (answer_of result)
         (buffers_of spins.new labels.new grey_labels.new counts.new sizes.new
         members.new found.new grey_found.new)
         totals.new }
@@ -57,13 +58,10 @@ pub fn overlap_step(
         found: found.len(),
         grey_found: grey_found.len(),
     };
-    let fault = step_tests::test_call(
+    step_tests::test_call(
         t, spins, totals, fwd, bwd, pins, couplings, cuts, choices, greys, l,
-    );
-    if fault != 0 {
-        return Answer::Refused(fault);
-    }
-    perform::run_form(
+    )?;
+    Ok(perform::run_form(
         t,
         spins,
         totals,
@@ -81,5 +79,5 @@ pub fn overlap_step(
         members,
         found,
         grey_found,
-    )
+    ))
 }

@@ -4,8 +4,7 @@ use Rattle.std.proofs.Common.{sym, ◌∙◌, ap, subst, inl, inr}
 use Rattle.std.proofs.Math.IntN.{+ℤ_idr, +ℤ_invr}
 use Rattle.lemmas.specs.Places.{Placed, place}
 use Rattle.lemmas.specs.Sums.{sum_ext}
-use Rattle.paper.specs.declared.Answer.{Answer}
-use Rattle.paper.specs.declared.Answer.TheVariants.{Idle, Held, Moved, Refused}
+use Rattle.paper.specs.Answer.Cases.{Answer, Answer.Idle, Answer.Held, Answer.Moved, Answer.Refused}
 use Rattle.paper.specs.Panel.Input.{Lattice, Call, Choices, Buffers, spin, size, system, bond_of, ahead_of}
 use Rattle.paper.specs.Site.Energy.{energy}
 use Rattle.paper.specs.Refusal.Rule.{Kept}

@@ -1,7 +1,6 @@
 -- A move on a group's bytes, one for each site, is the move on the rows that they stand for (11/14).
 use Rattle.std.specs.Prelude.{ℕ, ◌≡◌, Bool, List, ℤ}
-use Rattle.paper.specs.declared.Answer.{Answer}
-use Rattle.paper.specs.declared.Answer.TheVariants.{Refused, Idle, Held, Moved}
+use Rattle.paper.specs.Answer.Cases.{Answer, Answer.Refused, Answer.Idle, Answer.Held, Answer.Moved}
 use Rattle.paper.specs.Panel.Input.{Call, Choices, Buffers, size}
 use Rattle.paper.specs.Panel.Made.{buffers_of}
 use Rattle.paper.specs.Answer.Totals.{KeepAnswers}

@@ -2,9 +2,10 @@
 ghost use Rattle.paper.specs.Panel.Made.{lattice_of, call_of, choices_of};
 ghost use Rattle.paper.specs.Panel.Takes.{keeps_by};
 ghost use Rattle.paper.specs.Answer.Totals.{TotalsReady};
+ghost use Rattle.paper.specs.Answer.Cases.{answer_by};
 ghost use Rattle.packed.specs.Grown.{GrownAsks, GrownLeaves};
 
-use paper::{Answer, Group, Task};
+use paper::{Group, Outcome, Task};
 
 // The rows that the bytes stand for, the task on them, and their bytes.
 pub(crate) fn run_grown(
@@ -19,7 +20,7 @@ pub(crate) fn run_grown(
     choices: &[u8],
     greys: &[u8],
     members: &mut [u8],
-) -> Answer
+) -> Outcome
     requires grown_asks { GrownAsks
         (call_of t fwd.now bwd.now pins.now couplings.now cuts.now) (choices_of choices.now greys.now) columns.old members.old }
     requires totals_ready { TotalsReady (keeps_by t.keeps t.form) (lattice_of t.n t.d t.s fwd.now bwd.now couplings.now) t.group totals.old }
@@ -28,7 +29,7 @@ pub(crate) fn run_grown(
         (call_of t fwd.now bwd.now pins.now couplings.now cuts.now)
         (choices_of choices.now greys.now)
         columns.old members.old totals.old
-        result
+        (answer_by result)
         columns.new members.new totals.new }
 {
     let n = t.n;

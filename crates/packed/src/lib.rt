@@ -6,10 +6,11 @@ mod tested;
 
 ghost use Rattle.paper.specs.Panel.Made.{call_of, choices_of};
 ghost use Rattle.paper.specs.Panel.Takes.{keeps_by};
+ghost use Rattle.paper.specs.Answer.Cases.{answer_of};
 ghost use Rattle.packing.specs.Bytes.{own_task};
 ghost use Rattle.packed.specs.Packed.{lent_of, PackedAnswers};
 
-use paper::{Answer, Form, Group, Keeps, Lengths, Mode, Task};
+use paper::{Group, Lengths, Outcome, Refusal, Task};
 
 // One move or observation in any mode and form, on the bytes of the group. Of the group only its size is looked at, and not the number of systems.
 pub fn packed_step(
@@ -30,7 +31,7 @@ pub fn packed_step(
     members: &mut [u8],
     found: &mut [u32],
     grey_found: &mut [u32],
-) -> Answer
+) -> Result<Outcome, Refusal>
     ensures { PackedAnswers
         (keeps_by t.keeps t.form)
         (call_of (own_task t) fwd.now bwd.now pins.now couplings.now cuts.now)
@@ -39,31 +40,20 @@ pub fn packed_step(
         (lent_of labels.old grey_labels.old counts.old sizes.old
         members.old found.old grey_found.old)
         totals.old
-        result
+        (answer_of result)
         columns.new
         (lent_of labels.new grey_labels.new counts.new sizes.new
         members.new found.new grey_found.new)
         totals.new }
 {
-    let mode = t.mode;
-    let form = t.form;
-    let keeps = t.keeps;
-    let named = t.group;
-    let size = named.len;
+    let size = t.group.len;
     let own = Task {
-        mode,
-        form,
-        keeps,
-        n: t.n,
-        d: t.d,
         s: size,
         group: Group {
             len: size,
             systems: [0, 1, 2, 3, 4, 5, 6, 7],
         },
-        temperature: t.temperature,
-        reference: t.reference,
-        seed: t.seed,
+        ..t
     };
     let l = Lengths {
         spins: tested::spins_for(size, columns.len()),
@@ -82,21 +72,18 @@ pub fn packed_step(
         found: found.len(),
         grey_found: grey_found.len(),
     };
-    let fault = tested::test_packed(
+    tested::test_packed(
         own, columns, totals, fwd, bwd, pins, couplings, cuts, choices, greys, l,
-    );
-    if fault != 0 {
-        return Answer::Refused(fault);
-    }
-    if form.grows() {
-        return grown::run_grown(
+    )?;
+    if t.form.grows() {
+        return Ok(grown::run_grown(
             own, columns, totals, fwd, bwd, pins, couplings, cuts, choices, greys, members,
-        );
+        ));
     }
     let mut area = [0u8; 4096];
     let n = t.n;
     let news = &mut area[..n];
-    let answer = perform::run_labelled(
+    let outcome = perform::run_labelled(
         own,
         columns,
         news,
@@ -116,5 +103,5 @@ pub fn packed_step(
         grey_found,
     );
     columns::copy(news, columns);
-    answer
+    Ok(outcome)
 }

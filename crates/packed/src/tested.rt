@@ -2,10 +2,11 @@
 ghost use Rattle.std.specs.Prelude.{◌≡◌, ◌≤◌};
 ghost use Rattle.paper.specs.Panel.Made.{call_of, choices_of};
 ghost use Rattle.paper.specs.Refusal.Verdict.{Verdict};
+ghost use Rattle.paper.specs.Refusal.Numbers.{verdict_of};
 ghost use Rattle.packed.specs.Lengths.{clip, spins_for};
 ghost use Rattle.packed.specs.Tested.{Handed, packed_rules};
 
-use paper::{Form, Group, Keeps, Lengths, Task};
+use paper::{Form, Group, Keeps, Lengths, Refusal, Task};
 
 fn clipped(top: usize, x: usize) -> usize
     requires { top ≤ 4096 }
@@ -21,7 +22,7 @@ pub(crate) fn spins_for(members: usize, bytes: usize) -> usize
     clipped(8, members) * clipped(4096, bytes)
 }
 
-// The number of the first test that fails, or 0. The task is one on rows of its own.
+// The refusal of the first test that fails. The task is one on rows of its own.
 pub(crate) fn test_packed(
     t: Task,
     columns: &[u8],
@@ -34,37 +35,28 @@ pub(crate) fn test_packed(
     choices: &[u8],
     greys: &[u8],
     l: Lengths,
-) -> u8
+) -> Result<(), Refusal>
     requires { Handed t columns.now fwd.now bwd.now couplings.now choices.now greys.now l }
     ensures { Verdict
         (packed_rules t columns.now totals.now
         (call_of t fwd.now bwd.now pins.now couplings.now cuts.now)
         (choices_of choices.now greys.now) l)
-        result }
+        (verdict_of result) }
 {
-    let shape = tests::panel::test_shape(t, totals.len(), l);
-    if shape != 0 {
-        return shape;
-    }
+    tests::panel::test_shape(t, totals.len(), l)?;
     let group = t.group;
     if !lattice::bytes_at_most(columns, packing::highest(group.len)) {
-        return 3;
+        return Err(Refusal::Spins);
     }
-    let tables = tests::panel::test_tables(t, fwd, bwd, pins, couplings);
-    if tables != 0 {
-        return tables;
-    }
-    let chosen = tests::choices::test_chosen(t, cuts, choices, greys);
-    if chosen != 0 {
-        return chosen;
-    }
+    tests::panel::test_tables(t, fwd, bwd, pins, couplings)?;
+    tests::choices::test_chosen(t, cuts, choices, greys)?;
     if !tests::choices::seed_column_ok(t, columns) {
-        return 10;
+        return Err(Refusal::Seed);
     }
     let keeps = t.keeps;
     let form = t.form;
     if !systems::group_totals_fit(keeps.totals(form), totals, group) {
-        return 14;
+        return Err(Refusal::Totals);
     }
-    0
+    Ok(())
 }

@@ -1,5 +1,7 @@
 -- What each function's promise allows for one input is one number and one content of the buffer.
-use Rattle.std.specs.Prelude.{ℕ, ◌-◌, ◌^◌, ◌≡◌, List, ℤ}
+use Rattle.std.specs.Prelude.{ℕ, ◌-◌, ◌^◌, ◌≡◌, List, ℤ, Result}
+use Rattle.paper.specs.declared.Refusal.{Refusal}
+use Rattle.paper.specs.Refusal.Numbers.{verdict_of, verdict_of_injective}
 use Rattle.std.proofs.Common.{sym, ◌∙◌}
 use Rattle.std.proofs.Math.Decide.{ℕ_discrete}
 use Rattle.lemmas.specs.Determined.{one_value}
@@ -46,3 +48,12 @@ pub unpack_determined :
     → UnpackAnswers n m columns rows s z
     → Same r s y z
 unpack_determined n m columns rows = answers_determined (unpack_rules n m columns rows) (rows_of m columns) rows
+
+-- both return one result
+pub answers_result_determined :
+    {A : Type 0} (rules : List Rule) (new before : List A) (a b : Result (Unit {0}) Refusal) (y z : List A)
+    → Answers rules new before (verdict_of a) y
+    → Answers rules new before (verdict_of b) z
+    → a ≡ b
+answers_result_determined rules new before a b y z p q =
+    verdict_of_injective a b (answers_determined rules new before (verdict_of a) (verdict_of b) y z p q).answer

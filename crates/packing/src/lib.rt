@@ -5,8 +5,9 @@ ghost use Rattle.std.specs.Prelude.{◌≡◌, ◌-◌, ◌^◌};
 ghost use Rattle.lemmas.specs.Tells.{Tells};
 ghost use Rattle.packing.specs.Bytes.{own_group};
 ghost use Rattle.packing.specs.Answer.{Members, Sized, Exact, PackAnswers, UnpackAnswers};
+ghost use Rattle.paper.specs.Refusal.Numbers.{verdict_of};
 
-use paper::Group;
+use paper::{Group, Refusal};
 
 // The group of the systems 0 to m - 1, whose rows stand in the members' order.
 pub fn own_group(m: usize) -> Group
@@ -40,35 +41,35 @@ pub fn highest(members: usize) -> u8
 }
 
 // Writes a byte for each site from the rows.
-pub fn pack(n: usize, members: usize, rows: &[i8], columns: &mut [u8]) -> u8
-    ensures { PackAnswers n members rows.now columns.old result columns.new }
+pub fn pack(n: usize, members: usize, rows: &[i8], columns: &mut [u8]) -> Result<(), Refusal>
+    ensures { PackAnswers n members rows.now columns.old (verdict_of result) columns.new }
 {
     if !sized(n, members) {
-        return 1;
+        return Err(Refusal::Sizes);
     }
     if !exact(n, members, rows.len(), columns.len()) {
-        return 2;
+        return Err(Refusal::Lengths);
     }
     if !lattice::spins_ok(rows) {
-        return 3;
+        return Err(Refusal::Spins);
     }
     columns::pack(rows, n, own_group(members), columns);
-    0
+    Ok(())
 }
 
 // Writes the rows that the bytes stand for.
-pub fn unpack(n: usize, members: usize, columns: &[u8], rows: &mut [i8]) -> u8
-    ensures { UnpackAnswers n members columns.now rows.old result rows.new }
+pub fn unpack(n: usize, members: usize, columns: &[u8], rows: &mut [i8]) -> Result<(), Refusal>
+    ensures { UnpackAnswers n members columns.now rows.old (verdict_of result) rows.new }
 {
     if !sized(n, members) {
-        return 1;
+        return Err(Refusal::Sizes);
     }
     if !exact(n, members, rows.len(), columns.len()) {
-        return 2;
+        return Err(Refusal::Lengths);
     }
     if !lattice::bytes_at_most(columns, highest(members)) {
-        return 3;
+        return Err(Refusal::Spins);
     }
     columns::write_rows(rows, n, own_group(members), columns);
-    0
+    Ok(())
 }

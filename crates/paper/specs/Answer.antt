@@ -1,4 +1,5 @@
--- What is answered: the numbers of the cases, then a move, a sweep and its tasks, the meter, totals beside the replicas, two teams, and the frame program.
+-- What is answered: the cases of an answer, their numbers, then a move, a sweep and its tasks, the meter, totals beside the replicas, two teams, and the frame program.
+pub mod Cases
 pub mod Number
 pub mod Move
 pub mod Task

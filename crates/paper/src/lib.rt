@@ -3,6 +3,7 @@
 
 ghost use Rattle.std.specs.Prelude.{◌≡◌};
 ghost use Rattle.paper.specs.Site.Bonds.{sampler_of};
+ghost use Rattle.paper.specs.Refusal.Numbers.{number_of};
 ghost use Rattle.paper.specs.Panel.Takes.{is_houd, is_perm, is_gperm, is_cmr, is_drawn, is_sw, one_cluster, grows_by, labels_by, moves};
 ghost use Rattle.paper.specs.Panel.Takes.{flips_by, perms_by, choices_by, greys_by, grey_labels_by, keeps_by, entries, choice_width};
 
@@ -13,7 +14,7 @@ pub struct Group {
     pub systems: [usize; 8],
 }
 
-#[derive(Clone, Copy)]
+#[derive(Clone, Copy, PartialEq, Eq, Debug)]
 pub enum Mode {
     Houd,
     Pair,
@@ -23,7 +24,7 @@ pub enum Mode {
     Cmr,
 }
 
-#[derive(Clone, Copy)]
+#[derive(Clone, Copy, PartialEq, Eq, Debug)]
 pub enum Form {
     Sw,
     Wolff,
@@ -36,70 +37,35 @@ impl Mode {
     pub fn is_perm(self) -> bool
         ensures { result ≡ is_perm self }
     {
-        match self {
-            Mode::Houd => false,
-            Mode::Pair => false,
-            Mode::Perm => true,
-            Mode::Gperm => true,
-            Mode::Jorg => false,
-            Mode::Cmr => false,
-        }
+        matches!(self, Mode::Perm | Mode::Gperm)
     }
 
     // Negates both of two replicas; of more only observed.
     pub fn is_houd(self) -> bool
         ensures { result ≡ is_houd self }
     {
-        match self {
-            Mode::Houd => true,
-            Mode::Pair => false,
-            Mode::Perm => false,
-            Mode::Gperm => false,
-            Mode::Jorg => false,
-            Mode::Cmr => false,
-        }
+        matches!(self, Mode::Houd)
     }
 
     // Takes a reference site.
     pub fn is_gperm(self) -> bool
         ensures { result ≡ is_gperm self }
     {
-        match self {
-            Mode::Houd => false,
-            Mode::Pair => false,
-            Mode::Perm => false,
-            Mode::Gperm => true,
-            Mode::Jorg => false,
-            Mode::Cmr => false,
-        }
+        matches!(self, Mode::Gperm)
     }
 
     // Has grey components beside the blue ones.
     pub fn is_cmr(self) -> bool
         ensures { result ≡ is_cmr self }
     {
-        match self {
-            Mode::Houd => false,
-            Mode::Pair => false,
-            Mode::Perm => false,
-            Mode::Gperm => false,
-            Mode::Jorg => false,
-            Mode::Cmr => true,
-        }
+        matches!(self, Mode::Cmr)
     }
 
     // Draws its bonds.
     pub fn is_drawn(self) -> bool
         ensures { result ≡ is_drawn self }
     {
-        match self {
-            Mode::Houd => false,
-            Mode::Pair => false,
-            Mode::Perm => false,
-            Mode::Gperm => false,
-            Mode::Jorg => true,
-            Mode::Cmr => true,
-        }
+        matches!(self, Mode::Jorg | Mode::Cmr)
     }
 
     pub fn takes_flips(self, form: Form) -> bool
@@ -146,36 +112,21 @@ impl Form {
     pub fn is_sw(self) -> bool
         ensures { result ≡ is_sw self }
     {
-        match self {
-            Form::Sw => true,
-            Form::Wolff => false,
-            Form::Observe => false,
-            Form::Grow => false,
-        }
+        matches!(self, Form::Sw)
     }
 
     // Moves the component of a seed.
     pub fn one_cluster(self) -> bool
         ensures { result ≡ one_cluster self }
     {
-        match self {
-            Form::Sw => false,
-            Form::Wolff => true,
-            Form::Observe => false,
-            Form::Grow => true,
-        }
+        matches!(self, Form::Wolff | Form::Grow)
     }
 
     // Finds that component alone and writes its members.
     pub fn grows(self) -> bool
         ensures { result ≡ grows_by self }
     {
-        match self {
-            Form::Sw => false,
-            Form::Wolff => false,
-            Form::Observe => false,
-            Form::Grow => true,
-        }
+        matches!(self, Form::Grow)
     }
 
     // Finds every component and writes labels, counts and sizes.
@@ -189,12 +140,7 @@ impl Form {
     pub fn moves(self) -> bool
         ensures { result ≡ moves self }
     {
-        match self {
-            Form::Sw => true,
-            Form::Wolff => true,
-            Form::Observe => false,
-            Form::Grow => true,
-        }
+        matches!(self, Form::Sw | Form::Wolff | Form::Grow)
     }
 
     // How many entries a buffer of choices has.
@@ -203,15 +149,14 @@ impl Form {
     {
         match self {
             Form::Sw => n,
-            Form::Wolff => 1,
+            Form::Wolff | Form::Grow => 1,
             Form::Observe => 0,
-            Form::Grow => 1,
         }
     }
 }
 
 // What a move keeps beside the spins: nothing, or each system's energy.
-#[derive(Clone, Copy)]
+#[derive(Clone, Copy, PartialEq, Eq, Debug)]
 pub enum Keeps {
     Nothing,
     Totals,
@@ -279,9 +224,53 @@ pub struct Lengths {
     pub grey_found: usize,
 }
 
-#[derive(Clone, Copy)]
-pub enum Answer {
-    Refused(u8),
+// The refusals, each with its number: what is wrong with an input.
+#[derive(Clone, Copy, PartialEq, Eq, Debug)]
+pub enum Refusal {
+    Sizes,
+    Lengths,
+    Spins,
+    Tables,
+    Systems,
+    Couplings,
+    Temperature,
+    Cuts,
+    Choices,
+    Seed,
+    Frames,
+    Draws,
+    EdgeList,
+    Totals,
+    HoudOfMany,
+}
+
+impl Refusal {
+    pub fn number(self) -> u8
+        ensures { result ≡ number_of self }
+    {
+        match self {
+            Refusal::Sizes => 1,
+            Refusal::Lengths => 2,
+            Refusal::Spins => 3,
+            Refusal::Tables => 4,
+            Refusal::Systems => 5,
+            Refusal::Couplings => 6,
+            Refusal::Temperature => 7,
+            Refusal::Cuts => 8,
+            Refusal::Choices => 9,
+            Refusal::Seed => 10,
+            Refusal::Frames => 11,
+            Refusal::Draws => 12,
+            Refusal::EdgeList => 13,
+            Refusal::Totals => 14,
+            Refusal::HoudOfMany => 15,
+        }
+    }
+}
+
+// What becomes of an accepted move: no site acts, a pin holds the seed's component, or it moves.
+#[derive(Clone, Copy, PartialEq, Eq, Debug)]
+pub enum Outcome {
     Idle,
     Held,
     Moved,
@@ -314,16 +303,10 @@ impl Sampler {
     }
 }
 
-// A sweep's answer: a refusal, or how many unmasked tasks were idle, how many moved and how many were held.
-#[derive(Clone, Copy)]
-pub enum SweepAnswer {
-    Fault(u8),
-    Swept(u32, u32, u32),
-}
-
-// The meter's answer: a refusal, or the energy of one system.
-#[derive(Clone, Copy)]
-pub enum MeterAnswer {
-    Unmetered(u8),
-    Energy(i64),
+// Of an accepted sweep: how many unmasked tasks were idle, how many moved and how many were held.
+#[derive(Clone, Copy, PartialEq, Eq, Debug)]
+pub struct Counts {
+    pub idle: u32,
+    pub moved: u32,
+    pub held: u32,
 }

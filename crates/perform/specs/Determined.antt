@@ -1,7 +1,7 @@
 -- How tight the promise is: it allows one answer, one content of every buffer and one of the totals.
 use Rattle.std.specs.Prelude.{ℕ, ◌≡◌, Bool, List, [], ℤ}
 use Rattle.std.proofs.Common.{sym}
-use Rattle.paper.specs.declared.Answer.{Answer}
+use Rattle.paper.specs.Answer.Cases.{Answer}
 use Rattle.paper.specs.Panel.Input.{Call, Choices, Buffers}
 use Rattle.paper.specs.Panel.Made.{buffers_of}
 use Rattle.paper.specs.Answer.Move.{Answers}

@@ -1,8 +1,7 @@
 -- A task keeps its group's spins +1 or -1.
 use Rattle.std.specs.Prelude.{ℕ, ◌≡◌, ◌⊎◌, true, List, length, ℤ}
 use Rattle.std.proofs.Common.{ap, subst, inl, inr}
-use Rattle.paper.specs.declared.Answer.{Answer}
-use Rattle.paper.specs.declared.Answer.TheVariants.{Refused, Idle, Held, Moved}
+use Rattle.paper.specs.Answer.Cases.{Answer, Answer.Refused, Answer.Idle, Answer.Held, Answer.Moved}
 use Rattle.paper.specs.Panel.Input.{graph, Call, Choices, Buffers, spin}
 use Rattle.paper.specs.Panel.Takes.{grows_by, labels_by, moves}
 use Rattle.paper.specs.Site.Bonds.{holds}

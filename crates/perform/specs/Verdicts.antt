@@ -1,7 +1,6 @@
 -- From the verdict of the tests, and what a task leaves, to a call's answer.
 use Rattle.std.specs.Prelude.{ℕ, zero, suc, ◌<◌, ◌≤◌, ◌≡◌, refl, Bool, List, ℤ, nat_abs}
-use Rattle.paper.specs.declared.Answer.{Answer}
-use Rattle.paper.specs.declared.Answer.TheVariants.{Refused, Idle, Held, Moved}
+use Rattle.paper.specs.Answer.Cases.{Answer, Answer.Refused, Answer.Idle, Answer.Held, Answer.Moved}
 use Rattle.paper.specs.Panel.Input.{Call, Choices, Buffers, member}
 use Rattle.paper.specs.Refusal.Rule.{Rule, Kept, Broken, broken_not_kept}
 use Rattle.paper.specs.Refusal.Rules.{When, group_names, rules}

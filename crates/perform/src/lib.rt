@@ -7,10 +7,11 @@ ghost use Rattle.paper.specs.Panel.Takes.{keeps_by};
 ghost use Rattle.paper.specs.Refusal.Kept.{Valid};
 ghost use Rattle.paper.specs.Answer.Move.{Answers};
 ghost use Rattle.paper.specs.Answer.Totals.{TotalsReady, TotalsAfter};
-ghost use Rattle.moves.specs.Leaves.{RunAsks, beside_of, changes, RunLeaves};
+ghost use Rattle.paper.specs.Answer.Cases.{answer_by};
+ghost use Rattle.moves.specs.Leaves.{RunAsks, beside_of, RunLeaves};
 ghost use Rattle.perform.specs.Kept.{KeepsFor, RowsAsk};
 
-use paper::{Answer, Form, Group, Keeps, Task};
+use paper::{Form, Group, Keeps, Outcome, Task};
 
 // A form that labels, on the columns of its group: those before the task and after it tell which sites changed.
 pub fn run_labelled(
@@ -31,7 +32,7 @@ pub fn run_labelled(
     sizes: &mut [u32],
     found: &mut [u32],
     grey_found: &mut [u32],
-) -> Answer
+) -> Outcome
     requires run_asks { RunAsks
         (call_of t fwd.now bwd.now pins.now couplings.now cuts.now)
         (choices_of choices.now greys.now)
@@ -44,7 +45,7 @@ pub fn run_labelled(
         cols.now
         (beside_of labels.old grey_labels.old counts.old sizes.old
         found.old grey_found.old)
-        result
+        (answer_by result)
         news.new
         (beside_of labels.new grey_labels.new counts.new sizes.new
         found.new grey_found.new) }
@@ -79,18 +80,6 @@ pub fn run_labelled(
     answer
 }
 
-// May a task of the form that gave this answer have changed columns?
-fn changed(form: Form, answer: Answer) -> bool
-    ensures { result ≡ changes form answer }
-{
-    match answer {
-        Answer::Refused(_) => false,
-        Answer::Idle => false,
-        Answer::Held => false,
-        Answer::Moved => form.moves(),
-    }
-}
-
 // The same on rows: they are packed, and written from the columns where these may have changed.
 fn run_rows(
     t: Task,
@@ -109,7 +98,7 @@ fn run_rows(
     sizes: &mut [u32],
     found: &mut [u32],
     grey_found: &mut [u32],
-) -> Answer
+) -> Outcome
     requires rows_ask { RowsAsk
         (call_of t fwd.now bwd.now pins.now couplings.now cuts.now)
         (choices_of choices.now greys.now)
@@ -121,7 +110,7 @@ fn run_rows(
         (choices_of choices.now greys.now)
         (buffers_of spins.old labels.old grey_labels.old counts.old sizes.old members
         found.old grey_found.old)
-        result
+        (answer_by result)
         (buffers_of spins.new labels.new grey_labels.new counts.new sizes.new members
         found.new grey_found.new) }
     ensures totals_after { TotalsAfter
@@ -156,7 +145,7 @@ fn run_rows(
         grey_found,
     );
     let form = t.form;
-    if changed(form, answer) {
+    if moves::changed(form, answer) {
         columns::write_rows(spins, n, group, news);
     }
     answer
@@ -181,7 +170,7 @@ pub fn run_form(
     members: &mut [u8],
     found: &mut [u32],
     grey_found: &mut [u32],
-) -> Answer
+) -> Outcome
     requires valid { Valid
         (call_of t fwd.now bwd.now pins.now couplings.now cuts.now)
         (choices_of choices.now greys.now)
@@ -194,7 +183,7 @@ pub fn run_form(
         (choices_of choices.now greys.now)
         (buffers_of spins.old labels.old grey_labels.old counts.old sizes.old
         members.old found.old grey_found.old)
-        result
+        (answer_by result)
         (buffers_of spins.new labels.new grey_labels.new counts.new sizes.new
         members.new found.new grey_found.new) }
     ensures totals_after { TotalsAfter

@@ -1,15 +1,22 @@
-// The head of a case, and the lengths that follow from it.
-ghost use Rattle.std.specs.Prelude.{◌≤◌};
-ghost use Rattle.replay.specs.Sizes.{Held};
+// The head of a case, from which the lengths of its fields follow.
+ghost use Rattle.std.specs.Prelude.{◌≤◌, IfOk};
 
-use crate::fields::{byte, past, word};
+use crate::bad_list::BadList;
 use paper::{Form, Mode};
+
+pub(crate) const HEAD_LENGTH: usize = 12;
+
+#[derive(Clone, Copy)]
+pub(crate) enum Kind {
+    Move,
+    Sweep,
+}
 
 #[derive(Clone, Copy)]
 pub(crate) struct Head {
-    pub(crate) kind: u8,
-    pub(crate) mode: u8,
-    pub(crate) form: u8,
+    pub(crate) kind: Kind,
+    pub(crate) mode: Mode,
+    pub(crate) form: Form,
     pub(crate) marks: u8,
     pub(crate) n: usize,
     pub(crate) d: usize,
@@ -18,139 +25,170 @@ pub(crate) struct Head {
     pub(crate) t: usize,
     pub(crate) r: usize,
     pub(crate) tasks: usize,
+    ghost n_bound: { n ≤ 8 },
+    ghost d_bound: { d ≤ 4 },
+    ghost s_bound: { s ≤ 8 },
+    ghost members_bound: { members ≤ 8 },
+    ghost t_bound: { t ≤ 4 },
+    ghost r_bound: { r ≤ 8 },
+    ghost tasks_bound: { tasks ≤ 4 },
 }
 
-fn size(list: &[u8], at: usize) -> usize {
-    byte(list, at) as usize
-}
+impl TryFrom<u8> for Kind {
+    type Error = BadList;
 
-pub(crate) fn read(list: &[u8], at: usize) -> Head {
-    Head {
-        kind: byte(list, at),
-        mode: byte(list, past(at, 1)),
-        form: byte(list, past(at, 2)),
-        marks: byte(list, past(at, 3)),
-        n: word(list, past(at, 4)) as usize,
-        d: size(list, past(at, 6)),
-        s: size(list, past(at, 7)),
-        members: size(list, past(at, 8)),
-        t: size(list, past(at, 9)),
-        r: size(list, past(at, 10)),
-        tasks: size(list, past(at, 11)),
-    }
-}
-
-// The limits of the format, for which the buffers have room.
-pub(crate) fn fits(h: Head) -> bool {
-    (h.kind < 2)
-        & (h.mode < 6)
-        & (h.form < 3)
-        & (h.n < 9)
-        & (h.d < 5)
-        & (h.s < 9)
-        & (h.members < 9)
-        & (h.t < 5)
-        & (h.r < 9)
-        & (h.tasks < 5)
-}
-
-pub(crate) fn mode_of(h: Head) -> Mode {
-    let mode = h.mode;
-    match mode {
-        0 => Mode::Houd,
-        1 => Mode::Pair,
-        2 => Mode::Perm,
-        3 => Mode::Gperm,
-        4 => Mode::Jorg,
-        _ => Mode::Cmr,
-    }
-}
-
-pub(crate) fn form_of(h: Head) -> Form {
-    let form = h.form;
-    match form {
-        0 => Form::Sw,
-        1 => Form::Wolff,
-        _ => Form::Observe,
-    }
-}
-
-// The product, where the buffer has room for it, as it has where `fits` answered true; else 0, which the port would refuse.
-pub(crate) fn room(a: usize, b: usize, most: usize) -> usize
-    ensures { result ≤ most }
-{
-    if a < 65536 {
-        if b < 65536 {
-            let p = a * b;
-            if p <= most {
-                return p;
-            }
+    fn try_from(number: u8) -> Result<Kind, BadList> {
+        match number {
+            0 => Ok(Kind::Move),
+            1 => Ok(Kind::Sweep),
+            _ => Err(BadList::Sizes),
         }
     }
-    0
+}
+
+fn mode_of(number: u8) -> Result<Mode, BadList> {
+    match number {
+        0 => Ok(Mode::Houd),
+        1 => Ok(Mode::Pair),
+        2 => Ok(Mode::Perm),
+        3 => Ok(Mode::Gperm),
+        4 => Ok(Mode::Jorg),
+        5 => Ok(Mode::Cmr),
+        _ => Err(BadList::Sizes),
+    }
+}
+
+fn form_of(number: u8) -> Result<Form, BadList> {
+    match number {
+        0 => Ok(Form::Sw),
+        1 => Ok(Form::Wolff),
+        2 => Ok(Form::Observe),
+        _ => Err(BadList::Sizes),
+    }
+}
+
+fn at_most(most: u16, number: u16) -> Result<usize, BadList>
+    ensures { IfOk result (λ n. n ≤ most) }
+{
+    if number <= most {
+        Ok(usize::from(number))
+    } else {
+        Err(BadList::Sizes)
+    }
+}
+
+impl TryFrom<[u8; HEAD_LENGTH]> for Head {
+    type Error = BadList;
+
+    fn try_from(bytes: [u8; HEAD_LENGTH]) -> Result<Head, BadList> {
+        let [
+            kind,
+            mode,
+            form,
+            marks,
+            n_high,
+            n_low,
+            d,
+            s,
+            members,
+            t,
+            r,
+            tasks,
+        ] = bytes;
+        Ok(Head {
+            kind: Kind::try_from(kind)?,
+            mode: mode_of(mode)?,
+            form: form_of(form)?,
+            marks,
+            n: at_most(8, u16::from_be_bytes([n_high, n_low]))?,
+            d: at_most(4, u16::from(d))?,
+            s: at_most(8, u16::from(s))?,
+            members: at_most(8, u16::from(members))?,
+            t: at_most(4, u16::from(t))?,
+            r: at_most(8, u16::from(r))?,
+            tasks: at_most(4, u16::from(tasks))?,
+        })
+    }
 }
 
 // The length where it is taken, else none.
-pub(crate) fn only(taken: bool, length: usize) -> usize
+fn only(taken: bool, length: usize) -> usize
     ensures { result ≤ length }
 {
     if taken { length } else { 0 }
 }
 
 // How many elements each buffer of the case has.
-#[derive(Clone, Copy)]
-pub(crate) struct Sizes {
-    pub(crate) systems: usize,
-    pub(crate) times: usize,
-    pub(crate) spins: usize,
-    pub(crate) bonds: usize,
-    pub(crate) couplings: usize,
-    pub(crate) temperatures: usize,
-    pub(crate) cuts: usize,
-    pub(crate) references: usize,
-    pub(crate) seeds: usize,
-    pub(crate) choices: usize,
-    pub(crate) greys: usize,
-    pub(crate) labels: usize,
-    pub(crate) grey_labels: usize,
-    pub(crate) counts: usize,
-    pub(crate) sizes: usize,
-    pub(crate) found: usize,
-    pub(crate) grey_found: usize,
-    pub(crate) pins: usize,
-}
+impl Head {
+    pub(crate) fn bonds(&self) -> usize
+        ensures { result ≤ 32 }
+    {
+        self.n * self.d
+    }
 
-pub(crate) fn sizes_of(h: Head) -> Sizes
-    ensures { Held result }
-{
-    let mode = mode_of(h);
-    let form = form_of(h);
-    let drawn = mode.is_drawn();
-    let times = room(h.t, 1, 4);
-    let bonds = room(h.n, h.d, 32);
-    let couplings = only(drawn, bonds);
-    let tasks = room(h.tasks, 1, 4);
-    let labels = room(tasks, h.n, 32);
-    let picks = room(tasks, form.entries(h.n), 32);
-    let bytes = room(picks, mode.choice_width(h.members), 256);
-    Sizes {
-        systems: room(h.t, h.r, 32),
-        times,
-        spins: room(h.s, h.n, 64),
-        bonds,
-        couplings,
-        temperatures: only(drawn, times),
-        cuts: room(tasks, couplings, 128),
-        references: only(mode.is_gperm(), tasks),
-        seeds: only(form.one_cluster(), tasks),
-        choices: only(mode.takes_choices(form), bytes),
-        greys: only(mode.takes_greys(form), picks),
-        labels,
-        grey_labels: only(mode.takes_greys(form), labels),
-        counts: labels + tasks,
-        sizes: 4 * tasks,
-        found: tasks,
-        grey_found: only(mode.takes_greys(form), tasks),
-        pins: room(h.n, 1, 8),
+    pub(crate) fn couplings(&self) -> usize
+        ensures { result ≤ 32 }
+    {
+        only(self.mode.is_drawn(), self.bonds())
+    }
+
+    pub(crate) fn temperatures(&self) -> usize {
+        only(self.mode.is_drawn(), self.t)
+    }
+
+    pub(crate) fn cuts(&self) -> usize {
+        self.tasks * self.couplings()
+    }
+
+    pub(crate) fn references(&self) -> usize {
+        only(self.mode.is_gperm(), self.tasks)
+    }
+
+    pub(crate) fn seeds(&self) -> usize {
+        only(self.form.one_cluster(), self.tasks)
+    }
+
+    // How many entries each task's choices have.
+    fn entries(&self) -> usize
+        ensures { result ≤ 8 }
+    {
+        match self.form {
+            Form::Sw => self.n,
+            Form::Wolff | Form::Grow => 1,
+            Form::Observe => 0,
+        }
+    }
+
+    pub(crate) fn choices(&self) -> usize {
+        let width = if self.mode.is_perm() { self.members } else { 1 };
+        only(
+            self.mode.takes_choices(self.form),
+            self.tasks * self.entries() * width,
+        )
+    }
+
+    pub(crate) fn greys(&self) -> usize {
+        only(
+            self.mode.takes_greys(self.form),
+            self.tasks * self.entries(),
+        )
+    }
+
+    pub(crate) fn labels(&self) -> usize
+        ensures { result ≤ 32 }
+    {
+        self.tasks * self.n
+    }
+
+    pub(crate) fn grey_labels(&self) -> usize {
+        only(self.mode.takes_greys(self.form), self.labels())
+    }
+
+    pub(crate) fn counts(&self) -> usize {
+        self.labels() + self.tasks
+    }
+
+    pub(crate) fn grey_found(&self) -> usize {
+        only(self.mode.takes_greys(self.form), self.tasks)
     }
 }

@@ -2,61 +2,56 @@
 // list on standard input. Shared with the port are the types of its calls and what these say of modes and forms; no rule and no move.
 #![tactic(auto)]
 
-mod call;
-mod cases;
+mod bad_list;
+mod case;
 mod digits;
-mod fields;
 mod head;
-mod panel;
-mod report;
+mod outputs;
+mod reader;
+mod tally;
 
-ghost use Rattle.std.specs.Prelude.{◌≡◌, length};
+ghost use Rattle.std.specs.Prelude.{◌≡◌, ◌≤◌, length};
 
-use cases::Ending;
-use digits::Digits;
+use bad_list::BadList;
+use case::Case;
 use input::read_full;
+use outputs::Played;
+use reader::Reader;
+use std::alloc::Global;
 use std::io;
+use tally::Tally;
 
-// 65,536 zeros. The `ensures` gives only the length, which lending the array as a slice needs.
-fn large_buffer() -> [u8; 65536]
-    ensures { 65536 ≡ length result }
-{
-    [0; 65536]
+// A text of so many bytes is too long for any list.
+const LONGEST: usize = 131072;
+
+// Nothing may stand behind the last case.
+fn replay(alloc: Global, text: &[u8]) -> Result<Tally, BadList> {
+    if text.len() == LONGEST {
+        return Err(BadList::Long);
+    }
+    let bytes = digits::decode(alloc, text)?;
+    let mut list = Reader::new(&bytes);
+    let mut tally = Tally::new();
+    for _ in 0..list.word()? {
+        let head = list.head()?;
+        let case = Case::read(alloc, &mut list, head)?;
+        let listed = Played::read(alloc, &mut list, head)?;
+        tally.note(head, case.play(alloc)? == listed);
+    }
+    if list.is_empty() {
+        Ok(tally)
+    } else {
+        Err(BadList::Long)
+    }
 }
 
-// The bytes that the digits make, replayed.
-fn replay(rt: &impl Print, list: &[u8], wrong: bool) -> io::Result<()> {
-    if wrong {
-        return report::bad(rt, b"a wrong digit, or half a byte");
-    }
-    let mut good = [0u32; 18];
-    let mut all = [0u32; 18];
-    let mut marks = [0u32; 5];
-    let ending = cases::run_all(list, &mut good, &mut all, &mut marks);
-    match ending {
-        Ending::Short => report::bad(rt, b"too short"),
-        Ending::Long => report::bad(rt, b"too long"),
-        Ending::Sizes => report::bad(rt, b"sizes out of range"),
-        Ending::Whole => report::report(rt, &good, &all, &marks),
-    }
-}
-
-// The text is longer than one buffer, and its bytes are half of it: it is read in two parts. One that fills both is too long for any list.
 fn main(rt: HostRuntime) -> io::Result<()> {
-    let mut text = large_buffer();
-    let mut list = large_buffer();
-    let start = Digits {
-        count: 0,
-        wrong: false,
-    };
-    let mut stdin = rt.stdin();
-    let first = read_full(&mut stdin, &mut text)?;
-    let half = digits::decode(&text[..first], start, &mut list);
-    let second = read_full(&mut stdin, &mut text)?;
-    let whole = digits::decode(&text[..second], half, &mut list);
-    if second == 65536 {
-        return report::bad(&rt, b"too long");
+    let alloc = rt.alloc();
+    let mut text = vec![in alloc; 0u8; LONGEST]?;
+    let length = read_full(&mut rt.stdin(), &mut text)?;
+    match replay(alloc, &text[..length]) {
+        Ok(tally) => print!(rt; "{tally}"),
+        Err(BadList::Memory(error)) => Err(io::Error::from(error)),
+        Err(error) => println!(rt; "bad list: {error}"),
     }
-    let k = digits::whole_bytes(whole, &list);
-    replay(&rt, &list[..k], digits::misspelt(whole))
 }

@@ -8,7 +8,7 @@ use Rattle.lemmas.specs.Bools.{never, every}
 use Rattle.paper.specs.declared.Mode.TheVariants.{Cmr}
 use Rattle.paper.specs.declared.Form.{Form}
 use Rattle.paper.specs.declared.Form.TheVariants.{Sw, Wolff}
-use Rattle.paper.specs.declared.Answer.TheVariants.{Moved}
+use Rattle.paper.specs.Answer.Cases.{Answer.Moved}
 use Rattle.paper.specs.Panel.Input.{Lattice, Call, Choices, Buffers}
 use Rattle.paper.specs.Site.Acting.{acts}
 use Rattle.paper.specs.Site.Bonds.{whole, holds, holds_grey}

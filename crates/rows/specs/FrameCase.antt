@@ -4,7 +4,7 @@ use Rattle.std.proofs.Common.{inr, arith}
 use Rattle.lemmas.specs.Cells.{table}
 use Rattle.lemmas.specs.Bools.{every, below_test, below_by}
 use Rattle.paper.specs.declared.Mode.TheVariants.{Perm}
-use Rattle.paper.specs.declared.Answer.TheVariants.{Moved}
+use Rattle.paper.specs.Answer.Cases.{Answer.Moved}
 use Rattle.paper.specs.Refusal.Rules.{group_names, Named}
 use Rattle.paper.specs.Refusal.Kept.{Valid, valid_of}
 use Rattle.paper.specs.Answer.Frame.{Spelt, hex, unhex, first_line, next, bytes, words, two_bytes, HasBack, FrameAnswers}

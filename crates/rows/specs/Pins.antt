@@ -8,7 +8,7 @@ use Rattle.paper.specs.declared.Mode.{Mode}
 use Rattle.paper.specs.declared.Mode.TheVariants.{Pair, Perm}
 use Rattle.paper.specs.declared.Form.{Form}
 use Rattle.paper.specs.declared.Form.TheVariants.{Sw, Wolff}
-use Rattle.paper.specs.declared.Answer.TheVariants.{Idle, Held, Moved}
+use Rattle.paper.specs.Answer.Cases.{Answer.Idle, Answer.Held, Answer.Moved}
 use Rattle.paper.specs.Panel.Input.{Lattice, Call, Choices, Buffers}
 use Rattle.paper.specs.Site.Acting.{differs, pair_differs, acts}
 use Rattle.paper.specs.Site.Bonds.{whole, holds, holds_grey}

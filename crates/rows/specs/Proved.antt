@@ -1,6 +1,6 @@
 -- The table, by computing.
 use Rattle.paper.specs.declared.Mode.TheVariants.{Pair, Perm}
-use Rattle.paper.specs.declared.Answer.TheVariants.{Moved}
+use Rattle.paper.specs.Answer.Cases.{Answer.Moved}
 use Rattle.paper.specs.Panel.Input.{Call, Choices, Buffers}
 use Rattle.paper.specs.Answer.Move.{Answers}
 use Rattle.paper.specs.Rows.Cases.{frame, frame_perms, all_flips, before13, after13, moved13, case_text, case_out}

@@ -8,7 +8,7 @@ use Rattle.lemmas.specs.Bools.{every}
 use Rattle.paper.specs.declared.Mode.TheVariants.{Pair, Perm, Gperm, Jorg}
 use Rattle.paper.specs.declared.Form.{Form}
 use Rattle.paper.specs.declared.Form.TheVariants.{Sw, Wolff}
-use Rattle.paper.specs.declared.Answer.TheVariants.{Idle, Moved}
+use Rattle.paper.specs.Answer.Cases.{Answer.Idle, Answer.Moved}
 use Rattle.paper.specs.Panel.Input.{Lattice, Call, Choices, Buffers}
 use Rattle.paper.specs.Site.Acting.{differs, pair_differs, acts}
 use Rattle.paper.specs.Site.Bonds.{whole, holds}

@@ -11,10 +11,8 @@ use Rattle.lemmas.specs.Cells.{table, only_column}
 use Rattle.lemmas.specs.Bools.{never, every}
 use Rattle.paper.specs.declared.Mode.TheVariants.{Perm}
 use Rattle.paper.specs.declared.Form.TheVariants.{Sw}
-use Rattle.paper.specs.declared.Answer.{Answer}
-use Rattle.paper.specs.declared.Answer.TheVariants.{Idle, Moved}
-use Rattle.paper.specs.declared.SweepAnswer.{SweepAnswer}
-use Rattle.paper.specs.declared.SweepAnswer.TheVariants.{Swept}
+use Rattle.paper.specs.Answer.Cases.{Answer, Answer.Idle, Answer.Moved}
+use Rattle.paper.specs.Answer.Cases.{SweepAnswer, SweepAnswer.Swept}
 use Rattle.paper.specs.Panel.Input.{Buffers, spin, pattern, system}
 use Rattle.paper.specs.Site.Acting.{differs, acts}
 use Rattle.paper.specs.Site.Bonds.{holds}

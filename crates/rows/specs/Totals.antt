@@ -8,7 +8,7 @@ use Rattle.lemmas.specs.Bools.{every, never}
 use Rattle.lemmas.specs.Ints.{same_is}
 use Rattle.paper.specs.declared.Mode.TheVariants.{Pair}
 use Rattle.paper.specs.declared.Form.TheVariants.{Wolff}
-use Rattle.paper.specs.declared.Answer.TheVariants.{Moved}
+use Rattle.paper.specs.Answer.Cases.{Answer.Moved}
 use Rattle.paper.specs.Panel.Input.{Call, Buffers, member}
 use Rattle.paper.specs.Site.Acting.{pair_differs, acts}
 use Rattle.paper.specs.Site.Bonds.{holds}

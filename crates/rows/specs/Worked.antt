@@ -5,7 +5,7 @@ use Rattle.lemmas.specs.Counts.{count_where}
 use Rattle.lemmas.specs.Cells.{table}
 use Rattle.lemmas.specs.Bools.{every}
 use Rattle.paper.specs.declared.Mode.TheVariants.{Pair, Perm}
-use Rattle.paper.specs.declared.Answer.TheVariants.{Moved}
+use Rattle.paper.specs.Answer.Cases.{Answer.Moved}
 use Rattle.paper.specs.Site.Acting.{differs, pair_differs, acts}
 use Rattle.paper.specs.Site.Bonds.{holds}
 use Rattle.paper.specs.Component.Sizes.{size_of, is_first}

@@ -12,21 +12,13 @@ use lemmas::wide;
 use lemmas::words::clear;
 use top::top4_sizes;
 
-fn one(yes: bool) -> usize
-    ensures { result ≡ bit yes }
-{
-    if yes { 1 } else { 0 }
-}
-
 // Writes at each number the byte of its component's smallest site. The sites come in falling order, so that what stays is the smallest one's: no turn
 // waits for the one before, as it would in a pass that counts the numbers met so far to know a component's first site.
 fn component_marks(labels: &[u32], marks: &[u8], bytes: &mut [u8])
     requires { Marking labels.now marks.now (length bytes.old) }
     ensures { Marked labels.now marks.now bytes.new }
 {
-    let mut i = labels.len();
-    while i > 0 {
-        i -= 1;
+    for i in (0..labels.len()).rev() {
         let r = wide(labels[i]);
         bytes[r] = marks[i];
     }
@@ -47,14 +39,12 @@ fn gather_sizes(found: usize, tally: &[u32], bytes: &[u8], list: &mut [u32]) -> 
 {
     let mut all = 0;
     let mut len = 0;
-    let mut r = 0;
-    while r < found {
+    for r in 0..found {
         let size = tally[r];
         list[len] = size;
         let own = bytes[r] == 1;
-        all += one(own);
-        len += one(own & (size != 1));
-        r += 1;
+        all += usize::from(own);
+        len += usize::from(own & (size != 1));
     }
     let ones = (all - len) as u32;
     Split { ones, len }
@@ -78,11 +68,8 @@ fn uf_histogram(sizes: &[u32], ones: u32, counts: &mut [u32])
     ensures { Histogram sizes.now ones counts.new (length counts.old) }
 {
     start_counts(ones, counts);
-    let mut i = 0;
-    while i < sizes.len() {
-        let s = wide(sizes[i]);
-        counts[s] = counts[s] + 1;
-        i += 1;
+    for &size in sizes {
+        counts[wide(size)] += 1;
     }
 }
 
@@ -101,11 +88,10 @@ pub fn count(
     let mut bytes = [0u8; 4096];
     let mut list = [0u32; 4096];
     component_marks(labels, marks, &mut bytes);
-    let s = gather_sizes(wide(found), tally, &bytes, &mut list);
-    let ones = s.ones;
-    let len = s.len;
-    uf_histogram(&list[..len], ones, counts);
-    let t = top4_sizes(&list[..len], ones);
+    let Split { ones, len } = gather_sizes(wide(found), tally, &bytes, &mut list);
+    let several = &list[..len];
+    uf_histogram(several, ones, counts);
+    let t = top4_sizes(several, ones);
     sizes[0] = t.0;
     sizes[1] = t.1;
     sizes[2] = t.2;

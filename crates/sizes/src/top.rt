@@ -38,19 +38,13 @@ fn insert(t: Top, x: u32) -> Top
 fn top_ones(ones: u32) -> Top
     ensures { Top4 (ones_or_more ones) result.0 result.1 result.2 result.3 }
 {
-    if ones == 0 {
-        return Top(0, 0, 0, 0);
+    match ones {
+        0 => Top(0, 0, 0, 0),
+        1 => Top(1, 0, 0, 0),
+        2 => Top(1, 1, 0, 0),
+        3 => Top(1, 1, 1, 0),
+        _ => Top(1, 1, 1, 1),
     }
-    if ones == 1 {
-        return Top(1, 0, 0, 0);
-    }
-    if ones == 2 {
-        return Top(1, 1, 0, 0);
-    }
-    if ones == 3 {
-        return Top(1, 1, 1, 0);
-    }
-    Top(1, 1, 1, 1)
 }
 
 // The four largest sizes of the list and of so many sizes 1, zero filled.
@@ -58,10 +52,8 @@ pub(crate) fn top4_sizes(sizes: &[u32], ones: u32) -> Top
     ensures { Top4 (all_or_more ones sizes.now (length sizes.now)) result.0 result.1 result.2 result.3 }
 {
     let mut t = top_ones(ones);
-    let mut i = 0;
-    while i < sizes.len() {
-        t = insert(t, sizes[i]);
-        i += 1;
+    for &size in sizes {
+        t = insert(t, size);
     }
     t
 }

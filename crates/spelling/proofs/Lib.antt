@@ -1,2 +1,2 @@
 -- What the proofs of this crate lean on.
-pub mod Five
+pub mod Cells

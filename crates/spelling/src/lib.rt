@@ -22,17 +22,10 @@ fn spell_rows(table: &[u8; 600], numbers: &[u8], rows: &mut [u8])
     requires { SpellAsks table.now (length numbers.now) (length rows.old) }
     ensures { rows.new ≡ rows_of numbers.now }
 {
-    let mut at = 0;
-    let mut i = 0;
-    while i < numbers.len() {
-        let number = numbers[i];
-        rows[at] = spell(table, number, 0);
-        rows[at + 1] = spell(table, number, 1);
-        rows[at + 2] = spell(table, number, 2);
-        rows[at + 3] = spell(table, number, 3);
-        rows[at + 4] = spell(table, number, 4);
-        at += 5;
-        i += 1;
+    for (i, &number) in numbers.iter().enumerate() {
+        for k in 0..5 {
+            rows[i * 5 + k] = spell(table, number, k);
+        }
     }
 }
 

@@ -3,11 +3,12 @@
 
 ghost use Rattle.paper.specs.Refusal.Verdict.{Verdict};
 ghost use Rattle.paper.specs.Panel.Made.{call_of, choices_of};
+ghost use Rattle.paper.specs.Refusal.Numbers.{verdict_of};
 ghost use Rattle.step_tests.specs.Call.{Measured, call_rules};
 
-use paper::{Lengths, Task};
+use paper::{Lengths, Refusal, Task};
 
-// The number of the first test that fails, or 0: the panel's, the task's own, and last those on the totals.
+// The refusal of the first test that fails: the panel's, the task's own, and last those on the totals.
 pub fn test_call(
     t: Task,
     spins: &[i8],
@@ -20,28 +21,22 @@ pub fn test_call(
     choices: &[u8],
     greys: &[u8],
     l: Lengths,
-) -> u8
+) -> Result<(), Refusal>
     requires { Measured spins.now fwd.now bwd.now couplings.now choices.now greys.now l }
     ensures { Verdict
         (call_rules t
         (call_of t fwd.now bwd.now pins.now couplings.now cuts.now)
         (choices_of choices.now greys.now)
         spins.now totals.now l)
-        result }
+        (verdict_of result) }
 {
-    let panel = tests::panel::test_panel(t, spins, totals, fwd, bwd, pins, couplings, l);
-    if panel != 0 {
-        return panel;
-    }
-    let own = tests::choices::test_choices(t, spins, cuts, choices, greys);
-    if own != 0 {
-        return own;
-    }
+    tests::panel::test_panel(t, spins, totals, fwd, bwd, pins, couplings, l)?;
+    tests::choices::test_choices(t, spins, cuts, choices, greys)?;
     let keeps = t.keeps;
     let form = t.form;
     let group = t.group;
     if !systems::group_totals_fit(keeps.totals(form), totals, group) {
-        return 14;
+        return Err(Refusal::Totals);
     }
-    0
+    Ok(())
 }

@@ -7,13 +7,14 @@ ghost use Rattle.paper.specs.declared.Keeps.TheVariants.{Nothing};
 ghost use Rattle.paper.specs.Site.Bonds.{whole};
 ghost use Rattle.paper.specs.Answer.Move.{Answers};
 ghost use Rattle.paper.specs.Panel.Made.{call_of, choices_of, buffers_of};
+ghost use Rattle.paper.specs.Answer.Cases.{answer_of};
 ghost use Rattle.active_rules.specs.Rule.{mode_of};
 ghost use Rattle.steps.specs.Rule.{task_of};
 
 pub use active_rules::ActiveRule;
 use active_rules::mode_of;
 pub use overlap::overlap_step;
-use paper::{Answer, Form, Group, Keeps, Mode, Task};
+use paper::{Form, Group, Keeps, Mode, Outcome, Refusal, Task};
 
 // One move or observation whose bonds hold wherever both ends act. No temperature is taken: the one handed on is ignored.
 pub fn houdayer_step(
@@ -35,14 +36,14 @@ pub fn houdayer_step(
     sizes: &mut [u32],
     members: &mut [u8],
     found: &mut [u32],
-) -> Answer
+) -> Result<Outcome, Refusal>
     ensures { Answers
         (call_of (task_of (mode_of rule) form Nothing n d s group (whole 1) reference seed) fwd.now bwd.now pins.now
         [] [])
         (choices_of choices.now [])
         (buffers_of spins.old labels.old [] counts.old sizes.old members.old
         found.old [])
-        result
+        (answer_of result)
         (buffers_of spins.new labels.new [] counts.new sizes.new members.new
         found.new []) }
 {
@@ -106,14 +107,14 @@ pub fn jorg_step(
     sizes: &mut [u32],
     members: &mut [u8],
     found: &mut [u32],
-) -> Answer
+) -> Result<Outcome, Refusal>
     ensures { Answers
         (call_of (task_of Jorg form Nothing n d s group temperature 0 seed) fwd.now bwd.now pins.now
         couplings.now cuts.now)
         (choices_of choices.now [])
         (buffers_of spins.old labels.old [] counts.old sizes.old members.old
         found.old [])
-        result
+        (answer_of result)
         (buffers_of spins.new labels.new [] counts.new sizes.new members.new
         found.new []) }
 {
@@ -177,14 +178,14 @@ pub fn cmr_step(
     members: &mut [u8],
     found: &mut [u32],
     grey_found: &mut [u32],
-) -> Answer
+) -> Result<Outcome, Refusal>
     ensures { Answers
         (call_of (task_of Cmr form Nothing n d s group temperature 0 seed) fwd.now bwd.now pins.now
         couplings.now cuts.now)
         (choices_of choices.now greys.now)
         (buffers_of spins.old labels.old grey_labels.old counts.old sizes.old
         members.old found.old grey_found.old)
-        result
+        (answer_of result)
         (buffers_of spins.new labels.new grey_labels.new counts.new sizes.new
         members.new found.new grey_found.new) }
 {

@@ -5,8 +5,9 @@ ghost use Rattle.paper.specs.Panel.Takes.{keeps_by};
 ghost use Rattle.paper.specs.Panel.Made.{buffers_of};
 ghost use Rattle.paper.specs.Answer.Made.{sweep_of};
 ghost use Rattle.paper.specs.Answer.Totals.{SweepKeepAnswers};
+ghost use Rattle.paper.specs.Answer.Cases.{sweep_answer_of};
 
-use paper::{Plan, SweepAnswer};
+use paper::{Counts, Plan, Refusal};
 
 // A sweep over t temperatures of r replicas in groups of `members`: see crates/paper/specs/Answer/Sweep.antt, and Totals.antt for what it keeps.
 // Everything is tested before anything is written.
@@ -33,17 +34,41 @@ pub fn overlap_update(
     members: &mut [u8],
     found: &mut [u32],
     grey_found: &mut [u32],
-) -> SweepAnswer
+) -> Result<Counts, Refusal>
     ensures { SweepKeepAnswers (keeps_by plan.keeps plan.form)
         (sweep_of plan fwd.now bwd.now pins.now couplings.now order.now masks.now
         temperatures.now cuts.now references.now seeds.now
         choices.now greys.now)
         (buffers_of spins.old labels.old grey_labels.old counts.old sizes.old
-        members.old found.old grey_found.old) totals.old result
+        members.old found.old grey_found.old) totals.old (sweep_answer_of result)
         (buffers_of spins.new labels.new grey_labels.new counts.new sizes.new
         members.new found.new grey_found.new) totals.new }
 {
-    let fault = sweep_tests::test_sweep(
+    sweep_tests::test_sweep(
+        plan,
+        spins,
+        totals,
+        fwd,
+        bwd,
+        pins,
+        couplings,
+        order,
+        masks,
+        temperatures,
+        cuts,
+        references,
+        seeds,
+        choices,
+        greys,
+        labels,
+        grey_labels,
+        counts,
+        sizes,
+        members,
+        found,
+        grey_found,
+    )?;
+    let counts = sweep_tasks::run_tasks(
         plan,
         spins,
         totals,
@@ -67,31 +92,5 @@ pub fn overlap_update(
         found,
         grey_found,
     );
-    if fault != 0 {
-        return SweepAnswer::Fault(fault);
-    }
-    sweep_tasks::run_tasks(
-        plan,
-        spins,
-        totals,
-        fwd,
-        bwd,
-        pins,
-        couplings,
-        order,
-        masks,
-        temperatures,
-        cuts,
-        references,
-        seeds,
-        choices,
-        greys,
-        labels,
-        grey_labels,
-        counts,
-        sizes,
-        members,
-        found,
-        grey_found,
-    )
+    Ok(counts)
 }

@@ -3,8 +3,7 @@ use Rattle.std.specs.Prelude.{ℕ, ◌+◌, ◌<◌, ◌≤◌, ◌≡◌, refl,
 use Rattle.std.proofs.Common.{sym, ◌∙◌, ap, inl, inr, arith}
 use Rattle.std.proofs.Math.Decide.{ℕ_discrete}
 use Rattle.lemmas.specs.Counts.{bit, count_where}
-use Rattle.paper.specs.declared.Answer.{Answer}
-use Rattle.paper.specs.declared.Answer.TheVariants.{Refused, Idle, Held, Moved}
+use Rattle.paper.specs.Answer.Cases.{Answer, Answer.Refused, Answer.Idle, Answer.Held, Answer.Moved}
 use Rattle.paper.specs.Panel.Input.{Call, Choices, Buffers, pattern, spin, system}
 use Rattle.paper.specs.Refusal.Rule.{Kept}
 use Rattle.paper.specs.Refusal.Rules.{rules}
@@ -19,9 +18,9 @@ use Rattle.laws.specs.AnswersLocal.{with_spins, valid_there}
 use Rattle.laws.specs.SweepTasks.{task_valid}
 use Rattle.laws.specs.SweepAscending.{tasks_apart, done}
 use Rattle.laws.specs.SweepCounts.{count_to, and_then, then_here, then_before, then_counts, skipped_counts}
-use Rattle.outcomes.specs.Adding.{moved_by_lem}
+use Rattle.outcomes.specs.Adding.{moved_count}
 
-moved_by : {a : Answer} → Accepted a → moved_by_lem a ≡ bit (is_moved a)
+moved_by : {a : Answer} → Accepted a → moved_count a ≡ bit (is_moved a)
 moved_by idle = refl
 moved_by held = refl
 moved_by moved = refl
@@ -209,7 +208,7 @@ module _ (w : Sweep) (b : Buffers) (v : Kept (sweep_rules w b)) where
       more : (kind : Answer → Bool) (m : ℕ) → m ≡ count_to kind w h.answered K → m + bit (kind a) ≡ count_to kind w (and_then h.answered K a) (K + 1)
       more kind m q = ap (λ (z : ℕ). z + bit (kind a)) q ∙ sym (then_counts h.answered K a kind w e)
 
-      pub ran_more : Ran w b (K + 1) (ni + bit (is_idle a)) (nm + moved_by_lem a) (nh + bit (is_held a)) b''
+      pub ran_more : Ran w b (K + 1) (ni + bit (is_idle a)) (nm + moved_count a) (nh + bit (is_held a)) b''
       ran_more = record {
         reached = omega arith;
         answered = and_then h.answered K a;

@@ -1,6 +1,6 @@
 -- The tasks of a sweep have one answer, and leave one content of every buffer and of the totals.
 use Rattle.std.specs.Prelude.{Bool, List, ℤ}
-use Rattle.paper.specs.declared.SweepAnswer.{SweepAnswer}
+use Rattle.paper.specs.Answer.Cases.{SweepAnswer}
 use Rattle.paper.specs.Panel.Input.{Buffers}
 use Rattle.paper.specs.Refusal.Rule.{Kept}
 use Rattle.paper.specs.Refusal.Rules.{order_names}

@@ -8,10 +8,11 @@ ghost use Rattle.paper.specs.Answer.Sweep.{sweep_rules, SweepAnswers};
 ghost use Rattle.paper.specs.Answer.Totals.{TotalsAsked, TotalsAfter};
 ghost use Rattle.paper.specs.Panel.Made.{lattice_of, buffers_of};
 ghost use Rattle.paper.specs.Answer.Made.{sweep_of};
+ghost use Rattle.paper.specs.Answer.Cases.{sweep_answer_by};
 ghost use Rattle.sweep_tasks.specs.Turning.{Turn, Turned};
 
 use outcomes::{Outcomes, add, told};
-use paper::{Plan, SweepAnswer};
+use paper::{Counts, Plan};
 
 // The task k, unless it is masked, with its parts of the inputs and its areas of the outputs.
 fn step(
@@ -62,26 +63,12 @@ fn step(
     }
     let n = plan.n;
     let label = tasks::bounds(labels.len(), k, n);
-    let a = label.start;
-    let b = label.end;
     let grey = tasks::bounds(grey_labels.len(), k, n);
-    let c = grey.start;
-    let d = grey.end;
     let count = tasks::bounds(counts.len(), k, n + 1);
-    let e = count.start;
-    let f = count.end;
     let size = tasks::bounds(sizes.len(), k, 4);
-    let g = size.start;
-    let h = size.end;
     let member = tasks::bounds(members.len(), k, n);
-    let i = member.start;
-    let j = member.end;
     let number = tasks::bounds(found.len(), k, 1);
-    let o = number.start;
-    let p = number.end;
     let grey_number = tasks::bounds(grey_found.len(), k, 1);
-    let q = grey_number.start;
-    let r = grey_number.end;
     let answer = perform::run_form(
         tasks::task_of(plan, order, temperatures, references, seeds, k),
         spins,
@@ -93,13 +80,13 @@ fn step(
         tasks::task_cuts(plan, cuts, k),
         tasks::task_choices(plan, choices, k),
         tasks::task_greys(plan, greys, k),
-        &mut labels[a..b],
-        &mut grey_labels[c..d],
-        &mut counts[e..f],
-        &mut sizes[g..h],
-        &mut members[i..j],
-        &mut found[o..p],
-        &mut grey_found[q..r],
+        &mut labels[label.start..label.end],
+        &mut grey_labels[grey.start..grey.end],
+        &mut counts[count.start..count.end],
+        &mut sizes[size.start..size.end],
+        &mut members[member.start..member.end],
+        &mut found[number.start..number.end],
+        &mut grey_found[grey_number.start..grey_number.end],
     );
     add(outcomes, answer)
 }
@@ -128,7 +115,7 @@ pub fn run_tasks(
     members: &mut [u8],
     found: &mut [u32],
     grey_found: &mut [u32],
-) -> SweepAnswer
+) -> Counts
     requires kept { Kept (sweep_rules
         (sweep_of plan fwd.now bwd.now pins.now couplings.now order.now masks.now temperatures.now cuts.now
         references.now seeds.now choices.now greys.now)
@@ -140,7 +127,7 @@ pub fn run_tasks(
         temperatures.now cuts.now references.now seeds.now
         choices.now greys.now)
         (buffers_of spins.old labels.old grey_labels.old counts.old sizes.old
-        members.old found.old grey_found.old) result
+        members.old found.old grey_found.old) (sweep_answer_by result)
         (buffers_of spins.new labels.new grey_labels.new counts.new sizes.new
         members.new found.new grey_found.new) }
     ensures totals_after { TotalsAfter (keeps_by plan.keeps plan.form)
@@ -153,8 +140,7 @@ pub fn run_tasks(
         moved: 0,
         held: 0,
     };
-    let mut k: usize = 0;
-    while k < count {
+    for k in 0..count {
         outcomes = step(
             outcomes,
             plan,
@@ -181,7 +167,6 @@ pub fn run_tasks(
             found,
             grey_found,
         );
-        k += 1;
     }
     told(outcomes)
 }

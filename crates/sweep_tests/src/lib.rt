@@ -9,13 +9,14 @@ ghost use Rattle.paper.specs.Panel.Made.{buffers_of};
 ghost use Rattle.paper.specs.Answer.Made.{sweep_of};
 ghost use Rattle.paper.specs.Panel.Takes.{keeps_by};
 ghost use Rattle.paper.specs.Answer.Totals.{swept_rules};
+ghost use Rattle.paper.specs.Refusal.Numbers.{verdict_of};
 ghost use Rattle.tasks.specs.Plan.{Planned, tasks_of};
 ghost use Rattle.sweep_tests.specs.Lengths.{Fitting};
 ghost use Rattle.sweep_tests.specs.First.{PanelLong, HeatLong, AllWarm, length_rules, panel_rules, heat_rules};
 ghost use Rattle.sweep_tests.specs.Tasks.{SweepTested, TaskTested, TaskTold, TasksTold};
 ghost use Rattle.sweep_tests.specs.Whole.{Sized, ValuesTold};
 
-use paper::{Form, Lengths, Mode, Plan};
+use paper::{Form, Lengths, Mode, Plan, Refusal};
 
 // How many elements the inputs have that a sweep takes beside its tasks'.
 #[derive(Clone, Copy)]
@@ -26,6 +27,19 @@ pub struct SweepLengths {
     pub temperatures: usize,
     pub references: usize,
     pub seeds: usize,
+}
+
+// The inputs of which each task takes its part.
+#[derive(Clone, Copy)]
+struct Inputs<'a> {
+    order: &'a [u32],
+    masks: &'a [u8],
+    temperatures: &'a [f32],
+    cuts: &'a [f32],
+    references: &'a [u32],
+    seeds: &'a [u32],
+    choices: &'a [u8],
+    greys: &'a [u8],
 }
 
 // Test 1. The product is asked for once it cannot wrap.
@@ -69,46 +83,53 @@ fn lengths_ok(plan: Plan, l: Lengths, o: SweepLengths) -> bool
 }
 
 // Tests 1, 15 and 2.
-fn test_lengths(plan: Plan, l: Lengths, o: SweepLengths) -> u8
-    ensures { Verdict (length_rules plan l o) result }
+fn test_lengths(plan: Plan, l: Lengths, o: SweepLengths) -> Result<(), Refusal>
+    ensures { Verdict (length_rules plan l o) (verdict_of result) }
 {
     if !plan_ok(plan) {
-        return 1;
+        return Err(Refusal::Sizes);
     }
     let mode = plan.mode;
     let form = plan.form;
     if !lattice::houd_ok(mode, form, plan.members) {
-        return 15;
+        return Err(Refusal::HoudOfMany);
     }
     if !lengths_ok(plan, l, o) {
-        return 2;
+        return Err(Refusal::Lengths);
     }
     let keeps = plan.keeps;
     let keeping = keeps.totals(form);
     if !tests::panel::totals_lengths_ok(keeping, plan.n, plan.d, plan.s, l.couplings, o.totals) {
-        return 2;
+        return Err(Refusal::Lengths);
     }
-    0
+    Ok(())
 }
 
-fn test_panel(plan: Plan, spins: &[i8], fwd: &[u32], bwd: &[u32], pins: &[u8], order: &[u32]) -> u8
+fn test_panel(
+    plan: Plan,
+    spins: &[i8],
+    fwd: &[u32],
+    bwd: &[u32],
+    pins: &[u8],
+    order: &[u32],
+) -> Result<(), Refusal>
     requires { PanelLong plan spins.now fwd.now bwd.now order.now }
     ensures { Verdict
-        (panel_rules plan spins.now fwd.now bwd.now pins.now order.now) result }
+        (panel_rules plan spins.now fwd.now bwd.now pins.now order.now) (verdict_of result) }
 {
     if !systems::order_rows_ok(plan.n, plan.s, spins, order) {
-        return 3;
+        return Err(Refusal::Spins);
     }
     if !lattice::tables_ok(plan.n, plan.d, fwd, bwd) {
-        return 4;
+        return Err(Refusal::Tables);
     }
     if !lattice::bytes_at_most(pins, 1) {
-        return 4;
+        return Err(Refusal::Tables);
     }
     if lattice::order_ok(plan.s, order) {
-        0
+        Ok(())
     } else {
-        5
+        Err(Refusal::Systems)
     }
 }
 
@@ -121,97 +142,71 @@ fn temperatures_ok(taken: bool, temperatures: &[f32]) -> bool
     true
 }
 
-fn test_heat(plan: Plan, couplings: &[i32], temperatures: &[f32], masks: &[u8]) -> u8
+fn test_heat(
+    plan: Plan,
+    couplings: &[i32],
+    temperatures: &[f32],
+    masks: &[u8],
+) -> Result<(), Refusal>
     requires { HeatLong plan temperatures.now masks.now }
     ensures { Verdict
-        (heat_rules plan couplings.now temperatures.now masks.now) result }
+        (heat_rules plan couplings.now temperatures.now masks.now) (verdict_of result) }
 {
     let mode = plan.mode;
     let form = plan.form;
     let keeps = plan.keeps;
     let drawn = mode.is_drawn();
     if !lattice::couplings_fit(drawn | keeps.totals(form), couplings) {
-        return 6;
+        return Err(Refusal::Couplings);
     }
     if !temperatures_ok(drawn, temperatures) {
-        return 7;
+        return Err(Refusal::Temperature);
     }
     if lattice::bytes_at_most(masks, 1) {
-        0
+        Ok(())
     } else {
-        9
+        Err(Refusal::Choices)
     }
 }
 
 // Tests 8, 9 and 10 of the task k; a masked task's areas are not read.
-fn test_task(
-    plan: Plan,
-    k: usize,
-    spins: &[i8],
-    order: &[u32],
-    masks: &[u8],
-    temperatures: &[f32],
-    cuts: &[f32],
-    references: &[u32],
-    seeds: &[u32],
-    choices: &[u8],
-    greys: &[u8],
-) -> u8
-    requires { TaskTested plan k spins.now order.now cuts.now choices.now greys.now }
-    ensures { TaskTold plan k spins.now order.now masks.now temperatures.now
-        cuts.now references.now seeds.now choices.now greys.now result }
+fn test_task(plan: Plan, k: usize, spins: &[i8], inputs: &Inputs) -> Result<(), Refusal>
+    requires { TaskTested plan k spins.now inputs.now.order.now inputs.now.cuts.now inputs.now.choices.now inputs.now.greys.now }
+    ensures { TaskTold plan k spins.now inputs.now.order.now inputs.now.masks.now inputs.now.temperatures.now
+        inputs.now.cuts.now inputs.now.references.now inputs.now.seeds.now inputs.now.choices.now inputs.now.greys.now
+        (verdict_of result) }
 {
-    if tasks::masked(plan, masks, k) {
-        return 0;
+    if tasks::masked(plan, inputs.masks, k) {
+        return Ok(());
     }
     tests::choices::test_choices(
-        tasks::task_of(plan, order, temperatures, references, seeds, k),
+        tasks::task_of(
+            plan,
+            inputs.order,
+            inputs.temperatures,
+            inputs.references,
+            inputs.seeds,
+            k,
+        ),
         spins,
-        tasks::task_cuts(plan, cuts, k),
-        tasks::task_choices(plan, choices, k),
-        tasks::task_greys(plan, greys, k),
+        tasks::task_cuts(plan, inputs.cuts, k),
+        tasks::task_choices(plan, inputs.choices, k),
+        tasks::task_greys(plan, inputs.greys, k),
     )
 }
 
-// Unmasked tasks in ascending order: the number of the first test that fails, or 0.
-fn test_tasks(
-    plan: Plan,
-    spins: &[i8],
-    order: &[u32],
-    masks: &[u8],
-    temperatures: &[f32],
-    cuts: &[f32],
-    references: &[u32],
-    seeds: &[u32],
-    choices: &[u8],
-    greys: &[u8],
-) -> u8
-    requires { SweepTested plan spins.now order.now cuts.now choices.now greys.now }
-    ensures { TasksTold plan (tasks_of plan) spins.now order.now masks.now temperatures.now
-        cuts.now references.now seeds.now choices.now greys.now result }
+// Unmasked tasks in ascending order: the refusal of the first test that fails.
+fn test_tasks(plan: Plan, spins: &[i8], inputs: &Inputs) -> Result<(), Refusal>
+    requires { SweepTested plan spins.now inputs.now.order.now inputs.now.cuts.now inputs.now.choices.now inputs.now.greys.now }
+    ensures { TasksTold plan (tasks_of plan) spins.now inputs.now.order.now inputs.now.masks.now inputs.now.temperatures.now
+        inputs.now.cuts.now inputs.now.references.now inputs.now.seeds.now inputs.now.choices.now inputs.now.greys.now
+        (verdict_of result) }
 {
     let count = tasks::task_count(plan);
-    let mut k: usize = 0;
-    while k < count {
-        let fault = test_task(
-            plan,
-            k,
-            spins,
-            order,
-            masks,
-            temperatures,
-            cuts,
-            references,
-            seeds,
-            choices,
-            greys,
-        );
-        if fault != 0 {
-            return fault;
-        }
-        k += 1;
+    for k in 0..count {
+        test_task(plan, k, spins, inputs)?;
     }
-    0
+    Ok(())
 }
 
 // Tests 3 to 10 and 14, of inputs that have their lengths.
@@ -223,53 +218,27 @@ fn test_values(
     bwd: &[u32],
     pins: &[u8],
     couplings: &[i32],
-    order: &[u32],
-    masks: &[u8],
-    temperatures: &[f32],
-    cuts: &[f32],
-    references: &[u32],
-    seeds: &[u32],
-    choices: &[u8],
-    greys: &[u8],
-) -> u8
-    requires { Sized plan spins.now totals.now fwd.now bwd.now order.now masks.now temperatures.now cuts.now choices.now greys.now }
+    inputs: &Inputs,
+) -> Result<(), Refusal>
+    requires { Sized plan spins.now totals.now fwd.now bwd.now
+        inputs.now.order.now inputs.now.masks.now inputs.now.temperatures.now inputs.now.cuts.now
+        inputs.now.choices.now inputs.now.greys.now }
     ensures { ValuesTold plan spins.now totals.now fwd.now bwd.now pins.now
-        couplings.now order.now masks.now temperatures.now cuts.now references.now
-        seeds.now choices.now greys.now result }
+        couplings.now inputs.now.order.now inputs.now.masks.now inputs.now.temperatures.now inputs.now.cuts.now inputs.now.references.now
+        inputs.now.seeds.now inputs.now.choices.now inputs.now.greys.now (verdict_of result) }
 {
-    let panel = test_panel(plan, spins, fwd, bwd, pins, order);
-    if panel != 0 {
-        return panel;
-    }
-    let heat = test_heat(plan, couplings, temperatures, masks);
-    if heat != 0 {
-        return heat;
-    }
-    let choice = test_tasks(
-        plan,
-        spins,
-        order,
-        masks,
-        temperatures,
-        cuts,
-        references,
-        seeds,
-        choices,
-        greys,
-    );
+    test_panel(plan, spins, fwd, bwd, pins, inputs.order)?;
+    test_heat(plan, couplings, inputs.temperatures, inputs.masks)?;
+    test_tasks(plan, spins, inputs)?;
     let form = plan.form;
     let keeps = plan.keeps;
-    let small = systems::order_totals_fit(keeps.totals(form), totals, order);
-    if choice != 0 {
-        return choice;
+    if !systems::order_totals_fit(keeps.totals(form), totals, inputs.order) {
+        return Err(Refusal::Totals);
     }
-    if !small {
-        return 14;
-    }
-    0
+    Ok(())
 }
 
-// Every test of a sweep: the number of the first that fails, or 0. Nothing is written.
+// Every test of a sweep: the refusal of the first that fails. Nothing is written.
 pub fn test_sweep(
     plan: Plan,
     spins: &[i8],
@@ -293,13 +262,13 @@ pub fn test_sweep(
     members: &[u8],
     found: &[u32],
     grey_found: &[u32],
-) -> u8
+) -> Result<(), Refusal>
     ensures { Verdict (swept_rules (keeps_by plan.keeps plan.form)
         (sweep_of plan fwd.now bwd.now pins.now couplings.now order.now masks.now
         temperatures.now cuts.now references.now seeds.now
         choices.now greys.now)
         (buffers_of spins.now labels.now grey_labels.now counts.now sizes.now
-        members.now found.now grey_found.now) totals.now) result }
+        members.now found.now grey_found.now) totals.now) (verdict_of result) }
 {
     let l = Lengths {
         spins: spins.len(),
@@ -326,18 +295,8 @@ pub fn test_sweep(
         references: references.len(),
         seeds: seeds.len(),
     };
-    let lengths = test_lengths(plan, l, o);
-    if lengths != 0 {
-        return lengths;
-    }
-    test_values(
-        plan,
-        spins,
-        totals,
-        fwd,
-        bwd,
-        pins,
-        couplings,
+    test_lengths(plan, l, o)?;
+    let inputs = Inputs {
         order,
         masks,
         temperatures,
@@ -346,5 +305,6 @@ pub fn test_sweep(
         seeds,
         choices,
         greys,
-    )
+    };
+    test_values(plan, spins, totals, fwd, bwd, pins, couplings, &inputs)
 }

@@ -1,5 +1,7 @@
 -- Each promise allows one answer.
-use Rattle.std.specs.Prelude.{ℕ, ◌≡◌, Bool, List, ℤ, length, get_or}
+use Rattle.std.specs.Prelude.{ℕ, ◌≡◌, Bool, List, ℤ, length, get_or, Result}
+use Rattle.paper.specs.declared.Refusal.{Refusal}
+use Rattle.paper.specs.Refusal.Numbers.{verdict_of, verdict_of_injective}
 use Rattle.std.proofs.Common.{sym, ◌∙◌, subst}
 use Rattle.lemmas.specs.Stores.{Filled, filled_unique}
 use Rattle.lemmas.specs.Tells.{tells_determined}
@@ -36,6 +38,10 @@ OneResult {A} x = (r r' : A) → r ≡ x → r' ≡ x → r ≡ r'
 module _ (team : ℕ) (owners : List ℕ) where
   pub test_owners_determined : (s r r' : ℕ) → Verdict (owner_rules (team_of team owners) s) r → Verdict (owner_rules (team_of team owners) s) r' → r ≡ r'
   test_owners_determined s = verdict_unique (owner_rules (team_of team owners) s)
+
+  pub test_owners_result_determined : (s : ℕ) (a b : Result (Unit {0}) Refusal)
+      → Verdict (owner_rules (team_of team owners) s) (verdict_of a) → Verdict (owner_rules (team_of team owners) s) (verdict_of b) → a ≡ b
+  test_owners_result_determined s a b p q = verdict_of_injective a b (test_owners_determined s (verdict_of a) (verdict_of b) p q)
 
   pub own_determined : (t : ℕ) → OneResult (own (team_of team owners) t)
   own_determined t r r' p q = p ∙ sym q

@@ -31,13 +31,9 @@ pub fn group_rows_ok(n: usize, s: usize, spins: &[i8], group: Group) -> bool
     requires len_bound { group.len ≤ 8 }
     ensures { Tells result (Spins n (Named s (group_names group)) spins.now) }
 {
-    let systems = group.systems;
-    let len = group.len;
     let mut ok = true;
-    let mut k = 0;
-    while k < len {
-        ok = ok & row_ok(n, s, spins, systems[k]);
-        k += 1;
+    for &t in &group.systems[..group.len] {
+        ok = ok & row_ok(n, s, spins, t);
     }
     ok
 }
@@ -47,10 +43,8 @@ pub fn order_rows_ok(n: usize, s: usize, spins: &[i8], order: &[u32]) -> bool
     ensures { Tells result (Spins n (Named s (order_names order.now)) spins.now) }
 {
     let mut ok = true;
-    let mut k = 0;
-    while k < order.len() {
-        ok = ok & row_ok(n, s, spins, wide(order[k]));
-        k += 1;
+    for &t in order {
+        ok = ok & row_ok(n, s, spins, wide(t));
     }
     ok
 }
@@ -75,13 +69,9 @@ pub fn group_totals_fit(keeping: bool, totals: &[i64], group: Group) -> bool
     if !keeping {
         return true;
     }
-    let systems = group.systems;
-    let len = group.len;
     let mut ok = true;
-    let mut k = 0;
-    while k < len {
-        ok = ok & total_ok(totals, systems[k]);
-        k += 1;
+    for &t in &group.systems[..group.len] {
+        ok = ok & total_ok(totals, t);
     }
     ok
 }
@@ -93,10 +83,8 @@ pub fn order_totals_fit(keeping: bool, totals: &[i64], order: &[u32]) -> bool
         return true;
     }
     let mut ok = true;
-    let mut k = 0;
-    while k < order.len() {
-        ok = ok & total_ok(totals, wide(order[k]));
-        k += 1;
+    for &t in order {
+        ok = ok & total_ok(totals, wide(t));
     }
     ok
 }

@@ -1,27 +1,27 @@
 // The owner bytes of a panel that two teams share, and what a team's call is taken to name.
 ghost use Rattle.std.specs.Prelude.{◌≡◌, ◌≤◌, ◌<◌, length};
-ghost use Rattle.lemmas.specs.Counts.{bit};
 ghost use Rattle.lemmas.specs.Tells.{Tells};
 ghost use Rattle.paper.specs.Refusal.Rules.{Spins};
 ghost use Rattle.paper.specs.Refusal.Verdict.{Verdict};
 ghost use Rattle.paper.specs.Answer.Team.{owner_rules, own, Ours, own_count, read, read_group};
+ghost use Rattle.paper.specs.Refusal.Numbers.{verdict_of};
 ghost use Rattle.systems.specs.Rows.{Rowed};
 ghost use Rattle.systems.specs.Owners.{team_of, read_at, read_length, OrderRead};
 
 use lemmas::wide;
-use paper::Group;
+use paper::{Group, Refusal};
 
-// The tests before all others: the number of the first that fails, or 0.
-pub fn test_owners(s: usize, team: u8, owners: &[u8]) -> u8
-    ensures { Verdict (owner_rules (team_of team owners.now) s) result }
+// The tests before all others: the refusal of the first that fails.
+pub fn test_owners(s: usize, team: u8, owners: &[u8]) -> Result<(), Refusal>
+    ensures { Verdict (owner_rules (team_of team owners.now) s) (verdict_of result) }
 {
     if owners.len() != s {
-        return 2;
+        return Err(Refusal::Lengths);
     }
     if !(lattice::bytes_at_most(owners, 1) & (team <= 1)) {
-        return 3;
+        return Err(Refusal::Spins);
     }
-    0
+    Ok(())
 }
 
 pub fn own(team: u8, owners: &[u8], t: usize) -> bool
@@ -95,31 +95,17 @@ pub fn read_order(s: usize, team: u8, owners: &[u8], order: &[u32], named: &mut 
     ensures { OrderRead (team_of team owners.now) s order.now named.old result named.new }
 {
     let len = read_length(s, order.len());
-    let mut k = 0;
-    while k < len {
+    for k in 0..len {
         named[k] = read_word(s, team, owners, order[k]);
-        k += 1;
     }
     len
-}
-
-fn one_if(b: bool) -> usize
-    ensures { result ≡ bit b }
-{
-    if b { 1 } else { 0 }
 }
 
 // How many systems are the team's.
 pub fn own_count(team: u8, owners: &[u8]) -> usize
     ensures { result ≡ own_count (team_of team owners.now) (length owners.now) }
 {
-    let mut count = 0;
-    let mut t = 0;
-    while t < owners.len() {
-        count += one_if(own(team, owners, t));
-        t += 1;
-    }
-    count
+    owners.iter().filter(|owner| **owner == team).count()
 }
 
 // Test 3 of all the team's systems.
@@ -128,10 +114,8 @@ pub fn own_rows_ok(n: usize, s: usize, team: u8, owners: &[u8], spins: &[i8]) ->
     ensures { Tells result (Spins n (Ours (team_of team owners.now) s) spins.now) }
 {
     let mut ok = true;
-    let mut t = 0;
-    while t < s {
+    for t in 0..s {
         ok = ok & (!own(team, owners, t) | super::row_ok(n, s, spins, t));
-        t += 1;
     }
     ok
 }

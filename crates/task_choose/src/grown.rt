@@ -3,7 +3,7 @@ ghost use Rattle.std.specs.Prelude.{◌≡◌, ◌&&◌, [], ◌<◌, eqb, lengt
 ghost use Rattle.lemmas.specs.Tells.{Tells};
 ghost use Rattle.paper.specs.Panel.Made.{call_of, choices_of};
 ghost use Rattle.paper.specs.Move.Moving.{has_one};
-ghost use Rattle.task_choose.specs.Blocks.{Part, NoneMarked, Ended, Between};
+ghost use Rattle.task_choose.specs.Blocks.{Part, NoneMarked, Between};
 ghost use Rattle.task_choose.specs.Grown.{member_column, Turning, Listing, GrownAsks, GrownLeaves};
 
 use paper::{Group, Mode, Task};
@@ -14,10 +14,8 @@ fn some_pinned(pins: &[u8], marks: &[u8]) -> bool
     ensures { result ≡ has_one (λ i. eqb (get_or pins.now i 0) 1) marks.now 1 }
 {
     let mut found = false;
-    let mut i = 0;
-    while i < marks.len() {
-        found = found | ((marks[i] == 1) & (pins[i] == 1));
-        i += 1;
+    for (i, &mark) in marks.iter().enumerate() {
+        found |= (mark == 1) & (pins[i] == 1);
     }
     found
 }
@@ -28,10 +26,8 @@ fn none_marked(marks: &[u8], from: usize, to: usize) -> bool
     ensures { Tells result (NoneMarked marks.now from to) }
 {
     let mut none = true;
-    let mut i = from;
-    while i < to {
-        none = none & (marks[i] != 1);
-        i += 1;
+    for &mark in &marks[from..to] {
+        none &= mark != 1;
     }
     none
 }
@@ -78,12 +74,10 @@ fn choose_sites(
         (λ i. member_column t gauge rows.now choices.now greys.now (free && eqb (get_or takers.now i 0) 1) i)
         from to area.old area.new }
 {
-    let mut i = from;
-    while i < to {
+    for i in from..to {
         if members[i] == 1 {
             area[i] = member_column(t, gauge, rows, choices, greys, free & (takers[i] == 1), i);
         }
-        i += 1;
     }
 }
 
@@ -116,14 +110,6 @@ fn choose_block(
     );
 }
 
-// Where the block that starts at `from` ends.
-fn block_end(from: usize, n: usize) -> usize
-    requires { from < n }
-    ensures { Ended from result n }
-{
-    if n - from < 64 { n } else { from + 64 }
-}
-
 // All members, block by block.
 fn choose_members(
     t: Task,
@@ -143,13 +129,11 @@ fn choose_members(
         0 t.n area.old area.new }
 {
     let n = t.n;
-    let mut from: usize = 0;
-    while from < n {
-        let to = block_end(from, n);
+    for from in (0..n).step_by(64) {
+        let to = (from + 64).min(n);
         choose_block(
             t, gauge, rows, choices, greys, takers, free, members, from, to, area,
         );
-        from = to;
     }
 }
 

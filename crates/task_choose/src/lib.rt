@@ -7,10 +7,11 @@ mod tested;
 
 ghost use Rattle.std.specs.Prelude.{[]};
 ghost use Rattle.paper.specs.Panel.Made.{call_of, choices_of};
+ghost use Rattle.paper.specs.Refusal.Numbers.{verdict_of};
 ghost use Rattle.packing.specs.Bytes.{own_task};
 ghost use Rattle.task_steps.specs.Choose.{found_of, ChooseAnswers};
 
-use paper::{Form, Group, Keeps, Mode, Task};
+use paper::{Group, Refusal, Task};
 
 // The labels, members and blue sites are taken as they are told: the step does not ask whether they are those of the rows. Of the group only its size is
 // looked at, and not the number of systems. The form that grows has columns at its members alone.
@@ -25,35 +26,24 @@ pub fn task_choose(
     members: &[u8],
     blue: &[u8],
     area: &mut [u8],
-) -> u8
+) -> Result<(), Refusal>
     ensures { ChooseAnswers
         (call_of (own_task t) [] [] pins.now [] [])
         (choices_of choices.now greys.now)
         rows.now
         (found_of labels.now grey_labels.now members.now blue.now)
-        area.old result area.new }
+        area.old (verdict_of result) area.new }
 {
-    let mode = t.mode;
-    let form = t.form;
-    let keeps = t.keeps;
-    let named = t.group;
-    let size = named.len;
+    let size = t.group.len;
     let own = Task {
-        mode,
-        form,
-        keeps,
-        n: t.n,
-        d: t.d,
         s: size,
         group: Group {
             len: size,
             systems: [0, 1, 2, 3, 4, 5, 6, 7],
         },
-        temperature: t.temperature,
-        reference: t.reference,
-        seed: t.seed,
+        ..t
     };
-    let fault = tested::test_choose(
+    tested::test_choose(
         own,
         rows,
         pins,
@@ -64,14 +54,11 @@ pub fn task_choose(
         members,
         blue,
         area,
-    );
-    if fault != 0 {
-        return fault;
-    }
-    if form.grows() {
+    )?;
+    if t.form.grows() {
         grown::choose_grown(own, rows, pins, choices, greys, members, blue, area);
-        return 0;
+        return Ok(());
     }
     labelled::choose_labelled(own, rows, pins, choices, greys, labels, grey_labels, area);
-    0
+    Ok(())
 }

@@ -4,10 +4,11 @@ ghost use Rattle.lemmas.specs.Tells.{Tells, Each};
 ghost use Rattle.paper.specs.Panel.Made.{call_of, choices_of};
 ghost use Rattle.paper.specs.Refusal.Rules.{When, Ranged};
 ghost use Rattle.paper.specs.Refusal.Verdict.{Verdict};
+ghost use Rattle.paper.specs.Refusal.Numbers.{verdict_of};
 ghost use Rattle.task_steps.specs.Choose.{found_of, ChooseExact, Told, choose_rules};
 ghost use Rattle.task_choose.specs.Tested.{FoundLong, EveryPins};
 
-use paper::{Form, Group, Mode, Task};
+use paper::{Form, Group, Mode, Refusal, Task};
 
 // Test 2.
 fn exact(
@@ -56,10 +57,8 @@ fn words_below(xs: &[u32], top: u32) -> bool
     ensures { Tells result (Each (length xs.now) (λ i. get_or xs.now i 0 < top)) }
 {
     let mut ok = true;
-    let mut i = 0;
-    while i < xs.len() {
-        ok = ok & (xs[i] < top);
-        i += 1;
+    for &x in xs {
+        ok &= x < top;
     }
     ok
 }
@@ -100,7 +99,7 @@ fn told_ok(t: Task, labels: &[u32], grey_labels: &[u32], members: &[u8], blue: &
         & marks_fit(grows & by_greys, blue)
 }
 
-// The number of the first test that fails, or 0.
+// The refusal of the first test that fails.
 pub(crate) fn test_choose(
     t: Task,
     rows: &[i8],
@@ -112,22 +111,22 @@ pub(crate) fn test_choose(
     members: &[u8],
     blue: &[u8],
     area: &[u8],
-) -> u8
+) -> Result<(), Refusal>
     ensures { Verdict (choose_rules
         (call_of t [] [] pins.now [] [])
         (choices_of choices.now greys.now)
         rows.now
         (found_of labels.now grey_labels.now members.now blue.now)
-        area.now) result }
+        area.now) (verdict_of result) }
 {
     let mode = t.mode;
     let form = t.form;
     let group = t.group;
     if !lattice::ranged(t.n, t.d, t.s, mode, group.len) {
-        return 1;
+        return Err(Refusal::Sizes);
     }
     if !lattice::houd_ok(mode, form, group.len) {
-        return 15;
+        return Err(Refusal::HoudOfMany);
     }
     if !exact(
         t,
@@ -141,22 +140,22 @@ pub(crate) fn test_choose(
         blue,
         area,
     ) {
-        return 2;
+        return Err(Refusal::Lengths);
     }
     if !systems::group_rows_ok(t.n, t.s, rows, group) {
-        return 3;
+        return Err(Refusal::Spins);
     }
     if !lattice::bytes_at_most(pins, 1) {
-        return 4;
+        return Err(Refusal::Tables);
     }
     if !tests::choices::chosen_ok(t, choices, greys) {
-        return 9;
+        return Err(Refusal::Choices);
     }
     if !told_ok(t, labels, grey_labels, members, blue) {
-        return 9;
+        return Err(Refusal::Choices);
     }
     if !(!form.one_cluster() | (t.seed < t.n)) {
-        return 10;
+        return Err(Refusal::Seed);
     }
-    0
+    Ok(())
 }

@@ -1,7 +1,6 @@
 -- From the verdict of the tests, and what was found, to the step's answer.
 use Rattle.std.specs.Prelude.{◌≡◌, refl, true, false, List, ℕ, ℤ}
-use Rattle.paper.specs.declared.Answer.{Answer}
-use Rattle.paper.specs.declared.Answer.TheVariants.{Refused, Idle, Held, Moved}
+use Rattle.paper.specs.Answer.Cases.{Answer, Answer.Refused, Answer.Idle, Answer.Held, Answer.Moved}
 use Rattle.paper.specs.Panel.Input.{graph, Call, Choices, Buffers}
 use Rattle.paper.specs.Panel.Takes.{grows_by, labels_by}
 use Rattle.paper.specs.Site.Bonds.{holds}

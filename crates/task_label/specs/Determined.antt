@@ -1,6 +1,6 @@
 -- `task_label` allows one answer and one content of every buffer.
 use Rattle.std.specs.Prelude.{List, ℕ}
-use Rattle.paper.specs.declared.Answer.{Answer}
+use Rattle.paper.specs.Answer.Cases.{Answer}
 use Rattle.paper.specs.Panel.Input.{Call, Choices, Buffers}
 use Rattle.task_steps.specs.Label.{LabelAnswers}
 use Rattle.task_steps.specs.Determined as steps

@@ -1,8 +1,7 @@
 -- What the forms that label leave of the first step.
 use Rattle.std.specs.Prelude.{ℕ, ◌≡◌, true, List, [], ℤ, Float}
 use Rattle.paper.specs.declared.Task.{Task}
-use Rattle.paper.specs.declared.Answer.{Answer}
-use Rattle.paper.specs.declared.Answer.TheVariants.{Refused, Idle, Held, Moved}
+use Rattle.paper.specs.Answer.Cases.{Answer, Answer.Refused, Answer.Idle, Answer.Held, Answer.Moved}
 use Rattle.paper.specs.Panel.Input.{Call, Choices, Buffers}
 use Rattle.paper.specs.Panel.Made.{call_of, buffers_of}
 use Rattle.paper.specs.Panel.Takes.{labels_by}

@@ -1,12 +1,13 @@
 // The form that grows: the members, and in CMR which of them are blue.
 ghost use Rattle.std.specs.Prelude.{length};
 ghost use Rattle.paper.specs.Panel.Made.{call_of};
+ghost use Rattle.paper.specs.Answer.Cases.{answer_by};
 ghost use Rattle.task_label.specs.Marking.{Markable, MarksListed};
 ghost use Rattle.task_label.specs.Grown.{GrownAsks, GrownLeaves};
 
 use lemmas::bytes::clear;
 use lemmas::wide;
-use paper::{Answer, Mode, Task};
+use paper::{Mode, Outcome, Task};
 
 // A byte for each site: 1 at the first len sites of the list.
 fn mark_listed(list: &[u32], len: usize, marks: &mut [u8])
@@ -14,10 +15,8 @@ fn mark_listed(list: &[u32], len: usize, marks: &mut [u8])
     ensures { MarksListed (length marks.old) list.now len marks.new }
 {
     clear(marks);
-    let mut x: usize = 0;
-    while x < len {
-        marks[wide(list[x])] = 1;
-        x += 1;
+    for &site in &list[..len] {
+        marks[wide(site)] = 1;
     }
 }
 
@@ -32,11 +31,11 @@ pub(crate) fn label_grown(
     cuts: &[f32],
     members: &mut [u8],
     blue: &mut [u8],
-) -> Answer
+) -> Outcome
     requires { GrownAsks (call_of t fwd.now bwd.now pins.now couplings.now cuts.now) rows.now members.old blue.old }
     ensures { GrownLeaves
         (call_of t fwd.now bwd.now pins.now couplings.now cuts.now)
-        rows.now blue.old result members.new blue.new }
+        rows.now blue.old (answer_by result) members.new blue.new }
 {
     let mut list = [0u32; 4096];
     let mut cols = [0u8; 4096];

@@ -1,8 +1,9 @@
 // The forms that label: every component, on the columns of the rows.
 ghost use Rattle.moves.specs.Leaves.{beside_of};
 ghost use Rattle.task_label.specs.Labelled.{LabelledAsks, LabelledLeaves};
+ghost use Rattle.paper.specs.Answer.Cases.{answer_by};
 
-use paper::{Answer, Group, Task};
+use paper::{Group, Outcome, Task};
 
 // The labels of the rows, how many components there are, counts and sizes, in CMR the grey labels too. The work arrays are this call's own.
 pub(crate) fn label_rows(
@@ -18,13 +19,13 @@ pub(crate) fn label_rows(
     sizes: &mut [u32],
     found: &mut [u32],
     grey_found: &mut [u32],
-) -> Answer
+) -> Outcome
     requires { LabelledAsks t fwd.now pins.now couplings.now cuts.now rows.now
         labels.old grey_labels.old counts.old sizes.old found.old grey_found.old }
     ensures { LabelledLeaves t fwd.now pins.now couplings.now cuts.now rows.now
         (beside_of labels.old grey_labels.old counts.old sizes.old
         found.old grey_found.old)
-        result
+        (answer_by result)
         (beside_of labels.new grey_labels.new counts.new sizes.new
         found.new grey_found.new) }
 {

@@ -6,10 +6,11 @@ mod labelled;
 mod tested;
 
 ghost use Rattle.paper.specs.Panel.Made.{call_of, choices_of, buffers_of};
+ghost use Rattle.paper.specs.Answer.Cases.{answer_of};
 ghost use Rattle.packing.specs.Bytes.{own_task};
 ghost use Rattle.task_steps.specs.Label.{LabelAnswers};
 
-use paper::{Answer, Form, Group, Keeps, Lengths, Mode, Task};
+use paper::{Group, Keeps, Lengths, Outcome, Refusal, Task};
 
 // The tests of a move of the group's rows, in its members' order, then labels, counts and sizes, or of the form that grows the members. The answer is what
 // the move will answer. Of the group only its size is looked at, and not what the task keeps; no row is written.
@@ -31,36 +32,27 @@ pub fn task_label(
     found: &mut [u32],
     grey_found: &mut [u32],
     blue: &mut [u8],
-) -> Answer
+) -> Result<Outcome, Refusal>
     ensures { LabelAnswers
         (call_of (own_task t) fwd.now bwd.now pins.now couplings.now cuts.now)
         (choices_of choices.now greys.now)
         (buffers_of rows.now labels.old grey_labels.old counts.old sizes.old
         members.old found.old grey_found.old)
         blue.old
-        result
+        (answer_of result)
         (buffers_of rows.now labels.new grey_labels.new counts.new sizes.new
         members.new found.new grey_found.new)
         blue.new }
 {
-    let mode = t.mode;
-    let form = t.form;
-    let named = t.group;
-    let size = named.len;
+    let size = t.group.len;
     let own = Task {
-        mode,
-        form,
         keeps: Keeps::Nothing,
-        n: t.n,
-        d: t.d,
         s: size,
         group: Group {
             len: size,
             systems: [0, 1, 2, 3, 4, 5, 6, 7],
         },
-        temperature: t.temperature,
-        reference: t.reference,
-        seed: t.seed,
+        ..t
     };
     let l = Lengths {
         spins: rows.len(),
@@ -79,7 +71,7 @@ pub fn task_label(
         found: found.len(),
         grey_found: grey_found.len(),
     };
-    let fault = tested::test_label(
+    tested::test_label(
         own,
         rows,
         fwd,
@@ -91,14 +83,11 @@ pub fn task_label(
         greys,
         l,
         blue.len(),
-    );
-    if fault != 0 {
-        return Answer::Refused(fault);
+    )?;
+    if t.form.grows() {
+        return Ok(grown::label_grown(own, rows, fwd, bwd, pins, couplings, cuts, members, blue));
     }
-    if form.grows() {
-        return grown::label_grown(own, rows, fwd, bwd, pins, couplings, cuts, members, blue);
-    }
-    labelled::label_rows(
+    Ok(labelled::label_rows(
         own,
         rows,
         fwd,
@@ -111,5 +100,5 @@ pub fn task_label(
         sizes,
         found,
         grey_found,
-    )
+    ))
 }

@@ -1,9 +1,12 @@
 -- How tight the three promises are: each allows one answer and one content of every list that is lent.
-use Rattle.std.specs.Prelude.{ℕ, zero, suc, ◌*◌, ◌<◌, ◌≡◌, refl, Bool, true, false, List, length, get_or, ℤ}
+use Rattle.std.specs.Prelude.{ℕ, zero, suc, ◌*◌, ◌<◌, ◌≡◌, refl, Bool, true, false, List, length, get_or, ℤ, Result}
+use Rattle.paper.specs.declared.Refusal.{Refusal}
+use Rattle.paper.specs.declared.Outcome.{Outcome}
+use Rattle.paper.specs.Refusal.Numbers.{verdict_of, verdict_of_injective}
+use Rattle.paper.specs.Answer.Cases.{answer_of, answer_of_injective}
 use Rattle.std.proofs.Common.{sym, ◌∙◌, ap, subst, ext_get_or}
 use Rattle.paper.specs.declared.Group.{Group}
-use Rattle.paper.specs.declared.Answer.{Answer}
-use Rattle.paper.specs.declared.Answer.TheVariants.{Refused, Idle, Held, Moved}
+use Rattle.paper.specs.Answer.Cases.{Answer, Answer.Refused, Answer.Idle, Answer.Held, Answer.Moved}
 use Rattle.paper.specs.Panel.Input.{Lattice, graph, Call, Choices, Buffers, pattern_of, spin}
 use Rattle.paper.specs.Site.Bonds.{holds}
 use Rattle.paper.specs.Move.Moving.{final}
@@ -113,6 +116,10 @@ module _ (c : Call) (p : Choices) (b : Buffers) (blue : List ℕ) where
     task_label_determined Moved Held w h = accepted_same Moved Held (moved_whole y u w) (held_whole z v h) w h
     task_label_determined Moved Moved w h = accepted_same Moved Moved (moved_whole y u w) (moved_whole z v h) w h
 
+    pub task_label_result_determined : (a a' : Result Outcome Refusal)
+        → LabelAnswers c p b blue (answer_of a) y u → LabelAnswers c p b blue (answer_of a') z v → a ≡ a'
+    task_label_result_determined a a' w h = answer_of_injective a a' (task_label_determined (answer_of a) (answer_of a') w h).answer
+
 -- ---- the second
 pub record SameChosen (r : ℕ) (y : List ℕ) (r' : ℕ) (z : List ℕ) : Type 0 where
   pub answer : r ≡ r'
@@ -137,6 +144,10 @@ module _ (c : Call) (p : Choices) (xs : List ℤ) (f : Found) (area y z : List �
     answer = broken_unique (choose_rules c p xs f area) (suc r) (suc s) w.why h.why;
     area = w.kept ∙ sym h.kept;
   }
+
+  pub task_choose_result_determined : (a a' : Result (Unit {0}) Refusal)
+      → ChooseAnswers c p xs f area (verdict_of a) y → ChooseAnswers c p xs f area (verdict_of a') z → a ≡ a'
+  task_choose_result_determined a a' w h = verdict_of_injective a a' (task_choose_determined (verdict_of a) (verdict_of a') w h).answer
 
 -- ---- the third, on its own rows
 pub record SameWritten (r : ℕ) (ys us : List ℤ) (r' : ℕ) (zs vs : List ℤ) : Type 0 where
@@ -189,3 +200,7 @@ module _
       rows = w.kept ∙ sym q.kept;
       totals = w.totals_kept ∙ sym q.totals_kept;
     }
+
+    pub task_write_result_determined : (a a' : Result (Unit {0}) Refusal)
+        → WriteAnswers keeping h l (verdict_of a) ys us → WriteAnswers keeping h l (verdict_of a') zs vs → a ≡ a'
+    task_write_result_determined a a' w q = verdict_of_injective a a' (task_write_determined (verdict_of a) (verdict_of a') w q).answer

@@ -2,7 +2,7 @@
 use Rattle.std.specs.Prelude.{ℕ, ◌<◌, ◌≡◌, Bool, true, List, length, get_or, ℤ}
 use Rattle.std.proofs.Common.{◌∙◌}
 use Rattle.lemmas.specs.Bools.{and_left, and_right}
-use Rattle.paper.specs.declared.Answer.{Answer}
+use Rattle.paper.specs.Answer.Cases.{Answer}
 use Rattle.paper.specs.Panel.Input.{graph, Call, Choices, Buffers, size}
 use Rattle.paper.specs.Panel.Takes.{labels_by, takes_greys}
 use Rattle.paper.specs.Site.Bonds.{holds, holds_grey}

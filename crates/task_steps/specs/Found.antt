@@ -1,8 +1,7 @@
 -- What the first step found, by the paper's words: the lists that tell the components, and the rules that it tested.
 use Rattle.std.specs.Prelude.{ℕ, ◌≤◌, ◌<◌, ◌≡◌, refl, ◌⊎◌, Bool, true, false, cond, List, length, get_or, ℤ}
 use Rattle.std.proofs.Common.{sym, ◌∙◌, ap, subst, inl, inr, arith}
-use Rattle.paper.specs.declared.Answer.{Answer}
-use Rattle.paper.specs.declared.Answer.TheVariants.{Idle, Held, Moved, Refused}
+use Rattle.paper.specs.Answer.Cases.{Answer, Answer.Idle, Answer.Held, Answer.Moved, Answer.Refused}
 use Rattle.paper.specs.Panel.Input.{graph, Call, Choices, Buffers, size}
 use Rattle.paper.specs.Panel.Takes.{is_cmr, grows_by, labels_by, moves, takes_greys}
 use Rattle.paper.specs.Site.Acting.{acts, SomeActs}

@@ -1,7 +1,6 @@
 -- The first step of a task, on its own rows: it tests what the move tests and writes what the move writes beside the spins (14/14).
 use Rattle.std.specs.Prelude.{ℕ, ◌≡◌, Bool, true, false, ◌&&◌, List, [], ◌∷◌, length, ℤ}
-use Rattle.paper.specs.declared.Answer.{Answer}
-use Rattle.paper.specs.declared.Answer.TheVariants.{Refused, Idle, Held, Moved}
+use Rattle.paper.specs.Answer.Cases.{Answer, Answer.Refused, Answer.Idle, Answer.Held, Answer.Moved}
 use Rattle.paper.specs.Panel.Input.{graph, Call, Choices, Buffers}
 use Rattle.paper.specs.Panel.Takes.{grows_by, one_cluster, takes_greys}
 use Rattle.paper.specs.Site.Acting.{SomeActs, NoneActs}

@@ -7,7 +7,7 @@ use Rattle.lemmas.specs.Bools.{never, and_no, and_right, or_right}
 use Rattle.paper.specs.declared.Form.{Form}
 use Rattle.paper.specs.declared.Form.TheVariants.{Sw, Wolff, Observe, Grow}
 use Rattle.paper.specs.declared.Mode.{Mode}
-use Rattle.paper.specs.declared.Answer.{Answer}
+use Rattle.paper.specs.Answer.Cases.{Answer}
 use Rattle.paper.specs.Panel.Input.{Call, Choices, Buffers, pattern, pinned}
 use Rattle.paper.specs.Panel.Takes.{is_cmr, one_cluster, grows_by, labels_by, moves, takes_greys}
 use Rattle.paper.specs.Site.Acting.{acts, SomeActs, NoneActs}

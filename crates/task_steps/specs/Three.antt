@@ -8,8 +8,7 @@ use Rattle.std.proofs.Math.ListN.{get_or-eq_default}
 use Rattle.paper.specs.declared.Group.{Group}
 use Rattle.paper.specs.declared.Mode.{Mode}
 use Rattle.paper.specs.declared.Mode.TheVariants.{Houd, Pair, Perm, Gperm, Jorg, Cmr}
-use Rattle.paper.specs.declared.Answer.{Answer}
-use Rattle.paper.specs.declared.Answer.TheVariants.{Idle, Held, Moved, Refused}
+use Rattle.paper.specs.Answer.Cases.{Answer, Answer.Idle, Answer.Held, Answer.Moved, Answer.Refused}
 use Rattle.paper.specs.Panel.Input.{Call, Choices, Buffers, Pattern, pattern, member, size}
 use Rattle.paper.specs.Panel.Takes.{takes_greys}
 use Rattle.paper.specs.Site.Acting.{acts}

@@ -18,11 +18,9 @@ fn read_listed(rows: &[i8], n: usize, group: Group, list: &[u32], len: usize, co
     requires { Readable n group rows.now list.now len (length cols.old) }
     ensures { OldsRead n group rows.now list.now len cols.new }
 {
-    let mut a: usize = 0;
-    while a < len {
-        let i = wide(list[a]);
+    for &site in &list[..len] {
+        let i = wide(site);
         cols[i] = columns::column_at(rows, n, group, i);
-        a += 1;
     }
 }
 

@@ -9,10 +9,11 @@ mod tested;
 ghost use Rattle.std.specs.Prelude.{[]};
 ghost use Rattle.paper.specs.Panel.Made.{call_of};
 ghost use Rattle.paper.specs.Panel.Takes.{keeps_by};
+ghost use Rattle.paper.specs.Refusal.Numbers.{verdict_of};
 ghost use Rattle.packing.specs.Bytes.{own_task};
 ghost use Rattle.task_steps.specs.Write.{shape_of, writing_of, WriteAnswers};
 
-use paper::{Form, Group, Keeps, Mode, Task};
+use paper::{Group, Refusal, Task};
 
 // Of the group only its size is looked at, and not the number of systems: the rows are the members' own, in their order. The form that grows reads the
 // area at its members alone; where no totals are kept, tables, couplings and totals are not looked at.
@@ -25,41 +26,27 @@ pub fn task_write(
     couplings: &[i32],
     members: &[u8],
     area: &[u8],
-) -> u8
+) -> Result<(), Refusal>
     ensures { WriteAnswers
         (keeps_by t.keeps t.form)
         (shape_of (call_of (own_task t) fwd.now bwd.now [] couplings.now []))
         (writing_of rows.old members.now area.now totals.old)
-        result rows.new totals.new }
+        (verdict_of result) rows.new totals.new }
 {
-    let mode = t.mode;
-    let form = t.form;
-    let keeps = t.keeps;
-    let named = t.group;
-    let size = named.len;
+    let size = t.group.len;
     let own = Task {
-        mode,
-        form,
-        keeps,
-        n: t.n,
-        d: t.d,
         s: size,
         group: Group {
             len: size,
             systems: [0, 1, 2, 3, 4, 5, 6, 7],
         },
-        temperature: t.temperature,
-        reference: t.reference,
-        seed: t.seed,
+        ..t
     };
-    let fault = tested::test_write(own, rows, totals, fwd, bwd, couplings, members, area);
-    if fault != 0 {
-        return fault;
-    }
-    if form.grows() {
+    tested::test_write(own, rows, totals, fwd, bwd, couplings, members, area)?;
+    if t.form.grows() {
         grown::write_grown(own, rows, totals, fwd, bwd, couplings, members, area);
-        return 0;
+        return Ok(());
     }
     labelled::write_labelled(own, rows, totals, fwd, bwd, couplings, area);
-    0
+    Ok(())
 }

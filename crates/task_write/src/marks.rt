@@ -1,14 +1,7 @@
 // The sites whose byte is 1, in a list. A block without one is passed over in vector code, so that a small cluster costs little.
-ghost use Rattle.std.specs.Prelude.{◌≡◌, ◌≤◌, length};
-ghost use Rattle.lemmas.specs.Counts.{bit};
+ghost use Rattle.std.specs.Prelude.{length};
 ghost use Rattle.lemmas.specs.Tells.{Tells};
-ghost use Rattle.task_write.specs.Marks.{Block, MarkAmong, ended, Room, Collected, Collects};
-
-fn one(yes: bool) -> usize
-    ensures { result ≡ bit yes }
-{
-    if yes { 1 } else { 0 }
-}
+ghost use Rattle.task_write.specs.Marks.{Block, MarkAmong, Room, Collected, Collects};
 
 // Is a site marked from `from` to below `to`? One pass without an exit.
 fn some_marked(marks: &[u8], from: usize, to: usize) -> bool
@@ -16,10 +9,8 @@ fn some_marked(marks: &[u8], from: usize, to: usize) -> bool
     ensures { Tells result (MarkAmong marks.now from to) }
 {
     let mut found = false;
-    let mut i = from;
-    while i < to {
-        found = found | (marks[i] == 1);
-        i += 1;
+    for &mark in &marks[from..to] {
+        found |= mark == 1;
     }
     found
 }
@@ -35,21 +26,11 @@ fn list_block(marks: &[u8], from: usize, to: usize, list: &mut [u32], len: usize
         return len;
     }
     let mut k = len;
-    let mut i = from;
-    while i < to {
+    for i in from..to {
         list[k] = i as u32;
-        k += one(marks[i] == 1);
-        i += 1;
+        k += usize::from(marks[i] == 1);
     }
     k
-}
-
-// Where the block that starts at `from` ends, among n sites.
-fn block_end(from: usize, n: usize) -> usize
-    requires { from ≤ 4096 }
-    ensures { result ≡ ended from n }
-{
-    if from + 64 < n { from + 64 } else { n }
 }
 
 // Lists all marked sites, ascending, and tells how many there are.
@@ -59,11 +40,9 @@ pub(crate) fn list_marked(marks: &[u8], list: &mut [u32]) -> usize
 {
     let n = marks.len();
     let mut len = 0;
-    let mut from = 0;
-    while from < n {
-        let to = block_end(from, n);
+    for from in (0..n).step_by(64) {
+        let to = (from + 64).min(n);
         len = list_block(marks, from, to, list, len);
-        from = to;
     }
     len
 }

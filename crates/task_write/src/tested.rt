@@ -6,11 +6,12 @@ ghost use Rattle.paper.specs.Panel.Made.{call_of};
 ghost use Rattle.paper.specs.Panel.Takes.{keeps_by};
 ghost use Rattle.paper.specs.Refusal.Rules.{When, Sizes, Inverse};
 ghost use Rattle.paper.specs.Refusal.Verdict.{Verdict};
+ghost use Rattle.paper.specs.Refusal.Numbers.{verdict_of};
 ghost use Rattle.task_steps.specs.Choose.{has_column};
 ghost use Rattle.task_steps.specs.Write.{shape_of, writing_of, write_rules};
 ghost use Rattle.task_write.specs.Tested.{Measured, measure_rules, AreaLent};
 
-use paper::{Form, Group, Keeps, Task};
+use paper::{Form, Group, Keeps, Refusal, Task};
 
 // Test 2, by the numbers alone.
 fn lengths_ok(
@@ -40,7 +41,7 @@ fn lengths_ok(
         & lattice::fits(keeping, totals, s)
 }
 
-// Tests 1, 15 and 2: the number of the first that fails, or 0.
+// Tests 1, 15 and 2: the refusal of the first that fails.
 fn test_lengths(
     t: Task,
     rows: usize,
@@ -50,8 +51,8 @@ fn test_lengths(
     bwd: usize,
     couplings: usize,
     totals: usize,
-) -> u8
-    ensures { Verdict (measure_rules t rows members area fwd bwd couplings totals) result }
+) -> Result<(), Refusal>
+    ensures { Verdict (measure_rules t rows members area fwd bwd couplings totals) (verdict_of result) }
 {
     let mode = t.mode;
     let form = t.form;
@@ -59,19 +60,19 @@ fn test_lengths(
     let group = t.group;
     let m = group.len;
     if !lattice::ranged(t.n, t.d, t.s, mode, m) {
-        return 1;
+        return Err(Refusal::Sizes);
     }
     if !lattice::houd_ok(mode, form, m) {
-        return 15;
+        return Err(Refusal::HoudOfMany);
     }
     let keeping = keeps.totals(form);
     let grows = form.grows();
     if !lengths_ok(
         keeping, grows, t.n, t.d, t.s, rows, members, area, fwd, bwd, couplings, totals,
     ) {
-        return 2;
+        return Err(Refusal::Lengths);
     }
-    0
+    Ok(())
 }
 
 // Is the column of every member at most this? One pass without an exit, which the compiler makes vector code of.
@@ -80,10 +81,8 @@ fn marked_at_most(members: &[u8], area: &[u8], top: u8) -> bool
     ensures { Tells result ((k : ℕ) → k < length area.now → get_or members.now k 0 ≡ 1 → get_or area.now k 0 ≤ top) }
 {
     let mut ok = true;
-    let mut i = 0;
-    while i < area.len() {
-        ok = ok & ((members[i] != 1) | (area[i] <= top));
-        i += 1;
+    for (i, &column) in area.iter().enumerate() {
+        ok &= (members[i] != 1) | (column <= top);
     }
     ok
 }
@@ -123,7 +122,7 @@ fn marks_fit(grows: bool, members: &[u8]) -> bool
     true
 }
 
-// The number of the first test that fails, or 0.
+// The refusal of the first test that fails.
 pub(crate) fn test_write(
     t: Task,
     rows: &[i8],
@@ -133,14 +132,14 @@ pub(crate) fn test_write(
     couplings: &[i32],
     members: &[u8],
     area: &[u8],
-) -> u8
+) -> Result<(), Refusal>
     ensures { Verdict
         (write_rules (keeps_by t.keeps t.form)
         (shape_of (call_of t fwd.now bwd.now [] couplings.now []))
         (writing_of rows.now members.now area.now totals.now))
-        result }
+        (verdict_of result) }
 {
-    let lengths = test_lengths(
+    test_lengths(
         t,
         rows.len(),
         members.len(),
@@ -149,31 +148,28 @@ pub(crate) fn test_write(
         bwd.len(),
         couplings.len(),
         totals.len(),
-    );
-    if lengths != 0 {
-        return lengths;
-    }
+    )?;
     let form = t.form;
     let group = t.group;
     let keeps = t.keeps;
     let keeping = keeps.totals(form);
     if !systems::group_rows_ok(t.n, t.s, rows, group) {
-        return 3;
+        return Err(Refusal::Spins);
     }
     if !area_ok(t, members, area) {
-        return 3;
+        return Err(Refusal::Spins);
     }
     if !tables_fit(keeping, t.n, t.d, fwd, bwd) {
-        return 4;
+        return Err(Refusal::Tables);
     }
     if !lattice::couplings_fit(keeping, couplings) {
-        return 6;
+        return Err(Refusal::Couplings);
     }
     if !marks_fit(form.grows(), members) {
-        return 9;
+        return Err(Refusal::Choices);
     }
     if !systems::group_totals_fit(keeping, totals, group) {
-        return 14;
+        return Err(Refusal::Totals);
     }
-    0
+    Ok(())
 }

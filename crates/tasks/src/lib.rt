@@ -17,12 +17,6 @@ pub struct Span {
     pub end: usize,
 }
 
-fn least(a: usize, b: usize) -> usize
-    ensures { result ≡ min a b }
-{
-    if a < b { a } else { b }
-}
-
 // The part k of those with m elements each; what lies past the end is cut off.
 pub fn bounds(len: usize, k: usize, m: usize) -> Span
     requires { Few k m }
@@ -30,42 +24,30 @@ pub fn bounds(len: usize, k: usize, m: usize) -> Span
 {
     let a = k * m;
     Span {
-        start: least(a, len),
-        end: least(a + m, len),
+        start: a.min(len),
+        end: (a + m).min(len),
     }
 }
 
-fn part_u8(xs: &[u8], k: usize, m: usize) -> &[u8]
+fn part<T>(xs: &[T], k: usize, m: usize) -> &[T]
     requires { Few k m }
     ensures { result.now ≡ part k m xs.now }
 {
     let b = bounds(xs.len(), k, m);
-    let a = b.start;
-    let e = b.end;
-    &xs[a..e]
-}
-
-fn part_f32(xs: &[f32], k: usize, m: usize) -> &[f32]
-    requires { Few k m }
-    ensures { result.now ≡ part k m xs.now }
-{
-    let b = bounds(xs.len(), k, m);
-    let a = b.start;
-    let e = b.end;
-    &xs[a..e]
+    &xs[b.start..b.end]
 }
 
 // An entry that the mode does not take may be missing.
 pub fn word_at(xs: &[u32], k: usize) -> usize
     ensures { result ≡ get_or xs.now k 0 }
 {
-    if k < xs.len() { wide(xs[k]) } else { 0 }
+    xs.get(k).map_or(0, |&x| wide(x))
 }
 
 fn float_at(xs: &[f32], k: usize) -> f32
     ensures { result ≡ get_or xs.now k nan }
 {
-    if k < xs.len() { xs[k] } else { 0.0 / 0.0 }
+    xs.get(k).copied().unwrap_or(f32::NAN)
 }
 
 pub fn task_count(plan: Plan) -> usize
@@ -95,11 +77,7 @@ pub fn masked(plan: Plan, masks: &[u8], k: usize) -> bool
     ensures { result ≡ masked_at plan masks.now k }
 {
     let j = temperature_of(plan, k);
-    if j < masks.len() {
-        masks[j] == 1
-    } else {
-        false
-    }
+    masks.get(j) == Some(&1)
 }
 
 // The task's run of order entries.
@@ -111,10 +89,8 @@ pub fn task_group(plan: Plan, order: &[u32], k: usize) -> Group
     let groups = plan.r / members;
     let base = (k / groups) * plan.r + (k % groups) * members;
     let mut systems = [0usize; 8];
-    let mut x: usize = 0;
-    while x < members {
+    for x in 0..members {
         systems[x] = wide(order[base + x]);
-        x += 1;
     }
     Group {
         len: members,
@@ -161,7 +137,7 @@ pub fn task_cuts(plan: Plan, cuts: &[f32], k: usize) -> &[f32]
 {
     let n = plan.n;
     let d = plan.d;
-    part_f32(cuts, k, n * d)
+    part(cuts, k, n * d)
 }
 
 pub fn task_choices(plan: Plan, choices: &[u8], k: usize) -> &[u8]
@@ -172,7 +148,7 @@ pub fn task_choices(plan: Plan, choices: &[u8], k: usize) -> &[u8]
     let form = plan.form;
     let rows = form.entries(plan.n);
     let width = mode.choice_width(plan.members);
-    part_u8(choices, k, rows * width)
+    part(choices, k, rows * width)
 }
 
 pub fn task_greys(plan: Plan, greys: &[u8], k: usize) -> &[u8]
@@ -180,5 +156,5 @@ pub fn task_greys(plan: Plan, greys: &[u8], k: usize) -> &[u8]
     ensures { result.now ≡ part k (entries plan.form plan.n) greys.now }
 {
     let form = plan.form;
-    part_u8(greys, k, form.entries(plan.n))
+    part(greys, k, form.entries(plan.n))
 }

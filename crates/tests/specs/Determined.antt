@@ -1,5 +1,7 @@
 -- Each test's verdict is the only one.
-use Rattle.std.specs.Prelude.{ℕ, ◌≡◌, Bool, List, [], ℤ, Float}
+use Rattle.std.specs.Prelude.{ℕ, ◌≡◌, Bool, List, [], ℤ, Float, Result}
+use Rattle.paper.specs.declared.Refusal.{Refusal}
+use Rattle.paper.specs.Refusal.Numbers.{verdict_of, verdict_of_injective}
 use Rattle.lemmas.specs.Tells.{Tells, tells_determined}
 use Rattle.paper.specs.declared.Mode.{Mode}
 use Rattle.paper.specs.declared.Form.{Form}
@@ -68,3 +70,34 @@ pub seed_column_ok_determined : (t : Task) (cols : List ℕ) (xs : List ℤ) →
 seed_column_ok_determined t cols xs s w a b p q =
     tells_determined (Seeded (call_of t [] [] [] [] []) xs) a b (p [] t.d t.s t.temperature [] [] [] [] xs s w)
     (q [] t.d t.s t.temperature [] [] [] [] xs s w)
+
+-- ---- each test returns one result
+pub test_shape_result_determined : (t : Task) (totals : ℕ) (l : Lengths) (a b : Result (Unit {0}) Refusal)
+    → Verdict (shape_rules t totals l) (verdict_of a) → Verdict (shape_rules t totals l) (verdict_of b) → a ≡ b
+test_shape_result_determined t totals l a b p q = verdict_of_injective a b (test_shape_determined t totals l _ _ p q)
+
+pub test_tables_result_determined : (t : Task) (fwd bwd pins : List ℕ) (couplings : List ℤ) (a b : Result (Unit {0}) Refusal)
+    → Verdict (table_rules t fwd bwd pins couplings) (verdict_of a) → Verdict (table_rules t fwd bwd pins couplings) (verdict_of b) → a ≡ b
+test_tables_result_determined t fwd bwd pins couplings a b p q =
+    verdict_of_injective a b (test_tables_determined t fwd bwd pins couplings _ _ p q)
+
+pub test_panel_result_determined : (t : Task) (spins totals : List ℤ) (fwd bwd pins : List ℕ) (couplings : List ℤ) (l : Lengths) (a b : Result (Unit {0}) Refusal)
+    → Verdict (panel_rules t spins totals fwd bwd pins couplings l) (verdict_of a)
+    → Verdict (panel_rules t spins totals fwd bwd pins couplings l) (verdict_of b)
+    → a ≡ b
+test_panel_result_determined t spins totals fwd bwd pins couplings l a b p q =
+    verdict_of_injective a b (test_panel_determined t spins totals fwd bwd pins couplings l _ _ p q)
+
+pub test_chosen_result_determined : (t : Task) (cuts : List Float) (choices greys : List ℕ) (a b : Result (Unit {0}) Refusal)
+    → EveryCall t cuts (λ c. Verdict (chosen_rules c (choices_of choices greys)) (verdict_of a))
+    → EveryCall t cuts (λ c. Verdict (chosen_rules c (choices_of choices greys)) (verdict_of b))
+    → a ≡ b
+test_chosen_result_determined t cuts choices greys a b p q =
+    verdict_of_injective a b (test_chosen_determined t cuts choices greys (verdict_of a) (verdict_of b) p q)
+
+pub test_choices_result_determined : (t : Task) (spins : List ℤ) (cuts : List Float) (choices greys : List ℕ) (a b : Result (Unit {0}) Refusal)
+    → EveryCall t cuts (λ c. Verdict (choice_rules c (choices_of choices greys) spins) (verdict_of a))
+    → EveryCall t cuts (λ c. Verdict (choice_rules c (choices_of choices greys) spins) (verdict_of b))
+    → a ≡ b
+test_choices_result_determined t spins cuts choices greys a b p q =
+    verdict_of_injective a b (test_choices_determined t spins cuts choices greys (verdict_of a) (verdict_of b) p q)

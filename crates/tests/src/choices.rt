@@ -4,12 +4,13 @@ ghost use Rattle.lemmas.specs.Tells.{Tells};
 ghost use Rattle.paper.specs.Panel.Made.{choices_of};
 ghost use Rattle.paper.specs.Refusal.Rules.{When, Cuts, Chosen, Seeded, choice_rules};
 ghost use Rattle.paper.specs.Refusal.Verdict.{Verdict};
+ghost use Rattle.paper.specs.Refusal.Numbers.{verdict_of};
 ghost use Rattle.column_rules.specs.Laws.{SomeSite};
 ghost use Rattle.column_rules.specs.Sight.{acts_at};
 ghost use Rattle.tests.specs.Choices.{Tested, EveryCall, EveryCut, Long, AtMost, PermRows, RowMoves, Permuted, Seeing, chosen_rules};
 ghost use Rattle.tests.specs.Choices.{SeeingColumns, EveryRows};
 
-use paper::{Form, Group, Mode, Task};
+use paper::{Form, Group, Mode, Refusal, Task};
 
 fn cuts_fit(taken: bool, cuts: &[f32]) -> bool
     ensures { Tells result (When taken (Cuts cuts.now)) }
@@ -139,33 +140,36 @@ pub fn seed_column_ok(t: Task, cols: &[u8]) -> bool
     !any_column_acts(t, cols)
 }
 
-// Tests 8 and 9, which read no spin: the number of the first that fails, or 0.
-pub fn test_chosen(t: Task, cuts: &[f32], choices: &[u8], greys: &[u8]) -> u8
+// Tests 8 and 9, which read no spin: the refusal of the first that fails.
+pub fn test_chosen(t: Task, cuts: &[f32], choices: &[u8], greys: &[u8]) -> Result<(), Refusal>
     requires { Long t choices.now greys.now }
-    ensures { EveryCall t cuts.now (λ c. Verdict (chosen_rules c (choices_of choices.now greys.now)) result) }
+    ensures { EveryCall t cuts.now (λ c. Verdict (chosen_rules c (choices_of choices.now greys.now)) (verdict_of result)) }
 {
     let mode = t.mode;
     if !cuts_fit(mode.is_drawn(), cuts) {
-        return 8;
+        return Err(Refusal::Cuts);
     }
     if !chosen_ok(t, choices, greys) {
-        return 9;
+        return Err(Refusal::Choices);
     }
-    0
+    Ok(())
 }
 
-// The number of the first test that fails, or 0.
-pub fn test_choices(t: Task, spins: &[i8], cuts: &[f32], choices: &[u8], greys: &[u8]) -> u8
+// The refusal of the first test that fails.
+pub fn test_choices(
+    t: Task,
+    spins: &[i8],
+    cuts: &[f32],
+    choices: &[u8],
+    greys: &[u8],
+) -> Result<(), Refusal>
     requires { Tested t spins.now choices.now greys.now }
     ensures { EveryCall t cuts.now
-        (λ c. Verdict (choice_rules c (choices_of choices.now greys.now) spins.now) result) }
+        (λ c. Verdict (choice_rules c (choices_of choices.now greys.now) spins.now) (verdict_of result)) }
 {
-    let chosen = test_chosen(t, cuts, choices, greys);
-    if chosen != 0 {
-        return chosen;
-    }
+    test_chosen(t, cuts, choices, greys)?;
     if !seed_ok(t, spins) {
-        return 10;
+        return Err(Refusal::Seed);
     }
-    0
+    Ok(())
 }

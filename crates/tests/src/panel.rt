@@ -2,10 +2,11 @@
 ghost use Rattle.lemmas.specs.Tells.{Tells};
 ghost use Rattle.paper.specs.Refusal.Rules.{Sizes};
 ghost use Rattle.paper.specs.Refusal.Verdict.{Verdict};
+ghost use Rattle.paper.specs.Refusal.Numbers.{verdict_of};
 ghost use Rattle.tests.specs.Lengths.{Small, FitsEach};
 ghost use Rattle.tests.specs.Panel.{Measures, TotalsFit, TablesLong, shape_rules, table_rules, panel_rules};
 
-use paper::{Form, Group, Lengths, Mode, Task};
+use paper::{Form, Group, Lengths, Mode, Refusal, Task};
 
 // Test 2 of `count` tasks that share the panel: each has its own cuts, choices and outputs.
 pub fn lengths_ok(
@@ -61,9 +62,9 @@ pub fn totals_lengths_ok(
     lattice::fits(keeping, couplings, n * d) & lattice::fits(keeping, totals, s)
 }
 
-// Tests 1, 15 and 2: the number of the first that fails, or 0.
-pub fn test_shape(t: Task, totals: usize, l: Lengths) -> u8
-    ensures { Verdict (shape_rules t totals l) result }
+// Tests 1, 15 and 2: the refusal of the first that fails.
+pub fn test_shape(t: Task, totals: usize, l: Lengths) -> Result<(), Refusal>
+    ensures { Verdict (shape_rules t totals l) (verdict_of result) }
 {
     let mode = t.mode;
     let form = t.form;
@@ -71,49 +72,55 @@ pub fn test_shape(t: Task, totals: usize, l: Lengths) -> u8
     let group = t.group;
     let m = group.len;
     if !lattice::ranged(t.n, t.d, t.s, mode, m) {
-        return 1;
+        return Err(Refusal::Sizes);
     }
     if !lattice::houd_ok(mode, form, m) {
-        return 15;
+        return Err(Refusal::HoudOfMany);
     }
     if !lengths_ok(mode, form, t.n, t.d, t.s, m, 1, l) {
-        return 2;
+        return Err(Refusal::Lengths);
     }
     if !totals_lengths_ok(keeps.totals(form), t.n, t.d, t.s, l.couplings, totals) {
-        return 2;
+        return Err(Refusal::Lengths);
     }
-    0
+    Ok(())
 }
 
-// Tests 4 to 7, which read no spin: the number of the first that fails, or 0.
-pub fn test_tables(t: Task, fwd: &[u32], bwd: &[u32], pins: &[u8], couplings: &[i32]) -> u8
+// Tests 4 to 7, which read no spin: the refusal of the first that fails.
+pub fn test_tables(
+    t: Task,
+    fwd: &[u32],
+    bwd: &[u32],
+    pins: &[u8],
+    couplings: &[i32],
+) -> Result<(), Refusal>
     requires { TablesLong t fwd.now bwd.now }
-    ensures { Verdict (table_rules t fwd.now bwd.now pins.now couplings.now) result }
+    ensures { Verdict (table_rules t fwd.now bwd.now pins.now couplings.now) (verdict_of result) }
 {
     if !lattice::tables_ok(t.n, t.d, fwd, bwd) {
-        return 4;
+        return Err(Refusal::Tables);
     }
     if !lattice::bytes_at_most(pins, 1) {
-        return 4;
+        return Err(Refusal::Tables);
     }
     let group = t.group;
     if !lattice::group_ok(t.s, group) {
-        return 5;
+        return Err(Refusal::Systems);
     }
     let mode = t.mode;
     let form = t.form;
     let keeps = t.keeps;
     let drawn = mode.is_drawn();
     if !lattice::couplings_fit(drawn | keeps.totals(form), couplings) {
-        return 6;
+        return Err(Refusal::Couplings);
     }
     if !(!drawn | lattice::temperature_ok(t.temperature)) {
-        return 7;
+        return Err(Refusal::Temperature);
     }
-    0
+    Ok(())
 }
 
-// The number of the first test that fails, or 0.
+// The refusal of the first test that fails.
 pub fn test_panel(
     t: Task,
     spins: &[i8],
@@ -123,18 +130,15 @@ pub fn test_panel(
     pins: &[u8],
     couplings: &[i32],
     l: Lengths,
-) -> u8
+) -> Result<(), Refusal>
     requires { Measures spins.now fwd.now bwd.now couplings.now l }
     ensures { Verdict (panel_rules t spins.now totals.now fwd.now bwd.now
-        pins.now couplings.now l) result }
+        pins.now couplings.now l) (verdict_of result) }
 {
-    let shape = test_shape(t, totals.len(), l);
-    if shape != 0 {
-        return shape;
-    }
+    test_shape(t, totals.len(), l)?;
     let group = t.group;
     if !systems::group_rows_ok(t.n, t.s, spins, group) {
-        return 3;
+        return Err(Refusal::Spins);
     }
     test_tables(t, fwd, bwd, pins, couplings)
 }

@@ -6,3 +6,4 @@ pub mod Paid
 pub mod Brings
 pub mod Gathered
 pub mod Listing
+pub mod Fronts

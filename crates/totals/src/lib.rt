@@ -26,10 +26,8 @@ fn add_bond(j: i32, x: u8, y: u8, len: usize, sums: &mut [i64; 8])
     ensures { Added len (bit_gain j x y) sums.old sums.new }
 {
     let w = 2 * (j as i64);
-    let mut k: usize = 0;
-    while k < len {
-        sums[k] = sums[k] + w * step(x, y, k);
-        k += 1;
+    for k in 0..len {
+        sums[k] += w * step(x, y, k);
     }
 }
 
@@ -107,14 +105,12 @@ fn change_site(
         return;
     }
     let base = i * d;
-    let mut e: usize = 0;
-    while e < d {
+    for e in 0..d {
         let at = base + e;
         let to = wide(fwd[at]);
         bond_at(n, couplings, olds, news, len, at, i, to, sums);
         let from = wide(bwd[at]);
         still_at(n, couplings, olds, news, len, from * d + e, from, i, sums);
-        e += 1;
     }
 }
 
@@ -135,10 +131,8 @@ fn change_all(
         (λ k. sum n (site_gain (change_of d fwd.now bwd.now couplings.now olds.now news.now) k)) result }
 {
     let mut sums = [0i64; 8];
-    let mut i: usize = 0;
-    while i < n {
+    for i in 0..n {
         change_site(n, d, fwd, bwd, couplings, olds, news, len, i, &mut sums);
-        i += 1;
     }
     sums
 }
@@ -148,12 +142,8 @@ fn add_totals(group: Group, sums: &[i64; 8], totals: &mut [i64])
     requires { Payable group sums.now totals.old }
     ensures { Paid group.len group sums.now totals.old totals.new }
 {
-    let members = group.len;
-    let mut k: usize = 0;
-    while k < members {
-        let s = group.systems[k];
-        totals[s] = totals[s] + sums[k];
-        k += 1;
+    for k in 0..group.len {
+        totals[group.systems[k]] += sums[k];
     }
 }
 
@@ -179,11 +169,19 @@ fn change_listed(
         (at_site list.now a))) result }
 {
     let mut sums = [0i64; 8];
-    let mut a: usize = 0;
-    while a < listed {
-        let i = wide(list[a]);
-        change_site(n, d, fwd, bwd, couplings, olds, news, len, i, &mut sums);
-        a += 1;
+    for &site in &list[..listed] {
+        change_site(
+            n,
+            d,
+            fwd,
+            bwd,
+            couplings,
+            olds,
+            news,
+            len,
+            wide(site),
+            &mut sums,
+        );
     }
     sums
 }
@@ -229,13 +227,11 @@ fn gather_near(
         (Near d fwd.now bwd.now i d) olds.old news.old olds.new news.new }
 {
     let base = i * d;
-    let mut e: usize = 0;
-    while e < d {
+    for e in 0..d {
         let to = wide(fwd[base + e]);
         gather_one(n, group, spins, members, to, olds, news);
         let from = wide(bwd[base + e]);
         gather_one(n, group, spins, members, from, olds, news);
-        e += 1;
     }
 }
 
@@ -259,11 +255,19 @@ fn gather(
         (NearSome d fwd.now bwd.now list.now listed)
         olds.old news.old olds.new news.new }
 {
-    let mut a: usize = 0;
-    while a < listed {
-        let i = wide(list[a]);
-        gather_near(n, d, group, spins, fwd, bwd, members, i, olds, news);
-        a += 1;
+    for &site in &list[..listed] {
+        gather_near(
+            n,
+            d,
+            group,
+            spins,
+            fwd,
+            bwd,
+            members,
+            wide(site),
+            olds,
+            news,
+        );
     }
 }
 

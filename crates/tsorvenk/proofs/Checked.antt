@@ -16,8 +16,7 @@ use Rattle.paper.specs.Site.Bonds.{whole}
 use Rattle.paper.specs.Refusal.Rule.{Broken}
 use Rattle.packing.specs.Bytes.{own_group}
 use Rattle.steps.specs.Rule.{task_of}
-use Rattle.vendor.specs.declared.Checked.{Checked}
-use Rattle.vendor.specs.declared.Checked.TheVariants.{Refused, No, Yes}
+use Rattle.vendor.specs.Checked.{Checked, Checked.Refused, Checked.No, Checked.Yes}
 use Rattle.vendor.specs.Vendor.{asked_by, vendor_rules, VendorAnswers}
 use Rattle.tsorvenk.specs.Number.{mode_of}
 use Rattle.tsorvenk.specs.Checking.{roomless_rules, check_rules, CheckAnswers}

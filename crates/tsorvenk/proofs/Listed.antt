@@ -1,13 +1,13 @@
 -- The returned number stands for what became of the list.
 use Prim.Native.Nat.{ℕ}
-use mathlib.Core.Path.{◌≡◌, refl}
+use mathlib.Core.Path.{◌≡◌, refl, subst}
 use mathlib.Core.Logic.{inl, inr}
 use mathlib.Core.List.{List}
 use lib.ListN.{length, set}
 use lib.IntN.{ℤ}
 use Rattle.paper.specs.Refusal.Rule.{Broken}
 use Rattle.paper.specs.Refusal.Rules.{Sizes}
-use Rattle.edges.specs.declared.Listing.TheVariants.{Unlisted, Wrote}
+use Rattle.edges.specs.Cases.{Listing, Listing.Unlisted, Listing.Wrote}
 use Rattle.edges.specs.Answer.{Net, write_rules, WriteAnswers}
 use Rattle.tsorvenk.specs.Edges.{lists, list_rules, ListNumbers}
 use Rattle.tsorvenk.proofs.Told.{one_set}
@@ -23,9 +23,13 @@ module _ (g : Net) (js : List ℤ) (text ws : List ℕ) where
   placed c l (inl w) = inl w
   placed c l (inr w) = inr (w.0, inr (l, inr w))
 
-  pub not_listed : (c : ℕ) (text' : List ℕ) → length ws ≡ 1 → WriteAnswers g js text (Unlisted c) text' → ListNumbers g js (lists text ws) c (lists text' ws)
-  not_listed c text' l w = record { answer = Unlisted c; allowed = record { why = placed c l w.why; kept = λ i. lists (w.kept i) ws }; number = refl }
+  module _ {a : Listing} (k : ℕ) (text' : List ℕ) (l : length ws ≡ 1) where
+    pub not_listed : a ≡ Unlisted k → WriteAnswers g js text a text' → ListNumbers g js (lists text ws) k (lists text' ws)
+    not_listed e v =
+        let w = subst (λ (z : Listing). WriteAnswers g js text z text') e v in
+        record { answer = Unlisted k; allowed = record { why = placed k l w.why; kept = λ i. lists (w.kept i) ws }; number = refl }
 
-  pub list_wrote : (m : ℕ) (text' : List ℕ) → length ws ≡ 1 → WriteAnswers g js text (Wrote m) text'
-      → ListNumbers g js (lists text ws) 0 (lists text' (set ws 0 m))
-  list_wrote m text' l w = record { answer = Wrote m; allowed = record { room = l; writes = w; length_told = one_set ws m l }; number = refl }
+    pub list_wrote : a ≡ Wrote k → WriteAnswers g js text a text' → ListNumbers g js (lists text ws) 0 (lists text' (set ws 0 k))
+    list_wrote e v =
+        let w = subst (λ (z : Listing). WriteAnswers g js text z text') e v in
+        record { answer = Wrote k; allowed = record { room = l; writes = w; length_told = one_set ws k l }; number = refl }

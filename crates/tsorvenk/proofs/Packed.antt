@@ -4,7 +4,7 @@ use mathlib.Core.Path.{◌≡◌, refl}
 use mathlib.Core.Bool.{Bool}
 use mathlib.Core.List.{List}
 use lib.IntN.{ℤ}
-use Rattle.paper.specs.declared.Answer.{Answer}
+use Rattle.paper.specs.Answer.Cases.{Answer}
 use Rattle.paper.specs.Panel.Input.{Call, Choices, Buffers}
 use Rattle.paper.specs.Panel.Takes.{keeps_by}
 use Rattle.coded.specs.Takes.{numbers_by}

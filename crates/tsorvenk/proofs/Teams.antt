@@ -9,9 +9,11 @@ use native.Mathlib.Omega.{arith}
 use lib.Dec.{leb}
 use lib.ListN.{length, take, length-take, length-map}
 use lib.IntN.{ℤ}
+use Rattle.std.specs.Prelude.{Result, Ok, Err}
 use Rattle.lemmas.specs.Tells.{denied, both, test_le}
-use Rattle.paper.specs.declared.SweepAnswer.{SweepAnswer}
-use Rattle.paper.specs.declared.SweepAnswer.TheVariants.{Fault, Swept}
+use Rattle.paper.specs.declared.Refusal.{Refusal}
+use Rattle.paper.specs.Refusal.Numbers.{number_of, verdict_of, refused}
+use Rattle.paper.specs.Answer.Cases.{SweepAnswer, SweepAnswer.Fault, SweepAnswer.Swept}
 use Rattle.paper.specs.Panel.Input.{Buffers}
 use Rattle.paper.specs.Refusal.Rule.{Kept, Broken, broken_unique, broken_not_kept}
 use Rattle.paper.specs.Refusal.Verdict.{Verdict, verdict_kept}
@@ -24,12 +26,22 @@ use Rattle.coded.specs.Long.{second}
 use Rattle.coded.specs.Sweep.{SweepCodedAnswers, spelled_sweep}
 use Rattle.tsorvenk.specs.Sweep.{WithOutcomes, Fits, outcome_rules, Uncounted, OutcomeAnswers, SweepNumbers}
 
+pub not_refused : (r : Result (Unit {0}) Refusal) → ((e : Refusal) → r ≡ Err e → ⊥) → verdict_of r ≡ 0
+not_refused (Ok u) n = refl
+not_refused (Err e) n = absurd (n e refl)
+
 module _ (o : Team) (s : ℕ) {Same Told : Type 0} where
   pub owner_refused : (r : ℕ) → (r ≡ 0 → ⊥) → Verdict (owner_rules o s) r → Same → Owned o s r Same Told
   owner_refused zero e v h = absurd (e refl)
   owner_refused (suc r) e v h = record {
     told = λ k. absurd (broken_not_kept (owner_rules o s) (suc r) v k);
     refused = λ k w. (broken_unique (owner_rules o s) (suc r) k v w, h);
+  }
+
+  pub owner_refused_by : (e : Refusal) → Verdict (owner_rules o s) (number_of e) → Same → Owned o s (number_of e) Same Told
+  owner_refused_by e v h = record {
+    told = λ k. absurd (broken_not_kept (owner_rules o s) (number_of e) (refused (owner_rules o s) e v) k);
+    refused = λ k w. (broken_unique (owner_rules o s) (number_of e) k (refused (owner_rules o s) e v) w, h);
   }
 
   pub owner_told : (f r : ℕ) → f ≡ 0 → Verdict (owner_rules o s) f → Told → Owned o s r Same Told

@@ -3,8 +3,8 @@ use Prim.Native.Nat.{ℕ}
 use mathlib.Core.Path.{◌≡◌, refl, sym, subst}
 use mathlib.Core.List.{List}
 use lib.ListN.{length, set}
-use Rattle.frame_lines.specs.declared.Written.{Written}
-use Rattle.frame_lines.specs.declared.Written.TheVariants.{Wrote, NoRoom}
+use Rattle.frame_lines.specs.Outcome.{Written}
+use Rattle.frame_lines.specs.Outcome.Written.{Wrote, NoRoom}
 use Rattle.frame_lines.specs.Number.{written_number, written_values}
 use Rattle.frame.specs.Run.{RunAs}
 use Rattle.tsorvenk.specs.Number.{values_to}

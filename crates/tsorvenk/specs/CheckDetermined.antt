@@ -3,8 +3,7 @@ use Rattle.std.specs.Prelude.{ℕ, ◌≡◌, List, ℤ}
 use Rattle.std.proofs.Common.{sym, ◌∙◌, ap}
 use Rattle.paper.specs.Panel.Input.{Call}
 use Rattle.paper.specs.Refusal.Rule.{Kept, broken_unique, broken_not_kept}
-use Rattle.vendor.specs.declared.Checked.{Checked}
-use Rattle.vendor.specs.declared.Checked.TheVariants.{Refused, No, Yes}
+use Rattle.vendor.specs.Checked.{Checked, Checked.Refused, Checked.No, Checked.Yes}
 use Rattle.vendor.specs.Vendor.{values, vendor_rules}
 use Rattle.vendor.specs.Determined.{SameChecked, check_vendor_determined}
 use Rattle.tsorvenk.specs.Number.{values_to}

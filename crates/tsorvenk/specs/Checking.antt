@@ -5,8 +5,7 @@ use Rattle.paper.specs.Panel.Input.{Call, size}
 use Rattle.paper.specs.Panel.Takes.{is_perm}
 use Rattle.paper.specs.Refusal.Rule.{Rule, rule, Broken}
 use Rattle.paper.specs.Refusal.Rules.{Ranged}
-use Rattle.vendor.specs.declared.Checked.{Checked}
-use Rattle.vendor.specs.declared.Checked.TheVariants.{Refused, No, Yes}
+use Rattle.vendor.specs.Checked.{Checked, Checked.Refused, Checked.No, Checked.Yes}
 use Rattle.vendor.specs.Vendor.{number, values, vendor_rules, VendorAnswers}
 use Rattle.tsorvenk.specs.Number.{Returned, values_to}
 

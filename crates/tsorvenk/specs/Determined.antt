@@ -2,9 +2,8 @@
 use Rattle.std.specs.Prelude.{ℕ, ◌≡◌, Bool, List, length, ℤ}
 use Rattle.std.proofs.Common.{sym, ◌∙◌, ap}
 use Rattle.std.proofs.Math.Decide.{ℕ_discrete}
-use Rattle.paper.specs.declared.MeterAnswer.{MeterAnswer}
-use Rattle.paper.specs.declared.MeterAnswer.TheVariants.{Unmetered, Energy}
-use Rattle.paper.specs.declared.SweepAnswer.{SweepAnswer}
+use Rattle.paper.specs.Answer.Cases.{MeterAnswer, MeterAnswer.Unmetered, MeterAnswer.Energy}
+use Rattle.paper.specs.Answer.Cases.{SweepAnswer}
 use Rattle.paper.specs.Panel.Input.{Lattice, Call, Choices, Buffers}
 use Rattle.paper.specs.Panel.Takes.{keeps_by}
 use Rattle.paper.specs.Refusal.Rule.{Kept, broken_unique, broken_not_kept}
@@ -16,17 +15,16 @@ use Rattle.paper.specs.Answer.Team.{Team, Owned, read, read_call, read_sweep, ha
 use Rattle.laws.specs.KeepDetermined.{SameSweepKept}
 use Rattle.label.specs.Entry.{Request, Lent}
 use Rattle.label.specs.Determined.{components_determined}
-use Rattle.frame_lines.specs.declared.Written.{Written}
+use Rattle.frame_lines.specs.Outcome.{Written}
 use Rattle.frame_lines.specs.Number.{written_values}
 use Rattle.frame_lines.specs.Determined.{SameWritten}
 use Rattle.frame.specs.Determined.{run_determined}
 use Rattle.draws.specs.declared.Source.{Source}
-use Rattle.draws.specs.declared.Left.{Left}
+use Rattle.draws.specs.Answer.{Left}
 use Rattle.draws.specs.Promise.{WordDrawn, CoinDrawn, BelowDrawn, PermutationDrawn, FlipsFilled, BelowFilled, BytesFilled}
 use Rattle.draws.specs.Promise.{PermutationsFilled, WolffFilled, GreysFilled, NumbersFilled, WolffNumbersFilled}
 use Rattle.draws.specs.Determined as Draw
-use Rattle.edges.specs.declared.Listing.{Listing}
-use Rattle.edges.specs.declared.Listing.TheVariants.{Unlisted, Wrote}
+use Rattle.edges.specs.Cases.{Listing, Listing.Unlisted, Listing.Wrote}
 use Rattle.edges.specs.Answer.{Net, net_of, ReadAnswers, listing_values}
 use Rattle.edges.specs.Determined.{read_edges_determined, write_edges_determined}
 use Rattle.orders.specs.declared.Numbered.{Numbered}

@@ -2,7 +2,7 @@
 use Rattle.std.specs.Prelude.{ℕ, ◌≡◌, refl, List, [], ◌∷◌, length, get_or, set}
 use Rattle.std.proofs.Common.{ap, ◌∙◌, subst, arith}
 use Rattle.draws.specs.declared.Source.{Source}
-use Rattle.draws.specs.declared.Left.{Left}
+use Rattle.draws.specs.Answer.{Left}
 use Rattle.draws.specs.Words.{source}
 
 abbrev pub source_of : List ℕ → Source

@@ -2,8 +2,7 @@
 use Rattle.std.specs.Prelude.{ℕ, ◌≡◌, List, ◌∷◌, length, ℤ}
 use Rattle.paper.specs.Refusal.Rule.{Rule, rule, Broken}
 use Rattle.paper.specs.Refusal.Rules.{Sizes}
-use Rattle.edges.specs.declared.Listing.{Listing}
-use Rattle.edges.specs.declared.Listing.TheVariants.{Unlisted, Wrote}
+use Rattle.edges.specs.Cases.{Listing, Listing.Unlisted, Listing.Wrote}
 use Rattle.edges.specs.Answer.{Net, listing_number, listing_values, write_rules, WriteAnswers}
 use Rattle.tsorvenk.specs.Number.{Returned, values_to}
 

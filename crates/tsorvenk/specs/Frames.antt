@@ -1,6 +1,6 @@
 -- What `tsorvenk_frames` answers.
 use Rattle.std.specs.Prelude.{ℕ, ◌≡◌, List, length}
-use Rattle.frame_lines.specs.declared.Written.{Written}
+use Rattle.frame_lines.specs.Outcome.{Written}
 use Rattle.frame_lines.specs.Number.{written_number, written_values}
 use Rattle.frame.specs.Run.{RunAs}
 use Rattle.tsorvenk.specs.Number.{Returned, values_to}

@@ -1,7 +1,7 @@
 -- Two runs of an exported step, on panels that look the same to the caller's team, return the same number, and the panels look the same to it after.
 use Rattle.std.specs.Prelude.{ℕ, ◌≡◌, Bool}
 use Rattle.std.proofs.Common.{sym, ◌∙◌, ap}
-use Rattle.paper.specs.declared.Answer.{Answer}
+use Rattle.paper.specs.Answer.Cases.{Answer}
 use Rattle.paper.specs.Panel.Input.{Call, Choices}
 use Rattle.paper.specs.Panel.Takes.{keeps_by}
 use Rattle.paper.specs.Refusal.Rule.{Kept, broken_not_kept}

@@ -1,9 +1,8 @@
 -- A refusal's number is one of the paper's list, 1 to 15. So the returned numbers 0 and 64 to 67 are no refusal's, and each number tells its answer.
 use Rattle.std.specs.Prelude.{ℕ, zero, suc, ◌≤◌, ◌≡◌, refl, Bool, true, false, cond, List, [], ◌∷◌, ◌++◌, eqb, ℤ}
 use Rattle.std.proofs.Common.{ap, inl, inr, arith, ne_eqb}
-use Rattle.paper.specs.declared.Answer.{Answer}
-use Rattle.paper.specs.declared.Answer.TheVariants.{Refused, Idle, Held, Moved}
-use Rattle.paper.specs.declared.SweepAnswer.TheVariants.{Fault}
+use Rattle.paper.specs.Answer.Cases.{Answer, Answer.Refused, Answer.Idle, Answer.Held, Answer.Moved}
+use Rattle.paper.specs.Answer.Cases.{SweepAnswer.Fault}
 use Rattle.paper.specs.Panel.Input.{Lattice, Call, Choices, Buffers, size}
 use Rattle.paper.specs.Refusal.Rule.{Rule, Broken}
 use Rattle.paper.specs.Refusal.Rules.{order_names, choice_rules}

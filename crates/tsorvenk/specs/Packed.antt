@@ -1,6 +1,6 @@
 -- What `tsorvenk_packed_step` answers.
 use Rattle.std.specs.Prelude.{ℕ, ◌≡◌, List, ℤ}
-use Rattle.paper.specs.declared.Answer.TheVariants.{Refused}
+use Rattle.paper.specs.Answer.Cases.{Answer.Refused}
 use Rattle.paper.specs.Panel.Input.{Call, Choices, Buffers}
 use Rattle.paper.specs.Panel.Takes.{keeps_by}
 use Rattle.coded.specs.Takes.{numbers_by}

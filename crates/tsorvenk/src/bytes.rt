@@ -7,22 +7,22 @@ ghost use Rattle.packed.specs.Packed.{lent_of};
 ghost use Rattle.tsorvenk.specs.Number.{mode_of, form_of, keeps_of, taken_of};
 ghost use Rattle.tsorvenk.specs.Packed.{PackedStepAnswers};
 
-use super::{codes_ok, coding_of, form_of, keeps_of, mode_of, number_of, taken};
+use super::{codes_ok, coding_of, form_of, keeps_of, mode_of, number_of, taken, verdict_of};
 use coded::Coding;
-use paper::{Answer, Form, Group, Keeps, Mode, Task};
+use paper::{Form, Group, Keeps, Mode, Task};
 
 // The rows of so many members, in their order, as bytes.
 pub fn tsorvenk_pack(n: usize, members: usize, rows: &[i8], columns: &mut [u8]) -> u8
     ensures { PackAnswers n members rows.now columns.old result columns.new }
 {
-    packing::pack(n, members, rows, columns)
+    verdict_of(packing::pack(n, members, rows, columns))
 }
 
 // The rows that the bytes stand for.
 pub fn tsorvenk_unpack(n: usize, members: usize, columns: &[u8], rows: &mut [i8]) -> u8
     ensures { UnpackAnswers n members columns.now rows.old result rows.new }
 {
-    packing::unpack(n, members, columns, rows)
+    verdict_of(packing::unpack(n, members, columns, rows))
 }
 
 // One move or observation of a group of `members` on its bytes, with a total for each member. No system is named. Otherwise as `tsorvenk_step`.

@@ -12,7 +12,6 @@ ghost use Rattle.tsorvenk.specs.Checking.{roomless_rules, CheckAnswers};
 
 use super::mode_of;
 use paper::{Form, Group, Keeps, Mode, Task};
-use vendor::Checked;
 
 // Any code: one that is no mode is taken as one that does not permute.
 fn mode_at(code: u8) -> Mode
@@ -77,11 +76,11 @@ pub fn tsorvenk_check_vendor(
         seed: 0,
     };
     match vendor::check_vendor(t, fwd, bwd, pins, before, after, rows) {
-        Checked::Refused(k) => k,
-        Checked::No(r) => {
+        Ok(None) => 0,
+        Ok(Some(r)) => {
             fault[0] = r;
             67
         }
-        Checked::Yes => 0,
+        Err(refusal) => refusal.number(),
     }
 }

@@ -1,10 +1,12 @@
 // Draws, as C and Rust call them.
 ghost use Rattle.std.specs.Prelude.{◌≡◌, length};
+ghost use Rattle.draws.specs.Answer.{left_of};
 ghost use Rattle.draws.specs.Promise.{WordDrawn, CoinDrawn, BelowDrawn, PermutationDrawn, FlipsFilled, BelowFilled, BytesFilled};
 ghost use Rattle.draws.specs.Promise.{PermutationsFilled, WolffFilled, GreysFilled, NumbersFilled, WolffNumbersFilled};
 ghost use Rattle.tsorvenk.specs.Drawing.{source_of, Handed, Draws};
 
-use draws::{Left, Source};
+use draws::Source;
+use paper::Refusal;
 
 fn source_of(words: &[u64]) -> Source
     requires { length words.now ≡ 4 }
@@ -18,17 +20,18 @@ fn source_of(words: &[u64]) -> Source
     }
 }
 
-// A refusal has left the source as lent, so its words are the same again.
-fn hand_over(left: Left, words: &mut [u64]) -> u8
+// A refusal leaves the source as lent, and so its words.
+fn hand_over(left: Result<Source, Refusal>, words: &mut [u64]) -> u8
     requires { length words.old ≡ 4 }
-    ensures { Handed left result words.new }
+    ensures { Handed (left_of (source_of words.old) left) result words.new }
 {
-    let s = left.source;
-    words[0] = s.s0;
-    words[1] = s.s1;
-    words[2] = s.s2;
-    words[3] = s.s3;
-    left.refusal
+    match left {
+        Ok(s) => {
+            words.copy_from_slice(&[s.s0, s.s1, s.s2, s.s3]);
+            0
+        }
+        Err(refusal) => refusal.number(),
+    }
 }
 
 // The next word, into a buffer of one. In this file `source` is lent as four words, read and, unless refused, written.

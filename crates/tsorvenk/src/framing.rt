@@ -1,8 +1,6 @@
 // The frame program on texts in memory, as C and Rust call it.
 ghost use Rattle.tsorvenk.specs.Frames.{framed, FramesNumbers};
 
-use frame_lines::Written;
-
 // The answer's frames go to the front of `out`, and their number of bytes to `written`.
 pub fn tsorvenk_frames(text: &[u8], out: &mut [u8], written: &mut [usize]) -> u8
     ensures { FramesNumbers
@@ -15,10 +13,10 @@ pub fn tsorvenk_frames(text: &[u8], out: &mut [u8], written: &mut [usize]) -> u8
         return 2;
     }
     match frame::run(text, out) {
-        Written::Wrote(m) => {
+        Some(m) => {
             written[0] = m;
             0
         }
-        Written::NoRoom => 65,
+        None => 65,
     }
 }

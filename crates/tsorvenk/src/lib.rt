@@ -16,6 +16,8 @@ ghost use Rattle.std.specs.Prelude.{◌≡◌, ◌≤◌, get_or};
 ghost use Rattle.lemmas.specs.Tells.{Tells};
 ghost use Rattle.label.specs.Entry.{labelling_number};
 ghost use Rattle.paper.specs.Panel.Made.{lattice_of, call_of, choices_of, buffers_of};
+ghost use Rattle.paper.specs.Answer.Cases.{answer_of};
+ghost use Rattle.paper.specs.Refusal.Numbers.{verdict_of};
 ghost use Rattle.steps.specs.Rule.{task_of};
 ghost use Rattle.tsorvenk.specs.Number.{Coded, mode_of, form_of, coding_of, keeps_of, group_of, taken_of, number_of};
 ghost use Rattle.tsorvenk.specs.Step.{with_totals, StepAnswers};
@@ -23,9 +25,8 @@ ghost use Rattle.tsorvenk.specs.Energy.{EnergyAnswers};
 ghost use Rattle.tsorvenk.specs.Label.{LabelAnswers};
 
 use coded::Coding;
-use label::Labelling;
 use lemmas::wide;
-use paper::{Answer, Form, Group, Keeps, MeterAnswer, Mode, Task};
+use paper::{Form, Group, Keeps, Mode, Outcome, Refusal, Task};
 
 fn mode_of(code: u8) -> Mode
     requires { code ≤ 5 }
@@ -112,14 +113,24 @@ fn taken<'a>(mode: Mode, flips: &'a [u8], perms: &'a [u8]) -> &'a [u8]
     if mode.is_perm() { perms } else { flips }
 }
 
-fn number_of(answer: Answer) -> u8
-    ensures { result ≡ number_of answer }
+fn number_of(answer: Result<Outcome, Refusal>) -> u8
+    ensures { result ≡ number_of (answer_of answer) }
 {
     match answer {
-        Answer::Refused(r) => r,
-        Answer::Idle => 64,
-        Answer::Held => 66,
-        Answer::Moved => 0,
+        Ok(Outcome::Idle) => 64,
+        Ok(Outcome::Held) => 66,
+        Ok(Outcome::Moved) => 0,
+        Err(refusal) => refusal.number(),
+    }
+}
+
+// 0 where nothing is refused.
+fn verdict_of(tested: Result<(), Refusal>) -> u8
+    ensures { result ≡ verdict_of tested }
+{
+    match tested {
+        Ok(()) => 0,
+        Err(refusal) => refusal.number(),
     }
 }
 
@@ -231,20 +242,11 @@ fn metered(
         return 1;
     }
     match meter::energy(n, d, s, spins, fwd, bwd, couplings, system) {
-        MeterAnswer::Unmetered(r) => r,
-        MeterAnswer::Energy(e) => {
+        Ok(e) => {
             energy[0] = e;
             0
         }
-    }
-}
-
-fn labelling_number(answer: Labelling) -> u8
-    ensures { result ≡ labelling_number answer }
-{
-    match answer {
-        Labelling::Unlabelled(r) => r,
-        Labelling::Written => 0,
+        Err(refusal) => refusal.number(),
     }
 }
 
@@ -267,5 +269,5 @@ pub fn tsorvenk_label(
         result
         (record { labels = labels.new; counts = counts.new; sizes = sizes.new; found = found.new }) }
 {
-    labelling_number(label::components(n, d, fwd, holds, counted, labels, counts, sizes, found))
+    verdict_of(label::components(n, d, fwd, holds, counted, labels, counts, sizes, found))
 }

@@ -2,7 +2,7 @@
 ghost use Rattle.edges.specs.Answer.{net_of, ReadAnswers};
 ghost use Rattle.tsorvenk.specs.Edges.{lists, ListNumbers};
 
-use edges::Listing;
+use super::verdict_of;
 
 // Fills the couplings from the text of a list.
 pub fn tsorvenk_read_edges(
@@ -20,7 +20,7 @@ pub fn tsorvenk_read_edges(
         result
         couplings.new }
 {
-    edges::read_edges(n, d, fwd, bwd, text, couplings)
+    verdict_of(edges::read_edges(n, d, fwd, bwd, text, couplings))
 }
 
 // The list goes to the front of `text`, and its number of bytes to `written`.
@@ -47,10 +47,10 @@ pub fn tsorvenk_write_edges(
         return 1;
     }
     match edges::write_edges(n, d, fwd, bwd, couplings, text) {
-        Listing::Unlisted(r) => r,
-        Listing::Wrote(m) => {
-            written[0] = m;
+        Ok(length) => {
+            written[0] = length;
             0
         }
+        Err(refusal) => refusal.number(),
     }
 }

@@ -10,7 +10,7 @@ ghost use Rattle.tsorvenk.specs.Number.{mode_of, form_of, keeps_of, group_of, ta
 ghost use Rattle.tsorvenk.specs.Step.{with_totals, StepAnswers};
 ghost use Rattle.tsorvenk.specs.Energy.{EnergyAnswers};
 
-use super::{group_of, metered, step};
+use super::{group_of, metered, step, verdict_of};
 use paper::Group;
 use systems::owners::{read, read_group, test_owners};
 
@@ -63,9 +63,8 @@ pub fn tsorvenk_step<'a>(
         (with_totals (buffers_of spins.new labels.new grey_labels.new counts.new sizes.new
         member_sites.new found.new grey_found.new) totals.new)) }
 {
-    let fault = test_owners(s, team, owners);
-    if fault != 0 {
-        return fault;
+    if let Err(refusal) = test_owners(s, team, owners) {
+        return refusal.number();
     }
     let named = read_group(s, team, owners, group_of(group));
     step(
@@ -118,7 +117,7 @@ pub fn tsorvenk_hand_over(
         spins.now totals.now)
         result }
 {
-    meter::hand_over(n, d, s, team, owners, spins, totals, fwd, bwd, couplings)
+    verdict_of(meter::hand_over(n, d, s, team, owners, spins, totals, fwd, bwd, couplings))
 }
 
 // The energy of one system, into a buffer of one number.
@@ -144,9 +143,8 @@ pub fn tsorvenk_energy(
         result
         energy.new) }
 {
-    let fault = test_owners(s, team, owners);
-    if fault != 0 {
-        return fault;
+    if let Err(refusal) = test_owners(s, team, owners) {
+        return refusal.number();
     }
     let named = read(s, team, owners, system);
     metered(n, d, s, spins, fwd, bwd, couplings, named, energy)

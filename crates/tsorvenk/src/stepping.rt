@@ -10,8 +10,8 @@ ghost use Rattle.task_steps.specs.Write.{shape_of, writing_of};
 ghost use Rattle.tsorvenk.specs.Number.{mode_of, form_of, keeps_of, taken_of};
 ghost use Rattle.tsorvenk.specs.Tasks.{LabelNumbers, ChooseNumbers, WriteNumbers};
 
-use super::{codes_ok, form_of, keeps_of, mode_of, number_of, taken};
-use paper::{Answer, Form, Group, Keeps, Mode, Task};
+use super::{codes_ok, form_of, keeps_of, mode_of, number_of, taken, verdict_of};
+use paper::{Form, Group, Keeps, Mode, Task};
 
 // The tests of a move of so many members, and what it writes beside the spins. The rows are only read.
 pub fn tsorvenk_task_label<'a>(
@@ -140,7 +140,7 @@ pub fn tsorvenk_task_choose<'a>(
         reference,
         seed,
     };
-    task_choose::task_choose(
+    verdict_of(task_choose::task_choose(
         t,
         rows,
         pins,
@@ -151,7 +151,7 @@ pub fn tsorvenk_task_choose<'a>(
         member_sites,
         blue,
         area,
-    )
+    ))
 }
 
 // The rows become what the columns of the area show, of grow at the members, and where totals are kept they follow.
@@ -194,5 +194,5 @@ pub fn tsorvenk_task_write(
         reference: 0,
         seed: 0,
     };
-    task_write::task_write(t, rows, totals, fwd, bwd, couplings, member_sites, area)
+    verdict_of(task_write::task_write(t, rows, totals, fwd, bwd, couplings, member_sites, area))
 }

@@ -3,6 +3,7 @@ ghost use Rattle.std.specs.Prelude.{◌≡◌, length};
 ghost use Rattle.paper.specs.Panel.Made.{buffers_of};
 ghost use Rattle.paper.specs.Answer.Made.{sweep_of};
 ghost use Rattle.paper.specs.Answer.Team.{Owned, read_sweep};
+ghost use Rattle.paper.specs.Answer.Cases.{sweep_answer_of};
 ghost use Rattle.systems.specs.Owners.{team_of};
 ghost use Rattle.coded.specs.Takes.{numbers_by};
 ghost use Rattle.tsorvenk.specs.Number.{mode_of, form_of, keeps_of, taken_of};
@@ -10,7 +11,7 @@ ghost use Rattle.tsorvenk.specs.Sweep.{plan_for, Roomless, Told, with_outcomes, 
 
 use super::{codes_ok, coding_of, form_of, keeps_of, mode_of, taken};
 use coded::Coding;
-use paper::{Form, Keeps, Mode, Plan, SweepAnswer};
+use paper::{Counts, Form, Keeps, Mode, Plan, Refusal};
 use systems::owners::{own_count, read_order, test_owners};
 
 // What is refused for want of room for the three counts: tests 1 and 15 come first. By numbers 1 asks for groups of five.
@@ -29,18 +30,18 @@ fn roomless(coding: Coding, plan: Plan) -> u8
 }
 
 // The answer as a number; the three counts of a sweep that was swept are written.
-fn tell(answer: SweepAnswer, outcomes: &mut [u32]) -> u8
+fn tell(answer: Result<Counts, Refusal>, outcomes: &mut [u32]) -> u8
     requires { length outcomes.old ≡ 3 }
-    ensures { Told answer outcomes.old result outcomes.new }
+    ensures { Told (sweep_answer_of answer) outcomes.old result outcomes.new }
 {
     match answer {
-        SweepAnswer::Fault(r) => r,
-        SweepAnswer::Swept(idle, moved, held) => {
-            outcomes[0] = idle;
-            outcomes[1] = moved;
-            outcomes[2] = held;
+        Ok(counts) => {
+            outcomes[0] = counts.idle;
+            outcomes[1] = counts.moved;
+            outcomes[2] = counts.held;
             0
         }
+        Err(refusal) => refusal.number(),
     }
 }
 
@@ -196,9 +197,8 @@ pub fn tsorvenk_sweep<'a>(
         (with_outcomes (buffers_of spins.new labels.new grey_labels.new counts.new sizes.new
         member_sites.new found.new grey_found.new) totals.new outcomes.new)) }
 {
-    let fault = test_owners(s, team, owners);
-    if fault != 0 {
-        return fault;
+    if let Err(refusal) = test_owners(s, team, owners) {
+        return refusal.number();
     }
     let systems = own_count(team, owners);
     let mut named = [0u32; 64];

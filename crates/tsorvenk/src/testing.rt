@@ -7,7 +7,7 @@ ghost use Rattle.tsorvenk.specs.Number.{mode_of, form_of, keeps_of, taken_of};
 ghost use Rattle.tsorvenk.specs.Sweep.{plan_for};
 ghost use Rattle.tsorvenk.specs.Tasks.{TestNumbers};
 
-use super::{codes_ok, form_of, keeps_of, mode_of, taken};
+use super::{codes_ok, form_of, keeps_of, mode_of, taken, verdict_of};
 use paper::{Form, Keeps, Mode, Plan};
 use systems::owners::{own_count, read_order, test_owners};
 
@@ -70,7 +70,7 @@ fn test<'a>(
         r,
         members,
     };
-    sweep_tests::test_sweep(
+    verdict_of(sweep_tests::test_sweep(
         plan,
         spins,
         totals,
@@ -93,7 +93,7 @@ fn test<'a>(
         member_sites,
         found,
         grey_found,
-    )
+    ))
 }
 
 // Whether a sweep by rows is accepted: 0, or the number that `tsorvenk_sweep` would refuse it with. Nothing is written, and of the outputs only the lengths
@@ -143,9 +143,8 @@ pub fn tsorvenk_test_sweep<'a>(
         (buffers_of spins.now labels.now grey_labels.now counts.now sizes.now
         member_sites.now found.now grey_found.now) totals.now result) }
 {
-    let fault = test_owners(s, team, owners);
-    if fault != 0 {
-        return fault;
+    if let Err(refusal) = test_owners(s, team, owners) {
+        return refusal.number();
     }
     let systems = own_count(team, owners);
     let mut named = [0u32; 64];

@@ -54,11 +54,9 @@ pub fn turn_columns(
     ensures { ColumnsTurned
         t gauge choices.now greys.now list.now cols.now blue len news.old news.new }
 {
-    let mut x: usize = 0;
-    while x < len {
-        let i = wide(list[x]);
+    for (x, &site) in list[..len].iter().enumerate() {
+        let i = wide(site);
         news[i] = turned_column(t, gauge, choices, greys, x < blue, cols[i]);
-        x += 1;
     }
 }
 
@@ -69,10 +67,8 @@ pub fn write_listed(spins: &mut [i8], n: usize, group: Group, list: &[u32], len:
 {
     let size = group.len;
     let systems = group.systems;
-    let mut x: usize = 0;
-    while x < len {
-        let i = wide(list[x]);
+    for &site in &list[..len] {
+        let i = wide(site);
         columns::write_site(spins, n, size, &systems, i, news[i]);
-        x += 1;
     }
 }

@@ -3,7 +3,7 @@ use Rattle.std.specs.Prelude.{ℕ, ◌*◌, ◌<◌, ◌≡◌, refl, true, List
 use Rattle.std.proofs.Common.{sym, ◌∙◌, subst, arith}
 use Rattle.paper.specs.declared.Mode.{Mode}
 use Rattle.paper.specs.declared.Mode.TheVariants.{Houd, Pair, Perm, Gperm, Jorg, Cmr}
-use Rattle.paper.specs.declared.Answer.{Answer}
+use Rattle.paper.specs.Answer.Cases.{Answer}
 use Rattle.paper.specs.declared.Task.{Task}
 use Rattle.paper.specs.Panel.Input.{Call, Choices, Buffers, Pattern, graph, pattern, size, ahead}
 use Rattle.paper.specs.Panel.Takes.{is_perm, is_gperm}
@@ -16,8 +16,7 @@ use Rattle.paper.specs.Refusal.Kept.{Valid}
 use Rattle.paper.specs.Answer.Move.{Answers, Accepted}
 use Rattle.laws.specs.Patterns.{Spinning}
 use Rattle.laws.specs.Entries.{spin_of}
-use Rattle.vendor.specs.declared.Checked.{Checked}
-use Rattle.vendor.specs.declared.Checked.TheVariants.{Refused, No, Yes}
+use Rattle.vendor.specs.Checked.{Checked, Checked.Refused, Checked.No, Checked.Yes}
 use Rattle.vendor.specs.Vendor.{asked_by, turned_by, Explained, Unchanged, Fair, Lent, vendor_rules, number, VendorAnswers}
 use Rattle.packing.specs.Gathered.{group_rows, length_group, group_at}
 use Rattle.vendor.specs.GroupRows.{SameMove, alone, asked_alone, alone_pattern, alone_acts, alone_labels}

@@ -11,8 +11,7 @@ use Rattle.paper.specs.declared.Mode.{Mode}
 use Rattle.paper.specs.declared.Mode.TheVariants.{Houd, Pair, Perm, Gperm, Jorg, Cmr}
 use Rattle.paper.specs.declared.Form.TheVariants.{Sw}
 use Rattle.paper.specs.declared.Task.{Task}
-use Rattle.paper.specs.declared.Answer.{Answer}
-use Rattle.paper.specs.declared.Answer.TheVariants.{Refused, Idle, Held, Moved}
+use Rattle.paper.specs.Answer.Cases.{Answer, Answer.Refused, Answer.Idle, Answer.Held, Answer.Moved}
 use Rattle.paper.specs.Panel.Input.{Call, Choices, Buffers, Pattern, graph, spin, pattern, size}
 use Rattle.paper.specs.Panel.Takes.{is_perm, is_houd, is_cmr, is_drawn, takes_perms, takes_greys}
 use Rattle.paper.specs.Site.Acting.{acts, NoneActs}
@@ -26,7 +25,7 @@ use Rattle.paper.specs.Answer.Move.{Goes, Answers, Accepted.idle, Accepted.moved
 use Rattle.laws.specs.Unique.{GroupIs, HoldAlike, label_lt, labels_unique, labels_ext}
 use Rattle.laws.specs.GrowsAsWolff.{with_form}
 use Rattle.packing.proofs.Laws.{rows_ext, own_grouped, own_pattern}
-use Rattle.vendor.specs.declared.Checked.TheVariants.{Yes}
+use Rattle.vendor.specs.Checked.{Checked.Yes}
 use Rattle.orders.specs.Words.{word_at}
 use Rattle.vendor.specs.Vendor.{asked_by, turned_by, Explains, Fair, Lent, Accepts, VendorAnswers}
 use Rattle.vendor.specs.Components.{row_permutes}

@@ -1,13 +1,14 @@
 -- How tight the promise is: one input has one answer and one content of the lent rows.
-use Rattle.std.specs.Prelude.{ℕ, ◌*◌, ◌<◌, ◌≡◌, refl, List, length, ℤ}
+use Rattle.std.specs.Prelude.{ℕ, ◌*◌, ◌<◌, ◌≡◌, refl, List, length, ℤ, Option, Result}
+use Rattle.paper.specs.declared.Refusal.{Refusal}
+use Rattle.vendor.specs.Checked.{checked_of, checked_of_injective}
 use Rattle.std.proofs.Common.{sym, ◌∙◌, ap, arith}
 use Rattle.std.proofs.Math.Decide.{dec_lt}
 use Rattle.paper.specs.Panel.Input.{Call, graph, size}
 use Rattle.paper.specs.Site.Bonds.{holds}
 use Rattle.paper.specs.Refusal.Rule.{broken_unique, broken_not_kept}
 use Rattle.laws.specs.Unique.{labels_unique, found_unique}
-use Rattle.vendor.specs.declared.Checked.{Checked}
-use Rattle.vendor.specs.declared.Checked.TheVariants.{Refused, No, Yes}
+use Rattle.vendor.specs.Checked.{Checked, Checked.Refused, Checked.No, Checked.Yes}
 use Rattle.vendor.specs.Vendor.{vendor_rules, Denies, Accepts, VendorAnswers}
 use Rattle.vendor.specs.Components.{row_same}
 use Rattle.matching.specs.Determined.{words_ext}
@@ -70,3 +71,11 @@ check_vendor_determined c xs ys rows (No r) Yes us vs f g = absurd (not_both c x
 check_vendor_determined c xs ys rows Yes (Refused m) us vs f g = absurd (broken_not_kept (vendor_rules c xs ys rows) m g.why f.valid)
 check_vendor_determined c xs ys rows Yes (No s) us vs f g = absurd (not_both c xs ys rows s vs us g f)
 check_vendor_determined c xs ys rows Yes Yes us vs f g = record { answer = refl; rows = rows_same c xs ys rows us vs f g }
+
+pub check_vendor_result_determined :
+    (c : Call) (xs ys : List ℤ) (rows : List ℕ) (a b : Result (Option ℕ) Refusal) (us vs : List ℕ)
+    → VendorAnswers c xs ys rows (checked_of a) us
+    → VendorAnswers c xs ys rows (checked_of b) vs
+    → a ≡ b
+check_vendor_result_determined c xs ys rows a b us vs f g =
+    checked_of_injective a b (check_vendor_determined c xs ys rows (checked_of a) (checked_of b) us vs f g).answer

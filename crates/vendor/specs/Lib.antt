@@ -1,4 +1,5 @@
 -- What a vendor's pair of spins is answered, and that it is one answer; what our own move writes, what a played move leaves, and what bytes tell of a pair.
+pub mod Checked
 pub mod Vendor
 pub mod Offered
 pub mod Observed

@@ -7,8 +7,7 @@ use Rattle.paper.specs.declared.Mode.{Mode}
 use Rattle.paper.specs.declared.Mode.TheVariants.{Houd, Pair, Perm, Gperm, Jorg, Cmr}
 use Rattle.paper.specs.declared.Form.{Form}
 use Rattle.paper.specs.declared.Form.TheVariants.{Sw, Wolff, Observe, Grow}
-use Rattle.paper.specs.declared.Answer.{Answer}
-use Rattle.paper.specs.declared.Answer.TheVariants.{Idle, Held, Moved, Refused}
+use Rattle.paper.specs.Answer.Cases.{Answer, Answer.Idle, Answer.Held, Answer.Moved, Answer.Refused}
 use Rattle.paper.specs.Panel.Input.{Call, Choices, Buffers, Pattern, graph, pattern, pinned, size}
 use Rattle.paper.specs.Panel.Takes.{is_perm, is_gperm, is_cmr, grows_by, labels_by, moves}
 use Rattle.paper.specs.Site.Acting.{acts}

@@ -1,6 +1,6 @@
 -- What it is that what is written plays: a move on lent outputs of exact lengths, which is accepted and leaves the spins after.
 use Rattle.std.specs.Prelude.{ℕ, ◌+◌, ◌≡◌, List, length, ℤ}
-use Rattle.paper.specs.declared.Answer.{Answer}
+use Rattle.paper.specs.Answer.Cases.{Answer}
 use Rattle.paper.specs.Panel.Input.{Buffers}
 use Rattle.paper.specs.Answer.Move.{Accepted}
 

@@ -17,8 +17,7 @@ use Rattle.paper.specs.Refusal.Rules.{When, Ranged, AllSystems, Spins, Inverse, 
 use Rattle.paper.specs.Refusal.Verdict.{Verdict}
 use Rattle.orders.specs.Words.{word_at, Before}
 use Rattle.packing.specs.Bytes.{own_group}
-use Rattle.vendor.specs.declared.Checked.{Checked}
-use Rattle.vendor.specs.declared.Checked.TheVariants.{Refused, No, Yes}
+use Rattle.vendor.specs.Checked.{Checked, Checked.Refused, Checked.No, Checked.Yes}
 
 -- ---- the call that is asked: an observation of the rows before, which stand in the group's order. Of the task its form, what it keeps, the systems that it
 -- names and how many there are are not looked at

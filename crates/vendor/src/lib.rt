@@ -6,19 +6,13 @@ mod tested;
 
 ghost use Rattle.vendor.specs.Vendor.{asked_by, VendorAnswers};
 ghost use Rattle.vendor.specs.Offered.{Offered};
+ghost use Rattle.vendor.specs.Checked.{checked_of};
 
-use paper::{Group, Task};
+use paper::{Group, Refusal, Task};
 use tested::Offer;
 
-// A refusal, the number of the first component at fault, or accepted.
-#[derive(Clone, Copy)]
-pub enum Checked {
-    Refused(u8),
-    No(u32),
-    Yes,
-}
-
-// The same after tests 1 to 3: tests 4 and 9 and the components by an observation of the spins before, then component by component.
+// The first component at fault, if one is, after tests 1 to 3: tests 4 and 9 and the components by an observation of the spins before, then component by
+// component.
 fn compare(
     t: Task,
     fwd: &[u32],
@@ -27,14 +21,13 @@ fn compare(
     before: &[i8],
     after: &[i8],
     rows: &mut [u8],
-) -> Checked
+) -> Result<Option<u32>, Refusal>
     requires { Offered (asked_by t fwd.now bwd.now pins.now) before.now after.now rows.old }
     ensures { VendorAnswers
         (asked_by t fwd.now bwd.now pins.now)
-        before.now after.now rows.old result rows.new }
+        before.now after.now rows.old (checked_of result) rows.new }
 {
-    let named = t.group;
-    let size = named.len;
+    let size = t.group.len;
     let group = Group {
         len: size,
         systems: [0, 1, 2, 3, 4, 5, 6, 7],
@@ -48,21 +41,17 @@ fn compare(
     let labels = &mut label_area[..n];
     columns::pack(before, n, group, olds);
     columns::pack(after, n, group, news);
-    let refused = observed::observe(t, olds, fwd, bwd, pins, labels);
-    if refused != 0 {
-        return Checked::Refused(refused);
-    }
-    let mode = t.mode;
-    let gauge = columns::gauge(mode, group, t.reference, olds);
+    observed::observe(t, olds, fwd, bwd, pins, labels)?;
+    let gauge = columns::gauge(t.mode, group, t.reference, olds);
     let r = matching::explain(size, gauge, olds, news, labels, pins, rows);
     if r < n {
-        return Checked::No(r as u32);
+        return Ok(Some(r as u32));
     }
-    Checked::Yes
+    Ok(None)
 }
 
-// Both sides are n spins for each member, in the group's order. Accepted, a permutation is written for each component number. Of the task its form, what
-// it keeps, the systems that it names and how many there are are not looked at.
+// The first component at fault, if one is. Both sides are n spins for each member, in the group's order. Accepted, a permutation is written for each
+// component number. Of the task its form, what it keeps, the systems that it names and how many there are are not looked at.
 pub fn check_vendor(
     t: Task,
     fwd: &[u32],
@@ -71,10 +60,10 @@ pub fn check_vendor(
     before: &[i8],
     after: &[i8],
     rows: &mut [u8],
-) -> Checked
+) -> Result<Option<u32>, Refusal>
     ensures { VendorAnswers
         (asked_by t fwd.now bwd.now pins.now)
-        before.now after.now rows.old result rows.new }
+        before.now after.now rows.old (checked_of result) rows.new }
 {
     let l = Offer {
         before: before.len(),
@@ -84,9 +73,6 @@ pub fn check_vendor(
         pins: pins.len(),
         rows: rows.len(),
     };
-    let fault = tested::test_offer(t, l, before, after);
-    if fault != 0 {
-        return Checked::Refused(fault);
-    }
+    tested::test_offer(t, l, before, after)?;
     compare(t, fwd, bwd, pins, before, after, rows)
 }

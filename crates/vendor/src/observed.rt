@@ -1,20 +1,8 @@
 // The components of the spins before.
-ghost use Rattle.std.specs.Prelude.{◌≡◌};
-ghost use Rattle.paper.specs.Answer.Number.{number};
+ghost use Rattle.paper.specs.Refusal.Numbers.{verdict_of};
 ghost use Rattle.vendor.specs.Observed.{Observable, Observes};
 
-use paper::{Answer, Form, Keeps, Task};
-
-fn number(answer: Answer) -> u8
-    ensures { result ≡ number answer }
-{
-    match answer {
-        Answer::Refused(k) => k,
-        Answer::Idle => 0,
-        Answer::Held => 0,
-        Answer::Moved => 0,
-    }
-}
+use paper::{Form, Keeps, Refusal, Task};
 
 // Tests the tables, the pins and the reference, and labels the columns, by an observation of them. They stay as they are.
 pub(crate) fn observe(
@@ -24,25 +12,15 @@ pub(crate) fn observe(
     bwd: &[u32],
     pins: &[u8],
     labels: &mut [u32],
-) -> u8
+) -> Result<(), Refusal>
     requires { Observable t columns.old fwd.now bwd.now pins.now labels.old }
     ensures { Observes t columns.old fwd.now bwd.now pins.now
-        result columns.new labels.new }
+        (verdict_of result) columns.new labels.new }
 {
-    let named = t.group;
-    let mode = t.mode;
-    let n = t.n;
     let o = Task {
-        mode,
         form: Form::Observe,
         keeps: Keeps::Nothing,
-        n,
-        d: t.d,
-        s: t.s,
-        group: named,
-        temperature: t.temperature,
-        reference: t.reference,
-        seed: t.seed,
+        ..t
     };
     let mut totals = [0i64; 1];
     let couplings = [0i32; 1];
@@ -55,8 +33,7 @@ pub(crate) fn observe(
     let mut members = [0u8; 1];
     let mut found = [0u32; 1];
     let mut grey_found = [0u32; 1];
-    let last = n + 1;
-    let answer = packed::packed_step(
+    packed::packed_step(
         o,
         columns,
         &mut totals[..0],
@@ -69,11 +46,11 @@ pub(crate) fn observe(
         &greys[..0],
         labels,
         &mut grey_labels[..0],
-        &mut counts[..last],
+        &mut counts[..t.n + 1],
         &mut sizes,
         &mut members[..0],
         &mut found,
         &mut grey_found[..0],
-    );
-    number(answer)
+    )?;
+    Ok(())
 }

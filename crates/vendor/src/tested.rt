@@ -2,9 +2,10 @@
 ghost use Rattle.lemmas.specs.Tells.{Tells};
 ghost use Rattle.paper.specs.Refusal.Rules.{Sizes};
 ghost use Rattle.paper.specs.Refusal.Verdict.{Verdict};
+ghost use Rattle.paper.specs.Refusal.Numbers.{verdict_of};
 ghost use Rattle.vendor.specs.Offered.{Handed, Fitting, offer_rules};
 
-use paper::Task;
+use paper::{Refusal, Task};
 
 // How many elements each buffer has.
 #[derive(Clone, Copy)]
@@ -31,28 +32,26 @@ fn fitting(n: usize, d: usize, size: usize, l: Offer) -> bool
         & (l.rows == n * size)
 }
 
-// The number of the first test that fails, or 0.
-pub(crate) fn test_offer(t: Task, l: Offer, before: &[i8], after: &[i8]) -> u8
+// The refusal of the first test that fails.
+pub(crate) fn test_offer(t: Task, l: Offer, before: &[i8], after: &[i8]) -> Result<(), Refusal>
     requires { Handed l before.now after.now }
-    ensures { Verdict (offer_rules t l before.now after.now) result }
+    ensures { Verdict (offer_rules t l before.now after.now) (verdict_of result) }
 {
-    let mode = t.mode;
-    let group = t.group;
-    let size = group.len;
-    if !lattice::ranged(t.n, t.d, size, mode, size) {
-        return 1;
+    let size = t.group.len;
+    if !lattice::ranged(t.n, t.d, size, t.mode, size) {
+        return Err(Refusal::Sizes);
     }
-    if !mode.is_perm() {
-        return 1;
+    if !t.mode.is_perm() {
+        return Err(Refusal::Sizes);
     }
     if !fitting(t.n, t.d, size, l) {
-        return 2;
+        return Err(Refusal::Lengths);
     }
     if !lattice::spins_ok(before) {
-        return 3;
+        return Err(Refusal::Spins);
     }
     if !lattice::spins_ok(after) {
-        return 3;
+        return Err(Refusal::Spins);
     }
-    0
+    Ok(())
 }

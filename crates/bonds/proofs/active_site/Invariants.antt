@@ -1,11 +1,8 @@
 -- `bonds::active_site` meets its contract.
-use Prim.Native.Nat.{◌*◌, ◌≤◌, ◌-◌}
+use Prim.Native.Nat.{◌*◌}
 use Rattle.bonds.specs.Table.{both_acting}
 use Rattle.bonds.specs.Row.{Row}
 use Rattle.bonds.proofs.active_site.Given as goal
 
 abbrev pub invariant-loop-e : goal.invariant-loop-e
-invariant-loop-e l = (l.e ≤ l.d) × Row (l.i * l.d) l.e (both_acting l.d l.fwd l.acts l.i) l.initial.holds l.holds
-
-abbrev pub decreases-loop-e : goal.decreases-loop-e
-decreases-loop-e l = l.d - l.e
+invariant-loop-e l = Row (l.i * l.d) l.e (both_acting l.d l.fwd l.acts l.i) l.initial.holds l.holds

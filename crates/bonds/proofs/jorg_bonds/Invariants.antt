@@ -1,11 +1,7 @@
 -- `bonds::jorg_bonds` meets its contract.
-use Prim.Native.Nat.{◌≤◌, ◌-◌}
 use Rattle.bonds.specs.Table.{jorg_at}
 use Rattle.bonds.proofs.Rows.{Marking}
 use Rattle.bonds.proofs.jorg_bonds.Given as goal
 
 abbrev pub invariant-loop-i : goal.invariant-loop-i
-invariant-loop-i l = (l.i ≤ l.n) × Marking l.n l.d (jorg_at l.d l.fwd l.couplings l.cuts l.len l.sampler l.acts l.cols) l.i l.holds
-
-abbrev pub decreases-loop-i : goal.decreases-loop-i
-decreases-loop-i l = l.n - l.i
+invariant-loop-i l = Marking l.n l.d (jorg_at l.d l.fwd l.couplings l.cuts l.len l.sampler l.acts l.cols) l.i l.holds

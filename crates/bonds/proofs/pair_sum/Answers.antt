@@ -21,16 +21,16 @@ next c =
     let inv = c.loop-k.invariant in
     let f : ℕ → ℤ = pair_term (shown c.args.a) (shown c.args.b) in
     let is : c.pair_term-total.result ≡ f k =
-    c.pair_term-total.ensures ∙ ((λ i. pair_term (shown (inv.2 i)) (shown (inv.3 i)) 0) ∙ term_past c.args.a c.args.b k)
+    c.pair_term-total.ensures ∙ ((λ i. pair_term (shown (inv.1 i)) (shown (inv.2 i)) 0) ∙ term_past c.args.a c.args.b k)
     in
     record {
-      is = (λ i. inv.1 i +ℤ (reads (bounded w32 c.pair_term-total.result c.pair_term-total.type_inv) ∙ is) i) ∙ sum_more f k;
+      is = (λ i. inv.0 i +ℤ (reads (bounded w32 c.pair_term-total.result c.pair_term-total.type_inv) ∙ is) i) ∙ sum_more f k;
       fits = sum_fits c.args.a c.args.b (k + 1) (omega (arith, c.requires, c.loop-k-test.true));
     }
 
 pub loop-k-init : goal.loop-k-init
 unfolding sum
-loop-k-init c = (omega arith, refl, past_none c.args.a, past_none c.args.b)
+loop-k-init c = (refl, past_none c.args.a, past_none c.args.b)
 
 pub overflow_add-total : goal.overflow_add-total
 overflow_add-total c = asks (next c)
@@ -39,8 +39,7 @@ pub loop-k-preserved : goal.loop-k-preserved
 loop-k-preserved c =
     let k = c.loop-k.k in
     let inv = c.loop-k.invariant in (
-      omega arith,
       to_z-of_z w32 _ (asks (next c)) ∙ (next c).is,
-      ap (λ (x : ℕ). x / 4) inv.2 ∙ past_more c.args.a k,
-      ap (λ (x : ℕ). x / 4) inv.3 ∙ past_more c.args.b k,
+      ap (λ (x : ℕ). x / 4) inv.1 ∙ past_more c.args.a k,
+      ap (λ (x : ℕ). x / 4) inv.2 ∙ past_more c.args.b k,
     )

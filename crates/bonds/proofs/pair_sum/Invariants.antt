@@ -1,5 +1,4 @@
 -- `bonds::pair_sum` meets its contract: the total is the sum over the pairs passed, and the two columns are past them.
-use Prim.Native.Nat.{◌≤◌}
 use mathlib.Core.Path.{◌≡◌}
 use Rattle.lemmas.specs.Sums.{sum}
 use Rattle.paper.specs.Site.Bonds.{pair_term}
@@ -8,4 +7,4 @@ use Rattle.bonds.proofs.Pairs.{past}
 use Rattle.bonds.proofs.pair_sum.Given as goal
 
 abbrev pub invariant-loop-k : goal.invariant-loop-k
-invariant-loop-k l = (l.k ≤ l.pairs) × (l.total ≡ sum l.k (pair_term (shown l.a) (shown l.b))) × (l.x ≡ past l.a l.k) × (l.y ≡ past l.b l.k)
+invariant-loop-k l = (l.total ≡ sum l.k (pair_term (shown l.a) (shown l.b))) × (l.x ≡ past l.a l.k) × (l.y ≡ past l.b l.k)

@@ -13,7 +13,8 @@ use Rattle.choose.proofs.permute_columns.Goals.{then-reached-i-eq1, else-reached
 pub loop-i-preserved : goal.loop-i-preserved
 loop-i-preserved c =
     let start : ℕ = entry c.args.form (get_or c.args.labels.now c.loop-i.i 0) * c.args.group.len in
-    let within : start + c.args.group.len ≤ length c.args.perms.now = rw c.requires.lent (row_fits c.args.form _ _ c.args.group.len c.requires.moving (c.requires.sites.below c.loop-i.i c.loop-i-test.true)) in
+    let within : start + c.args.group.len ≤ length c.args.perms.now =
+    rw c.requires.lent (row_fits c.args.form _ _ c.args.group.len c.requires.moving (c.requires.sites.below c.loop-i.i c.loop-i-test.true)) in
     let same : get_or c.loop-i.cols c.loop-i.i 0 ≡ get_or c.args.cols.now c.loop-i.i 0 = c.loop-i.invariant.rest c.loop-i.i (omega arith) in
     let a = c.args in
     let l = c.loop-i in

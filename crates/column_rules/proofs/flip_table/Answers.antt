@@ -1,6 +1,7 @@
--- `column_rules::flip_table` meets its contract. The invariant: the entries below x are written, and the others are 0.
-use Rattle.column_rules.proofs.Bytes.{filling_none}
+-- `column_rules::flip_table` meets its contract: what the closure answers is the entry.
+use Rattle.std.proofs.Common.{rules}
+use Rattle.column_rules.proofs.Bytes.{table_from}
 use Rattle.column_rules.proofs.flip_table.Goals as goal
 
-pub loop-x-init : goal.loop-x-init
-loop-x-init c = filling_none c.args.group.len _ c.requires.few
+pub returns : goal.returns
+returns c = table_from c.requires.few (λ x r h p. search rules) c.table_of.ensures

@@ -1,11 +1,7 @@
 -- `pack` meets its contract. The invariant: the columns have the bits of the first k members.
-use Prim.Native.Nat.{◌-◌, ◌≤◌}
 use Rattle.paper.specs.Panel.Input.{pattern_of}
 use Rattle.columns.specs.Column.{Columns}
 use Rattle.columns.proofs.pack.Given as goal
 
 abbrev pub invariant-loop-k : goal.invariant-loop-k
-invariant-loop-k l = (l.k ≤ l.len) × Columns l.n l.k (pattern_of l.n l.group l.spins) l.cols
-
-abbrev pub decreases-loop-k : goal.decreases-loop-k
-decreases-loop-k l = l.len - l.k
+invariant-loop-k l = Columns l.n l.k (pattern_of l.n l.group l.spins) l.cols

@@ -1,5 +1,4 @@
 -- `write_row` meets its contract. The invariant: the first i spins are written.
-use Prim.Native.Nat.{◌-◌, ◌≤◌}
 use lib.ListN.{get_or}
 use lib.IntN.{pos}
 use Rattle.lemmas.specs.Stores.{Filled}
@@ -7,7 +6,4 @@ use Rattle.columns.specs.Column.{shown}
 use Rattle.columns.proofs.write_row.Given as goal
 
 abbrev pub invariant-loop-i : goal.invariant-loop-i
-invariant-loop-i l = (l.i ≤ l.n) × Filled (pos 0) (λ j. shown (get_or l.cols j 0) l.k) l.i l.initial.row l.row
-
-abbrev pub decreases-loop-i : goal.decreases-loop-i
-decreases-loop-i l = l.n - l.i
+invariant-loop-i l = Filled (pos 0) (λ j. shown (get_or l.cols j 0) l.k) l.i l.initial.row l.row

@@ -13,5 +13,5 @@ loop-k-preserved c =
     let cell : let a = c.args in get_or a.systems.now c.loop-k.k 0 * a.n + a.i < length a.spins.now = let p = c.requires.site in
     omega (arith, p.inside c.loop-k.k c.loop-k-test.true, p.below) in
     let h = c.loop-k-test.true in
-    let e = to_z-of_z w8 c.pick-v.result (record { sfits = c.pick-v.type_inv }) ∙ c.pick-v.ensures in
-    (omega (arith, h), one_there h c.loop-k.invariant.1 c.requires.distinct c.requires.site.below cell e)
+    let e = to_z-of_z w8 c.pick.result (record { sfits = c.pick.type_inv }) ∙ c.pick.ensures in
+    one_there h c.loop-k.invariant c.requires.distinct c.requires.site.below cell e

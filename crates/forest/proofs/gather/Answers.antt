@@ -12,4 +12,4 @@ loop-i-preserved c =
     let holds : Bool = eqb (get_or c.args.holds.now c.loop-i.at 0) 1 in
     let h = c.loop-i.invariant in
     gather_more h c.loop-i-test.true c.requires.fits holds (ap (λ (z : ℕ). eqb (get_or c.args.holds.now z 0) 1) (sym h.cell)) _
-    c.one-len.ensures
+    c.from-len.ensures

@@ -1,5 +1,4 @@
 -- `join_block` meets its contract.
-use Prim.Native.Nat.{◌-◌}
 use lib.ListN.{length}
 use Rattle.paper.specs.Component.Marks.{marked}
 use Rattle.forest.specs.Steps.{Part}
@@ -8,6 +7,3 @@ use Rattle.forest.proofs.join_block.Given as goal
 
 abbrev pub invariant-loop-k : goal.invariant-loop-k
 invariant-loop-k l = Joins l.initial.labels (Part l.d l.fwd (marked l.d l.holds) l.lo l.hi) l.d (length l.initial.list) l.labels l.list l.k
-
-abbrev pub decreases-loop-k : goal.decreases-loop-k
-decreases-loop-k l = l.d - l.k

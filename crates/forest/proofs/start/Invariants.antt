@@ -1,11 +1,6 @@
 -- `start` meets its contract.
-use Prim.Native.Nat.{◌-◌}
-use lib.ListN.{length}
 use Rattle.lemmas.specs.Stores.{Filled}
 use Rattle.forest.proofs.start.Given as goal
 
 abbrev pub invariant-loop-i : goal.invariant-loop-i
 invariant-loop-i l = Filled 0 (λ x. x) l.i l.initial.labels l.labels
-
-abbrev pub decreases-loop-i : goal.decreases-loop-i
-decreases-loop-i l = length l.labels - l.i

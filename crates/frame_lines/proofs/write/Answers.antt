@@ -1,4 +1,4 @@
--- `frame::write` meets its contract: three lines, one behind another.
+-- `frame_lines::write` meets its contract: three lines, one behind another.
 use Prim.Native.Nat.{ℕ, ◌+◌, ◌*◌, ◌≤◌}
 use mathlib.Core.Path.{◌≡◌}
 use mathlib.Core.List.{List, ◌++◌}

@@ -1,7 +1,9 @@
 -- `run_grow` meets its contract: the cluster is found, and if it moves its columns are chosen and written.
 use native.Mathlib.Nat.{le_refl}
 use mathlib.Core.Path.{refl, subst}
-use Rattle.paper.specs.declared.Answer.{Answer}
+use Rattle.paper.specs.declared.Outcome.{Outcome}
+use Rattle.paper.specs.declared.Outcome.TheVariants as Outcome
+use Rattle.paper.specs.Answer.Cases.{answer_by, answer_by_injective}
 use Rattle.paper.specs.Panel.Made.{call_of}
 use Rattle.grow.specs.Finding.{FindsFree, Finds, lookable}
 use Rattle.grow.specs.Pinned.{turned_free}
@@ -19,7 +21,7 @@ returns-in_default c =
           still_answers a.t a.fwd.now a.bwd.now a.pins.now a.couplings.now a.cuts.now a.choices.now a.greys.now
           a.spins.now a.members.now
           c.requires.grow_asks f.new.members f.new.list f.result.blue f.result.len
-          f.result.answer c.in_default.not-Moved f.ensures.grown o;
+          (answer_by f.result.answer) (λ e. c.in_default.not-Moved (answer_by_injective f.result.answer Outcome.Moved e)) f.ensures.grown o;
       totals_after = totals_still;
     }
 
@@ -30,7 +32,7 @@ choose_cluster-requires-clause-turnable c =
     let a = c.args in
     let call = call_of a.t a.fwd.now a.bwd.now a.pins.now a.couplings.now a.cuts.now in
     let free : FindsFree call a.spins.now f.new.members f.new.list f.result.blue f.result.len =
-    subst (λ (r : Answer). Finds call a.spins.now f.new.members f.new.list r f.result.blue f.result.len) c.in-Moved.is f.ensures.grown in
+    subst (λ (r : Outcome). Finds call a.spins.now f.new.members f.new.list (answer_by r) f.result.blue f.result.len) c.in-Moved.is f.ensures.grown in
     turnable a.t a.fwd.now a.bwd.now a.pins.now a.couplings.now a.cuts.now a.choices.now a.greys.now
     a.spins.now a.members.now
     c.requires.grow_asks free.on free.grew f.ensures.kept
@@ -41,7 +43,7 @@ choose_cluster-requires-clause-lookable c =
     let a = c.args in
     let call = call_of a.t a.fwd.now a.bwd.now a.pins.now a.couplings.now a.cuts.now in
     let free : FindsFree call a.spins.now f.new.members f.new.list f.result.blue f.result.len =
-    subst (λ (r : Answer). Finds call a.spins.now f.new.members f.new.list r f.result.blue f.result.len) c.in-Moved.is f.ensures.grown in
+    subst (λ (r : Outcome). Finds call a.spins.now f.new.members f.new.list (answer_by r) f.result.blue f.result.len) c.in-Moved.is f.ensures.grown in
     lookable
     (findable a.t a.fwd.now a.bwd.now a.pins.now a.couplings.now a.cuts.now a.choices.now a.greys.now
     a.spins.now a.members.now
@@ -54,7 +56,7 @@ write_cluster-requires-clause-writable c =
     let a = c.args in
     let call = call_of a.t a.fwd.now a.bwd.now a.pins.now a.couplings.now a.cuts.now in
     let free : FindsFree call a.spins.now f.new.members f.new.list f.result.blue f.result.len =
-    subst (λ (r : Answer). Finds call a.spins.now f.new.members f.new.list r f.result.blue f.result.len) c.in-Moved.is f.ensures.grown in
+    subst (λ (r : Outcome). Finds call a.spins.now f.new.members f.new.list (answer_by r) f.result.blue f.result.len) c.in-Moved.is f.ensures.grown in
     writable a.t a.fwd.now a.bwd.now a.pins.now a.couplings.now a.cuts.now a.choices.now a.greys.now
     a.spins.now a.members.now
     c.requires.grow_asks c.requires.totals_ready free.grew c.choose_cluster.ensures.chosen.long
@@ -65,7 +67,7 @@ returns-clause-answers c =
     let a = c.args in
     let call = call_of a.t a.fwd.now a.bwd.now a.pins.now a.couplings.now a.cuts.now in
     let free : FindsFree call a.spins.now f.new.members f.new.list f.result.blue f.result.len =
-    subst (λ (r : Answer). Finds call a.spins.now f.new.members f.new.list r f.result.blue f.result.len) c.in-Moved.is f.ensures.grown in
+    subst (λ (r : Outcome). Finds call a.spins.now f.new.members f.new.list (answer_by r) f.result.blue f.result.len) c.in-Moved.is f.ensures.grown in
     let turn =
     turnable a.t a.fwd.now a.bwd.now a.pins.now a.couplings.now a.cuts.now a.choices.now a.greys.now
     a.spins.now a.members.now

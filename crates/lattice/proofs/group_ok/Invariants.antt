@@ -1,5 +1,4 @@
 -- `group_ok` meets its contract: after k turns the flag tells of the systems before k.
-use Prim.Native.Nat.{◌-◌}
 use Rattle.lemmas.specs.Tells.{Flagged}
 use Rattle.paper.specs.Panel.Input.{member}
 use Rattle.lattice.specs.Groups.{Alone}
@@ -7,6 +6,3 @@ use Rattle.lattice.proofs.group_ok.Given as goal
 
 abbrev pub invariant-loop-k : goal.invariant-loop-k
 invariant-loop-k l = Flagged l.len (Alone l.s (member l.group)) l.k l.ok
-
-abbrev pub decreases-loop-k : goal.decreases-loop-k
-decreases-loop-k l = l.len - l.k

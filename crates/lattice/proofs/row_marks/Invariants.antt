@@ -1,11 +1,8 @@
 -- `row_marks` meets its contract: after k turns the first k are marked.
-use Prim.Native.Nat.{◌+◌, ◌-◌}
+use Prim.Native.Nat.{◌+◌}
 use lib.ListN.{get_or}
 use Rattle.lattice.specs.Marking.{Marked}
 use Rattle.lattice.proofs.row_marks.Given as goal
 
 abbrev pub invariant-loop-k : goal.invariant-loop-k
 invariant-loop-k l = Marked l.m (λ k. get_or l.perms (l.at + k) 0) l.k l.marks
-
-abbrev pub decreases-loop-k : goal.decreases-loop-k
-decreases-loop-k l = l.m - l.k

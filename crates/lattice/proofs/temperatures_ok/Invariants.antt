@@ -1,13 +1,9 @@
 -- `temperatures_ok` meets its contract: after i turns the flag tells of the temperatures below i.
-use Prim.Native.Nat.{◌-◌}
 use lib.Ieee.{nan}
 use lib.ListN.{length, get_or}
 use Rattle.lemmas.specs.Tells.{Flagged}
 use Rattle.paper.specs.Refusal.Rules.{Warm}
 use Rattle.lattice.proofs.temperatures_ok.Given as goal
 
-abbrev pub invariant-loop-i : goal.invariant-loop-i
-invariant-loop-i l = Flagged (length l.ts) (λ k. Warm (get_or l.ts k nan)) l.i l.ok
-
-abbrev pub decreases-loop-i : goal.decreases-loop-i
-decreases-loop-i l = length l.ts - l.i
+abbrev pub invariant-loop-t : goal.invariant-loop-t
+invariant-loop-t l = Flagged (length l.ts) (λ k. Warm (get_or l.ts k nan)) l.t-index l.ok

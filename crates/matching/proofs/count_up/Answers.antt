@@ -2,5 +2,5 @@
 use Rattle.matching.proofs.Counted.{counting_more}
 use Rattle.matching.proofs.count_up.Goals as goal
 
-pub loop-i-preserved : goal.loop-i-preserved
-loop-i-preserved c = counting_more c.loop-i.invariant c.loop-i-test.true c.following-k.ensures
+pub loop-place-preserved : goal.loop-place-preserved
+loop-place-preserved c = counting_more c.loop-place.invariant c.loop-place-test.true c.following-k.ensures

@@ -1,11 +1,6 @@
 -- `first_fault` meets its contract. The invariant: the first r sets are settled.
-use Prim.Native.Nat.{◌-◌}
-use lib.ListN.{length}
 use Rattle.matching.proofs.Rows.{Settling}
 use Rattle.matching.proofs.first_fault.Given as goal
 
 abbrev pub invariant-loop-r : goal.invariant-loop-r
 invariant-loop-r l = Settling l.size l.sets l.initial.rows l.r l.rows
-
-abbrev pub decreases-loop-r : goal.decreases-loop-r
-decreases-loop-r l = length l.sets - l.r

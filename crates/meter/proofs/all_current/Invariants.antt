@@ -1,5 +1,4 @@
 -- `all_current` meets its contract: after t turns the flag tells of the systems below t.
-use Prim.Native.Nat.{◌-◌}
 use mathlib.Core.Path.{◌≡◌}
 use mathlib.Core.Bool.{true}
 use Rattle.lemmas.specs.Tells.{Flagged}
@@ -10,6 +9,3 @@ use Rattle.meter.proofs.all_current.Given as goal
 
 abbrev pub invariant-loop-t : goal.invariant-loop-t
 invariant-loop-t l = Flagged l.s (λ k. own (team_of l.team l.owners) k ≡ true → CurrentAt l.n l.d l.fwd l.js l.spins l.totals k) l.t l.ok
-
-abbrev pub decreases-loop-t : goal.decreases-loop-t
-decreases-loop-t l = l.s - l.t

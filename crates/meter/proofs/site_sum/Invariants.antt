@@ -1,12 +1,8 @@
 -- `site_sum` meets its contract: after e turns the total is the sum of the site's first e bonds.
-use Prim.Native.Nat.{◌≤◌, ◌-◌}
 use mathlib.Core.Path.{◌≡◌}
 use Rattle.lemmas.specs.Sums.{sum}
 use Rattle.meter.specs.Row.{bond_term}
 use Rattle.meter.proofs.site_sum.Given as goal
 
 abbrev pub invariant-loop-e : goal.invariant-loop-e
-invariant-loop-e l = (l.e ≤ l.d) × (l.total ≡ sum l.e (bond_term l.d l.fwd l.js l.row l.i))
-
-abbrev pub decreases-loop-e : goal.decreases-loop-e
-decreases-loop-e l = l.d - l.e
+invariant-loop-e l = l.total ≡ sum l.e (bond_term l.d l.fwd l.js l.row l.i)

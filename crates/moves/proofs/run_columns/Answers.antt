@@ -3,6 +3,7 @@ use mathlib.Core.Path.{◌≡◌, sym, ◌∙◌}
 use mathlib.Core.Bool.{true, false}
 use mathlib.Core.List.{[]}
 use Rattle.paper.specs.Panel.Input.{Call, Choices, Buffers}
+use Rattle.paper.specs.Answer.Cases.{answer_by}
 use Rattle.paper.specs.Panel.Made.{call_of, choices_of, buffers_of}
 use Rattle.moves.specs.Tested.{ready}
 use Rattle.moves.specs.Leaves.{changes}
@@ -20,7 +21,7 @@ label_task-answer-requires c =
 pub returns-then-not-changed : goal.returns-then-not-changed
 returns-then-not-changed c =
     let choicesAt : Choices = choices_of c.args.choices.now c.args.greys.now in
-    let still : changes c.args.t.form c.label_task-answer.result ≡ false = sym c.changed.ensures ∙ c.if-not-changed.true in
+    let still : changes c.args.t.form (answer_by c.label_task-answer.result) ≡ false = sym c.changed.ensures ∙ c.if-not-changed.true in
     let a = c.args in
     rw c.copy.ensures
     (done.stays_leaves a.t a.fwd.now a.bwd.now a.pins.now a.couplings.now a.cuts.now choicesAt c.requires
@@ -32,7 +33,7 @@ choose_task-requires c =
     let choicesAt : Choices = choices_of c.args.choices.now c.args.greys.now in
     let lent_at : Buffers = let a = c.args in buffers_of c.requires.rows a.labels.now a.grey_labels.now a.counts.now a.sizes.now []
     a.found.now a.grey_found.now in
-    let goes : changes c.args.t.form c.label_task-answer.result ≡ true = sym c.changed.ensures ∙ c.if-not-changed.false in
+    let goes : changes c.args.t.form (answer_by c.label_task-answer.result) ≡ true = sym c.changed.ensures ∙ c.if-not-changed.false in
     let a = c.args in
     rw c.copy.ensures
     (answered.choose_asks a.t a.fwd.now a.bwd.now a.pins.now a.couplings.now a.cuts.now choicesAt
@@ -43,7 +44,7 @@ choose_task-requires c =
 pub returns : goal.returns
 returns c =
     let choicesAt : Choices = choices_of c.args.choices.now c.args.greys.now in
-    let goes : changes c.args.t.form c.label_task-answer.result ≡ true = sym c.changed.ensures ∙ c.if-not-changed.false in
+    let goes : changes c.args.t.form (answer_by c.label_task-answer.result) ≡ true = sym c.changed.ensures ∙ c.if-not-changed.false in
     let a = c.args in
     done.goes_leaves a.t a.fwd.now a.bwd.now a.pins.now a.couplings.now a.cuts.now choicesAt c.requires
     c.label_task-answer.ensures goes (rw c.copy.ensures at c.choose_task.ensures)

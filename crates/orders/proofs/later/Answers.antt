@@ -1,32 +1,22 @@
--- `later` meets its contract: after k turns the first k entries behind place i are counted.
-use Prim.Native.Nat.{ℕ, ◌+◌, ◌-◌}
-use mathlib.Core.Path.{◌≡◌, sym, ◌∙◌, ap}
-use mathlib.Core.Bool.{Bool}
-use lib.Dec.{ltb}
-use lib.ListN.{get_or}
-use native.Mathlib.Omega.{arith}
-use borrow.Author.Rules.{rules}
-use Rattle.lemmas.specs.Counts.{count_where, bit_le, count_none, count_suc, count_most}
+-- `later` meets its contract: the entries behind place i are counted by their places.
+use Rattle.std.proofs.Common.{ℕ, ◌+◌, ◌-◌, ◌≡◌, ◌∙◌, Bool, List, ap, ltb, length, get_or, drop, length-drop, get_or-drop, count_by, arith}
+use Rattle.std.proofs.lemmas.List.{take_rest}
+use Rattle.lemmas.specs.Counts.{count_where, count_places, count_ext, count_most}
+use Rattle.orders.specs.Rank.{later}
+use Rattle.orders.specs.Answers.{word}
 use Rattle.orders.proofs.later.Goals as goal
-
-pub loop-k-init : goal.loop-k-init
-loop-k-init c = (search rules, sym (count_none _))
-
-pub overflow_add-n : goal.overflow_add-n
-overflow_add-n c =
-    let behind : ℕ → Bool = λ j. ltb (get_or c.args.row.now (c.args.i + 1 + j) 0) (get_or c.args.row.now c.args.i 0) in
-    record { fits = omega (arith, c.loop-k.invariant.1, count_most behind c.loop-k.k, c.less-n.ensures, bit_le (behind c.loop-k.k)) }
-
-pub loop-k-preserved : goal.loop-k-preserved
-loop-k-preserved c =
-    let behind : ℕ → Bool = λ j. ltb (get_or c.args.row.now (c.args.i + 1 + j) 0) (get_or c.args.row.now c.args.i 0) in
-    (search rules, omega (arith, c.loop-k.invariant.1, c.less-n.ensures, count_suc behind c.loop-k.k))
 
 pub returns : goal.returns
 returns c =
-    let behind : ℕ → Bool = λ j. ltb (get_or c.args.row.now (c.args.i + 1 + j) 0) (get_or c.args.row.now c.args.i 0) in
-    let e : c.loop-k.k ≡ 4 - c.args.i = omega (arith, c.loop-k.invariant.0, c.loop-k-test.false) in
+    let xs : List ℕ = c.args.row.now in
+    let behind : List ℕ = drop (c.args.i + 1) xs in
+    let less : ℕ → Bool = λ y. ltb y (get_or xs c.args.i 0) in
+    let counted : c.count_below.result ≡ count_by less behind = c.count_below.ensures ∙ ap (count_by less) (take_rest xs (c.args.i + 1)) in
+    let long : length behind ≡ 4 - c.args.i = omega (arith, length-drop (c.args.i + 1) xs) in
+    let at : ℕ → Bool = λ k. less (get_or behind k 0) in
+    let same : count_where at (4 - c.args.i) ≡ later (word xs) c.args.i =
+    count_ext at _ (4 - c.args.i) (λ k l. ap less (get_or-drop (c.args.i + 1) xs k 0)) in
     record {
-      is = c.loop-k.invariant.1 ∙ ap (count_where behind) e;
-      most = omega (arith, c.loop-k.invariant.1, count_most behind c.loop-k.k);
+      is = counted ∙ (count_places 0 less behind ∙ (ap (count_where at) long ∙ same));
+      most = omega (arith, counted, count_places 0 less behind, ap (count_where at) long, count_most at (4 - c.args.i));
     }

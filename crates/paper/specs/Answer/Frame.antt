@@ -3,8 +3,7 @@ use Rattle.std.specs.Prelude.{ℕ, ◌+◌, ◌-◌, ◌*◌, ◌/◌, ◌%◌, 
 use Rattle.lemmas.specs.Cells.{table}
 use Rattle.paper.specs.declared.Mode.TheVariants.{Perm}
 use Rattle.paper.specs.declared.Form.TheVariants.{Sw}
-use Rattle.paper.specs.declared.Answer.{Answer}
-use Rattle.paper.specs.declared.Answer.TheVariants.{Refused}
+use Rattle.paper.specs.Answer.Cases.{Answer, Answer.Refused}
 use Rattle.paper.specs.Panel.Input.{Lattice, Call, Choices, Buffers}
 use Rattle.paper.specs.Site.Bonds.{whole}
 use Rattle.paper.specs.Refusal.Rule.{Rule, rule, Broken}

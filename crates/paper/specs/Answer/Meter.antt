@@ -1,8 +1,7 @@
 -- What the energy meter answers, for every input.
 use Rattle.std.specs.Prelude.{ℕ, ◌*◌, ◌<◌, ◌≡◌, List, [], ◌∷◌, length, get_or, ℤ, pos}
 use Rattle.std.proofs.Common.{sym, ◌∙◌, ap}
-use Rattle.paper.specs.declared.MeterAnswer.{MeterAnswer}
-use Rattle.paper.specs.declared.MeterAnswer.TheVariants.{Unmetered, Energy}
+use Rattle.paper.specs.Answer.Cases.{MeterAnswer, MeterAnswer.Unmetered, MeterAnswer.Energy}
 use Rattle.paper.specs.Answer.Number.{meter_number, meter_values}
 use Rattle.paper.specs.Panel.Input.{Lattice}
 use Rattle.paper.specs.Refusal.Rule.{Rule, rule, Broken, broken_unique, broken_not_kept}

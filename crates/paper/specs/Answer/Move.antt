@@ -1,8 +1,7 @@
 -- What a move answers, for every input, and what every lent buffer then holds.
 use Rattle.std.specs.Prelude.{◌≡◌, refl, Bool, true, false, cond, List, ℕ, ◌<◌, ℤ}
 use Rattle.lemmas.specs.Stores.{Cleared}
-use Rattle.paper.specs.declared.Answer.{Answer}
-use Rattle.paper.specs.declared.Answer.TheVariants.{Refused, Idle, Held, Moved}
+use Rattle.paper.specs.Answer.Cases.{Answer, Answer.Refused, Answer.Idle, Answer.Held, Answer.Moved}
 use Rattle.paper.specs.Answer.Number.{number}
 use Rattle.paper.specs.Panel.Input.{graph, Call, Choices, Buffers, pinned}
 use Rattle.paper.specs.Panel.Takes.{is_cmr, one_cluster, grows_by, labels_by, takes_greys}

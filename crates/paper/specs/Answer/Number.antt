@@ -1,12 +1,9 @@
 -- What each case of an answer stands for in the paper: its number, a refusal's or 0 where the call is accepted, and its values.
 -- A refusal has its number only. The promises cite both in every case; the number is the verdict of the rules.
 use Rattle.std.specs.Prelude.{ℕ, List, [], ◌∷◌, ℤ}
-use Rattle.paper.specs.declared.Answer.{Answer}
-use Rattle.paper.specs.declared.Answer.TheVariants.{Refused, Idle, Held, Moved}
-use Rattle.paper.specs.declared.SweepAnswer.{SweepAnswer}
-use Rattle.paper.specs.declared.SweepAnswer.TheVariants.{Fault, Swept}
-use Rattle.paper.specs.declared.MeterAnswer.{MeterAnswer}
-use Rattle.paper.specs.declared.MeterAnswer.TheVariants.{Unmetered, Energy}
+use Rattle.paper.specs.Answer.Cases.{Answer, Answer.Refused, Answer.Idle, Answer.Held, Answer.Moved}
+use Rattle.paper.specs.Answer.Cases.{SweepAnswer, SweepAnswer.Fault, SweepAnswer.Swept}
+use Rattle.paper.specs.Answer.Cases.{MeterAnswer, MeterAnswer.Unmetered, MeterAnswer.Energy}
 
 -- of one move or observation, which has no values: all that it tells is written
 abbrev pub number : Answer → ℕ

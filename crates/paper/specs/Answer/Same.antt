@@ -1,8 +1,7 @@
 -- What two moves, or two sweeps, must share to be answered alike: all that their mode and form take, and no more.
 use Rattle.std.specs.Prelude.{ℕ, ◌<◌, ◌≡◌, false, cond, length}
 use Rattle.paper.specs.declared.Mode.{Mode}
-use Rattle.paper.specs.declared.Answer.{Answer}
-use Rattle.paper.specs.declared.Answer.TheVariants.{Refused, Idle, Held, Moved}
+use Rattle.paper.specs.Answer.Cases.{Answer, Answer.Refused, Answer.Idle, Answer.Held, Answer.Moved}
 use Rattle.paper.specs.Panel.Input.{Lattice, Call, Choices, Buffers, size, system}
 use Rattle.paper.specs.Panel.Takes.{grows_by, labels_by, draws_bonds, takes_cuts, takes_choices, takes_greys, takes_grey_labels, takes_reference, takes_seed}
 use Rattle.paper.specs.Refusal.Rules.{When}

@@ -1,9 +1,8 @@
 -- What a sweep answers, for every input: each task is the move that it would be alone.
 use Rattle.std.specs.Prelude.{ℕ, zero, suc, ◌+◌, ◌*◌, ◌≤◌, ◌<◌, ◌≡◌, ◌≢◌, true, false, cond, List, [], ◌∷◌, ◌++◌, length, get_or, ℤ}
 use Rattle.std.specs.Float.{nan}
-use Rattle.paper.specs.declared.Answer.{Answer}
-use Rattle.paper.specs.declared.SweepAnswer.{SweepAnswer}
-use Rattle.paper.specs.declared.SweepAnswer.TheVariants.{Fault, Swept}
+use Rattle.paper.specs.Answer.Cases.{Answer}
+use Rattle.paper.specs.Answer.Cases.{SweepAnswer, SweepAnswer.Fault, SweepAnswer.Swept}
 use Rattle.paper.specs.Panel.Input.{Call, Buffers, spin, pattern, system}
 use Rattle.paper.specs.Panel.Takes.{grows_by, labels_by, takes_cuts, takes_choices, takes_greys, takes_grey_labels, takes_reference, takes_seed}
 use Rattle.paper.specs.Panel.Takes.{entries, choice_bytes}

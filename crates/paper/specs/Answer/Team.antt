@@ -2,10 +2,10 @@
 use Rattle.std.specs.Prelude.{ℕ, ◌≤◌, ◌<◌, ◌≡◌, Bool, true, cond, List, [], ◌∷◌, ◌++◌, map, eqb, ltb, length, get_or, ℤ}
 use Rattle.lemmas.specs.Cells.{table}
 use Rattle.lemmas.specs.Counts.{count_where}
-use Rattle.paper.specs.declared.Answer.{Answer}
+use Rattle.paper.specs.Answer.Cases.{Answer}
 use Rattle.paper.specs.declared.Group.{Group}
-use Rattle.paper.specs.declared.MeterAnswer.{MeterAnswer}
-use Rattle.paper.specs.declared.SweepAnswer.{SweepAnswer}
+use Rattle.paper.specs.Answer.Cases.{MeterAnswer}
+use Rattle.paper.specs.Answer.Cases.{SweepAnswer}
 use Rattle.paper.specs.Panel.Input.{Lattice, Call, Choices, Buffers, member}
 use Rattle.paper.specs.Refusal.Rule.{Rule, rule, Kept, Broken}
 use Rattle.paper.specs.Refusal.Rules.{Sizes, Spins, Inverse, SmallCouplings}

@@ -15,9 +15,9 @@ use Rattle.paper.specs.Rows.Cases.{+, -, of, row, line, first}
 use Rattle.paper.specs.declared.Mode.{Mode}
 use Rattle.paper.specs.declared.Mode.TheVariants.{Houd, Pair, Perm, Cmr}
 use Rattle.paper.specs.declared.Form.TheVariants.{Sw, Wolff, Observe, Grow}
-use Rattle.paper.specs.declared.Answer.TheVariants.{Idle, Held, Moved}
-use Rattle.paper.specs.declared.SweepAnswer.TheVariants.{Swept}
-use Rattle.paper.specs.declared.MeterAnswer.TheVariants.{Energy}
+use Rattle.paper.specs.Answer.Cases.{Answer.Idle, Answer.Held, Answer.Moved}
+use Rattle.paper.specs.Answer.Cases.{SweepAnswer.Swept}
+use Rattle.paper.specs.Answer.Cases.{MeterAnswer.Energy}
 use Rattle.paper.specs.Panel.Input.{Graph, graph, Call, Choices, Buffers}
 use Rattle.paper.specs.Panel.Takes.{one_cluster, grows_by}
 use Rattle.paper.specs.Site.Acting.{acts, pair_differs, differs}

@@ -5,6 +5,3 @@ use Rattle.sizes.proofs.component_marks.Given as goal
 
 abbrev pub invariant-loop-i : goal.invariant-loop-i
 invariant-loop-i l = Mark l.labels l.marks (length l.initial.bytes) l.bytes l.i
-
-abbrev pub decreases-loop-i : goal.decreases-loop-i
-decreases-loop-i l = l.i

@@ -6,4 +6,4 @@ pub loop-r-init : goal.loop-r-init
 loop-r-init c = pick_none _ _ _ _
 
 pub loop-r-preserved : goal.loop-r-preserved
-loop-r-preserved c = pick_more c.loop-r.invariant c.requires c.loop-r-test.true _ _ c.one-all.ensures c.one-len.ensures
+loop-r-preserved c = pick_more c.loop-r.invariant c.requires c.loop-r-test.true _ _ c.from-all.ensures c.from-len.ensures

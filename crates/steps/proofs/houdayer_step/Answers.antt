@@ -3,6 +3,7 @@
 use mathlib.Core.Path.{◌≡◌, refl}
 use lib.Ieee.{binary32, of_bits, of_int}
 use Rattle.paper.specs.Site.Bonds.{whole}
+use Rattle.paper.specs.Answer.Cases.{answer_of}
 use Rattle.laws.specs.KeepsPlain.{keeps_none}
 use Rattle.steps.specs.Empty.{empty}
 use Rattle.steps.proofs.houdayer_step.Goals as goal
@@ -15,7 +16,7 @@ one = refl
 pub returns : goal.returns
 returns c =
     let o = c.overlap_step in
-    let e = (keeps_none _ _ _ _ o.result _ _ o.ensures).answers in
+    let e = (keeps_none _ _ _ _ (answer_of o.result) _ _ o.ensures).answers in
     let f = rw (empty o.new.grey_labels o.auto.grey_labels) at e in
     let g = rw (empty o.new.grey_found o.auto.grey_found) at f in
     rw one at (rw c.mode_of-mode.ensures at g)

@@ -1,8 +1,10 @@
 -- `run_tasks` meets its contract: the first k tasks have run, and the totals have followed them.
-use mathlib.Core.Path.{◌≡◌}
+use mathlib.Core.Path.{◌≡◌, sym, subst}
 use Prim.Native.Nat.{◌<◌}
 use native.Mathlib.Nat.{le_antisymm}
 use Rattle.paper.specs.Panel.Input.{Buffers}
+use Rattle.paper.specs.Answer.Cases.{SweepAnswer}
+use Rattle.paper.specs.Answer.Sweep.{SweepAnswers}
 use Rattle.paper.specs.Answer.Task.{Sweep}
 use Rattle.paper.specs.Panel.Takes.{keeps_by}
 use Rattle.paper.specs.Panel.Made.{buffers_of}
@@ -78,4 +80,5 @@ returns-clause-sweep_answers c =
     let now-at : Buffers = buffers_of z.spins z.labels z.grey_labels z.counts z.sizes z.members z.found z.grey_found in
     let h = z.invariant.ran in
     let e : z.k ≡ tasks_of a.plan = le_antisymm {m = tasks_of a.plan} h.reached (rw c.task_count-count.ensures at c.loop-k-test.false) in
-    rw c.told.ensures (ran_all W B c.requires.kept z.outcomes.idle z.outcomes.moved z.outcomes.held now-at (rw e at h))
+    subst (λ (told : SweepAnswer). SweepAnswers W B told now-at) (sym c.told.ensures)
+    (ran_all W B c.requires.kept z.outcomes.idle z.outcomes.moved z.outcomes.held now-at (rw e at h))

@@ -3,6 +3,7 @@ use mathlib.Core.Path.{sym, ◌∙◌}
 use Rattle.paper.specs.Panel.Input.{Buffers}
 use Rattle.paper.specs.Answer.Task.{Sweep}
 use Rattle.paper.specs.Panel.Made.{buffers_of}
+use Rattle.paper.specs.Answer.Cases.{answer_by}
 use Rattle.paper.specs.Answer.Made.{sweep_of}
 use Rattle.sweep_tasks.specs.Running.{Parts, valid_parts, answers_parts, areas_lent, steps_put}
 use Rattle.sweep_tasks.specs.Turning.{turned_masked, turned_one}
@@ -51,9 +52,9 @@ returns-clause-turned c =
       greys = c.task_greys.ensures;
     } in
     let z = c.run_form-answer in
-    turned_one W a.k a.outcomes B z.result c.add.result _ (sym c.masked.ensures ∙ c.if-masked.false)
+    turned_one W a.k a.outcomes B (answer_by z.result) c.add.result _ (sym c.masked.ensures ∙ c.if-masked.false)
     (steps_put W a.k B c.bounds-label.ensures c.bounds-grey.ensures c.bounds-count.ensures c.bounds-size.ensures
     c.bounds-member.ensures c.bounds-number.ensures c.bounds-grey_number.ensures
     z.new.spins z.new.labels z.new.grey_labels z.new.counts z.new.sizes z.new.members z.new.found z.new.grey_found
     z.auto.labels z.auto.grey_labels z.auto.counts z.auto.sizes z.auto.members z.auto.found z.auto.grey_found
-    z.result (answers_parts parts _ _ z.result z.ensures.answers)) c.add.ensures
+    (answer_by z.result) (answers_parts parts _ _ (answer_by z.result) z.ensures.answers)) c.add.ensures

@@ -6,7 +6,7 @@ use Rattle.sweep_tests.proofs.test_task.Goals as goal
 pub test_choices-requires : goal.test_choices-requires
 test_choices-requires c = let a = c.args in
     rw (c.task_of.ensures, c.task_choices.ensures, c.task_greys.ensures)
-    (task_tested c.requires a.temperatures.now a.references.now a.seeds.now)
+    (task_tested c.requires a.inputs.now.temperatures.now a.inputs.now.references.now a.inputs.now.seeds.now)
 
 pub returns : goal.returns
 returns c = told_parts (sym c.masked.ensures ∙ c.if-masked.false)

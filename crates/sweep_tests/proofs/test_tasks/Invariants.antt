@@ -1,10 +1,7 @@
 -- `test_tasks` meets its contract. The invariant: the tasks below k keep their rules.
-use Prim.Native.Nat.{◌-◌, ◌≤◌}
 use Rattle.sweep_tests.specs.Tasks.{TasksTold}
 use Rattle.sweep_tests.proofs.test_tasks.Given as goal
 
 abbrev pub invariant-loop-k : goal.invariant-loop-k
-invariant-loop-k l = (l.k ≤ l.count) × TasksTold l.plan l.k l.spins l.order l.masks l.temperatures l.cuts l.references l.seeds l.choices l.greys 0
-
-abbrev pub decreases-loop-k : goal.decreases-loop-k
-decreases-loop-k l = l.count - l.k
+invariant-loop-k l = TasksTold l.plan l.k l.spins
+    l.inputs.order.now l.inputs.masks.now l.inputs.temperatures.now l.inputs.cuts.now l.inputs.references.now l.inputs.seeds.now l.inputs.choices.now l.inputs.greys.now 0

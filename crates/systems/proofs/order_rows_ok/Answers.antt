@@ -7,6 +7,6 @@ use Rattle.systems.proofs.order_rows_ok.Goals as goal
 pub returns : goal.returns
 returns c = let a = c.args in
     let names = order_names a.order.now in
-    let each = said c.loop-k.ok _ (flag_end c.loop-k.invariant c.loop-k-test.false) in
+    let each = said c.loop-t.ok _ (flag_end c.loop-t.invariant c.loop-t-test.false) in
     (same (Spins a.n (Named a.s names) a.spins.now) (spins_of a.n a.s names a.spins.now)
     (spins_each a.n a.s names a.spins.now) each).says

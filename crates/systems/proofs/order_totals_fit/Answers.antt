@@ -13,6 +13,6 @@ pub returns : goal.returns
 returns c = let a = c.args in
     let names = order_names a.order.now in
     let ts = a.totals.now in
-    let each = said c.loop-k.ok _ (flag_end c.loop-k.invariant c.loop-k-test.false) in
+    let each = said c.loop-t.ok _ (flag_end c.loop-t.invariant c.loop-t-test.false) in
     let small = SmallTotals (Named (length ts) names) ts in
-    when_taken c.loop-k.ok small (not-false a.keeping (ap not c.if-not-keeping.false)) (same small (small_of names ts) (small_each names ts) each).says
+    when_taken c.loop-t.ok small (not-false a.keeping (ap not c.if-not-keeping.false)) (same small (small_of names ts) (small_each names ts) each).says

@@ -17,35 +17,33 @@ group m z = record { len = m; systems = z }
 
 pub overflow_add-base : goal.overflow_add-base
 overflow_add-base c =
-    let entry : (x : ℕ) → x < c.args.plan.members → let q = c.args.plan in c.args.k / (q.r / q.members) * q.r + (c.args.k % (q.r / q.members)) * q.members + x < q.systems = λ x l. entry_lt c.args.plan c.requires.task.planned c.args.k c.requires.task.below x l in
-    let first : let q = c.args.plan in c.args.k / (q.r / q.members) * q.r + (c.args.k % (q.r / q.members)) * q.members < 64 = let p = c.requires.task.planned in omega (arith, entry 0 (some_members c.args.plan p), p.few, p.ranged.lattice.s_high) in
-    omega (arith, first)
+    let p = c.requires.task.planned in
+    omega (arith, entry_lt c.args.plan p c.args.k c.requires.task.below 0 (some_members c.args.plan p), p.few, p.ranged.lattice.s_high)
 
 pub loop-x-init : goal.loop-x-init
 unfolding table
-loop-x-init c = (search rules, filled_none _ _ _)
+loop-x-init c = filled_none _ _ _
 
 pub overflow_add-base-in-loop-x : goal.overflow_add-base-in-loop-x
 overflow_add-base-in-loop-x c =
-    let entry : (x : ℕ) → x < c.args.plan.members → let q = c.args.plan in c.args.k / (q.r / q.members) * q.r + (c.args.k % (q.r / q.members)) * q.members + x < q.systems = λ x l. entry_lt c.args.plan c.requires.task.planned c.args.k c.requires.task.below x l in
-    let p = c.requires.task.planned in omega (arith, entry c.loop-x.x c.loop-x-test.true, p.few, p.ranged.lattice.s_high)
+    let p = c.requires.task.planned in
+    omega (arith, entry_lt c.args.plan p c.args.k c.requires.task.below c.loop-x.x c.loop-x-test.true, p.few, p.ranged.lattice.s_high)
 
 pub offset_bounds-order-base : goal.offset_bounds-order-base
 offset_bounds-order-base c =
-    let entry : (x : ℕ) → x < c.args.plan.members → let q = c.args.plan in c.args.k / (q.r / q.members) * q.r + (c.args.k % (q.r / q.members)) * q.members + x < q.systems = λ x l. entry_lt c.args.plan c.requires.task.planned c.args.k c.requires.task.below x l in
-    let p = c.requires.task.planned in omega (arith, entry c.loop-x.x c.loop-x-test.true, p.few, p.ranged.lattice.s_high)
+    let p = c.requires.task.planned in
+    omega (arith, entry_lt c.args.plan p c.args.k c.requires.task.below c.loop-x.x c.loop-x-test.true, p.few, p.ranged.lattice.s_high)
 
 pub bounds-order-base : goal.bounds-order-base
 bounds-order-base c =
-    let entry : (x : ℕ) → x < c.args.plan.members → let q = c.args.plan in c.args.k / (q.r / q.members) * q.r + (c.args.k % (q.r / q.members)) * q.members + x < q.systems = λ x l. entry_lt c.args.plan c.requires.task.planned c.args.k c.requires.task.below x l in
-    omega (arith, entry c.loop-x.x c.loop-x-test.true, c.requires.long)
+    omega (arith, entry_lt c.args.plan c.requires.task.planned c.args.k c.requires.task.below c.loop-x.x c.loop-x-test.true, c.requires.long)
 
 pub loop-x-preserved : goal.loop-x-preserved
 loop-x-preserved c =
-    let below : c.loop-x.x < 8 = omega (arith, c.loop-x-test.true, c.requires.task.planned.ranged.size_high) in
-    (omega (arith, c.loop-x-test.true), filled_more c.loop-x.invariant.1 (omega (arith, below, length_table 8 (λ k. 0))) c.wide.ensures)
+    let below : c.loop-x.x < 8 = omega (arith, c.requires.task.planned.ranged.size_high) in
+    filled_more c.loop-x.invariant (omega (arith, below, length_table 8 (λ k. 0))) c.wide.ensures
 
 pub returns : goal.returns
 returns c = let m = c.args.plan.members in
-    let e : c.loop-x.x ≡ m = le_antisymm c.loop-x.invariant.0 c.loop-x-test.false in
-    ap (λ (z : List ℕ). group m z) (rw e at (fill_done c.loop-x.invariant.1))
+    let e : c.loop-x.x ≡ m = omega arith in
+    ap (λ (z : List ℕ). group m z) (rw e at (fill_done c.loop-x.invariant))

@@ -10,7 +10,7 @@ use Rattle.totals.proofs.Digits.{bit_small}
 use Rattle.totals.proofs.add_bond.Goals as goal
 
 -- what a turn adds, and the sum after it
-module _ (c : goal.After-step) where
+module _ (c : goal.After-sums-1) where
   abbrev k : ℕ
   k = c.loop-k.k
 
@@ -39,7 +39,7 @@ module _ (c : goal.After-step) where
   was = get_or c.args.sums.now k (pos 0)
 
   same : get_or c.loop-k.sums k (pos 0) ≡ was
-  same = c.loop-k.invariant.1.rest k (omega arith)
+  same = c.loop-k.invariant.rest k (omega arith)
 
   was_small : nat_abs was ≤ 90000000000
   was_small = c.requires.room.small k c.loop-k-test.true
@@ -62,8 +62,6 @@ overflow_add-sums c = asks (next c)
 
 pub loop-k-preserved : goal.loop-k-preserved
 loop-k-preserved c =
-    let room = c.requires.room in (
-      omega arith,
-      filled_more c.loop-k.invariant.1 (omega (arith, room.long, room.few))
-          (reads (stored (next c)) ∙ ap (λ (z : ℤ). was c +ℤ bit_gain z c.args.x c.args.y (k c)) (sym (reads (given c.ranges.j)))),
-    )
+    let room = c.requires.room in
+    filled_more c.loop-k.invariant (omega (arith, room.long, room.few))
+    (reads (stored (next c)) ∙ ap (λ (z : ℤ). was c +ℤ bit_gain z c.args.x c.args.y (k c)) (sym (reads (given c.ranges.j))))

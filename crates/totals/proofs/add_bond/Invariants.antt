@@ -1,5 +1,4 @@
 -- `add_bond` meets its contract. The invariant: the first k sums have their change, and the others are as they were.
-use Prim.Native.Nat.{◌-◌, ◌≤◌}
 use lib.ListN.{get_or}
 use lib.IntN.{pos, ◌+ℤ◌}
 use Rattle.lemmas.specs.Stores.{Filled}
@@ -7,7 +6,4 @@ use Rattle.totals.specs.Gain.{bit_gain}
 use Rattle.totals.proofs.add_bond.Given as goal
 
 abbrev pub invariant-loop-k : goal.invariant-loop-k
-invariant-loop-k l = (l.k ≤ l.len) × Filled (pos 0) (λ i. get_or l.initial.sums i (pos 0) +ℤ bit_gain l.j l.x l.y i) l.k l.initial.sums l.sums
-
-abbrev pub decreases-loop-k : goal.decreases-loop-k
-decreases-loop-k l = l.len - l.k
+invariant-loop-k l = Filled (pos 0) (λ i. get_or l.initial.sums i (pos 0) +ℤ bit_gain l.j l.x l.y i) l.k l.initial.sums l.sums

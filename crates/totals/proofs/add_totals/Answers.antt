@@ -17,10 +17,10 @@ loop-k-preserved c =
     let sum = get_or c.args.sums.now k (pos 0) in
     let room = c.requires.room k l in
     let small = c.requires.small k l in
-    let same = unpaid c.requires l c.loop-k.invariant.1 in
+    let same = unpaid c.requires l c.loop-k.invariant in
     let after_small : nat_abs (was +ℤ sum) ≤ 96384000000 = omega (arith, abs_add was sum) in
     let was_fits : SFits w64 was = small_fits w64 was 16384000000 small tt in
     let next : Value w64 (to_z w64 (of_z w64 (total c.loop-k.totals system)) +ℤ to_z w64 (of_z w64 sum)) (was +ℤ sum) =
     held_add_to (given (subst (SFits w64) (sym same) was_fits)) (given (small_fits w64 sum 80000000000 room tt))
     (ap (λ (z : ℤ). z +ℤ sum) same) (small_fits w64 (was +ℤ sum) 96384000000 after_small tt) in
-    (omega (arith, l), paid_more c.requires l c.loop-k.invariant.1 (reads (stored next)))
+    paid_more c.requires l c.loop-k.invariant (reads (stored next))

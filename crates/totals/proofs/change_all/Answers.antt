@@ -6,16 +6,16 @@ use Rattle.totals.proofs.Site.{sites_small}
 use Rattle.totals.proofs.change_all.Goals as goal
 
 pub loop-i-init : goal.loop-i-init
-loop-i-init c = (omega arith, added_none _)
+loop-i-init c = added_none _
 
 pub change_site-requires : goal.change_site-requires
 change_site-requires c =
     let room : Room 80000000000 c.args.len c.loop-i.sums = room_within
-    (room_after 65536000000 (room_noughts c.requires.len_bound) c.loop-i.invariant.1 (λ k h. sites_small c.requires.ground c.loop-i.i k c.loop-i.invariant.0))
+    (room_after 65536000000 (room_noughts c.requires.len_bound) c.loop-i.invariant (λ k h. sites_small c.requires.ground c.loop-i.i k c.loop-i.auto.i-end))
     (omega arith) in
     record { ground = c.requires.ground; below = c.loop-i-test.true; room = room }
 
 pub loop-i-preserved : goal.loop-i-preserved
 loop-i-preserved c =
     let w : Change = change_of c.args.d c.args.fwd.now c.args.bwd.now c.args.couplings.now c.args.olds.now c.args.news.now in
-    (omega (arith, c.loop-i-test.true), added_more (λ k. site_gain w k) c.loop-i.invariant.1 c.change_site.ensures)
+    added_more (λ k. site_gain w k) c.loop-i.invariant c.change_site.ensures

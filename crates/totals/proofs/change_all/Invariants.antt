@@ -1,12 +1,8 @@
 -- `change_all` meets its contract. The invariant: the sums have the changes that are looked at from the first i sites.
-use Prim.Native.Nat.{◌-◌, ◌≤◌}
 use Rattle.lemmas.specs.Sums.{sum}
 use Rattle.totals.specs.Gain.{change_of, site_gain, Added}
 use Rattle.totals.proofs.Sums.{noughts}
 use Rattle.totals.proofs.change_all.Given as goal
 
 abbrev pub invariant-loop-i : goal.invariant-loop-i
-invariant-loop-i l = (l.i ≤ l.n) × Added l.len (λ k. sum l.i (site_gain (change_of l.d l.fwd l.bwd l.couplings l.olds l.news) k)) noughts l.sums
-
-abbrev pub decreases-loop-i : goal.decreases-loop-i
-decreases-loop-i l = l.n - l.i
+invariant-loop-i l = Added l.len (λ k. sum l.i (site_gain (change_of l.d l.fwd l.bwd l.couplings l.olds l.news) k)) noughts l.sums

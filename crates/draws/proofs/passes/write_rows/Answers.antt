@@ -11,7 +11,6 @@ use Rattle.draws.proofs.passes.write_rows.Goals as goal
 
 pub loop-i-init : goal.loop-i-init
 loop-i-init c = let a = c.args in (
-  omega arith,
   stop_none,
   subst (λ (x : ℕ). Filled (entry_at a.moving a.members a.s) x (length a.rows.now) a.rows.now) (sym (zero-mul a.members))
       (fill_none _),
@@ -23,9 +22,8 @@ loop-i-preserved c =
     omega (arith, row_inside c.loop-i.i a.count a.members c.loop-i-test.true, c.requires.long) in
     let h = c.loop-i in
     let a = c.args in (
-      omega (arith, c.loop-i-test.true),
-      stop_more c.row_by-r.result.source h.invariant.1 (ap (λ (d : Row). d.source) c.row_by-r.ensures),
-      rows_more h.i h.invariant.2 c.put_row.ensures inside
-          (λ k q. ap (λ (d : Row). get_or d.row k 0) c.row_by-r.ensures
-          ∙ (ap (λ (t : Source). get_or (row_by a.moving a.members t).row k 0) h.invariant.1.is ∙ entry_of a.moving a.members a.s h.i k q)),
+      stop_more c.drawn_row-r.result.source h.invariant.0 (ap (λ (d : Row). d.source) c.drawn_row-r.ensures),
+      rows_more h.i h.invariant.1 c.put_row.ensures inside
+          (λ k q. ap (λ (d : Row). get_or d.row k 0) c.drawn_row-r.ensures
+          ∙ (ap (λ (t : Source). get_or (row_by a.moving a.members t).row k 0) h.invariant.0.is ∙ entry_of a.moving a.members a.s h.i k q)),
     )

@@ -1,44 +1,38 @@
--- `shuffle` meets its contract. The invariant: the places from i down, exchanged in the present row, make the permutation of the lent source.
-use Rattle.std.proofs.Common.{◌+◌, ◌<◌, sym, ◌∙◌, subst, arith}
-use lib.Arith.{le-zero}
-use Rattle.draws.specs.declared.Drawn.{Drawn}
-use Rattle.draws.specs.Draw.{number}
-use Rattle.draws.specs.Rows.{shuffled}
-use Rattle.draws.specs.Numbers.{tried_below}
+-- `shuffle` meets its contract. The invariant: the places below i, exchanged in the present row, make the permutation of the lent source.
+use Rattle.std.specs.Prelude.{Ok, Err}
+use Rattle.std.proofs.Common.{◌≡◌, ℕ, ◌+◌, ◌-◌, ◌<◌, [], ◌∷◌, length, sym, refl, ap, ◌∙◌, arith}
+use Rattle.std.proofs.lemmas.Grind.{common_steps}
+use Rattle.std.proofs.lemmas.List.Edits.{swap_is}
+use Rattle.paper.specs.declared.Refusal.{Refusal}
+use Rattle.draws.specs.Answer.{drawn_of}
+use Rattle.draws.specs.Rows.{drawn_row, shuffled}
+use Rattle.draws.proofs.Telling.{not_zero, number_twelve}
+use Rattle.draws.proofs.Trying.{drawn_below}
 use Rattle.draws.proofs.Shuffling.{place_refused, place_done}
 use Rattle.draws.proofs.rows.shuffle.Goals as goal
 
-pub returns-then-d-ne0 : goal.returns-then-d-ne0
-returns-then-d-ne0 c = let h = c.loop-i in
-    c.refused_row.ensures
-    ∙ (place_refused c.args.s h.row h.source h.i c.number-d.result c.loop-i-test.true c.number-d.ensures c.if-d-ne0.true
-    ∙ h.invariant.1)
+pub returns-in_err-d : goal.returns-in_err-d
+returns-in_err-d c = let h = c.loop-i in
+    let e : Refusal = c.in_err-d.field-0.0 in
+    let back : c.from_residual.result ≡ Err e = grind (arith, common_steps) in
+    rw back
+    (ap (λ (x : ℕ). drawn_row x (0 ∷ 0 ∷ 0 ∷ 0 ∷ 0 ∷ 0 ∷ 0 ∷ 0 ∷ []) c.args.s) (sym (number_twelve (h.i - 1 + 1) h.source e c.in_err-d.ensures))
+    ∙ (place_refused c.args.s h.row h.source (h.i - 1) (drawn_of h.source (Err e)) (omega arith) c.in_err-d.ensures (not_zero e) ∙ h.invariant))
 
-pub bounds-row-j : goal.bounds-row-j
-bounds-row-j c =
-    let drawn-below : c.number-d.result.value < 8 = let i = c.loop-i.i in
-    let s = c.loop-i.source in
-    let h : (number (i + 1) s).value < i + 1 = tried_below s 64 (i + 1) s (omega arith) in
-    let k : c.number-d.result.value < i + 1 = subst (λ (d : Drawn). d.value < i + 1) (sym c.number-d.ensures) h in
-    omega (arith, c.loop-i.invariant.0) in
-    drawn-below
-
-pub bounds-row-j-in-loop-i : goal.bounds-row-j-in-loop-i
-bounds-row-j-in-loop-i c =
-    let drawn-below : c.number-d.result.value < 8 = let i = c.loop-i.i in
-    let s = c.loop-i.source in
-    let h : (number (i + 1) s).value < i + 1 = tried_below s 64 (i + 1) s (omega arith) in
-    let k : c.number-d.result.value < i + 1 = subst (λ (d : Drawn). d.value < i + 1) (sym c.number-d.ensures) h in
-    omega (arith, c.loop-i.invariant.0) in
-    drawn-below
+pub swap-requires-clause-b_in_bounds : goal.swap-requires-clause-b_in_bounds
+swap-requires-clause-b_in_bounds c = let h = c.loop-i in
+    omega (arith, drawn_below (h.i - 1 + 1) h.source (drawn_of h.source (Ok c.in_ok-d.d)) c.in_ok-d.ensures (omega arith))
 
 pub loop-i-preserved : goal.loop-i-preserved
-loop-i-preserved c = let h = c.loop-i in (
-  omega (arith, h.invariant.0),
-  place_done c.args.s h.row h.source h.i c.number-d.result c.loop-i-test.true c.number-d.ensures c.if-d-ne0.false
-      ∙ h.invariant.1,
-)
+loop-i-preserved c = let h = c.loop-i in
+    let j = c.in_ok-d.d.value in
+    let d = drawn_of h.source (Ok c.in_ok-d.d) in
+    let low : j < length h.row = omega (arith, drawn_below (h.i - 1 + 1) h.source d c.in_ok-d.ensures (omega arith)) in
+    rw (c.swap.ensures.after, ← swap_is h.row (h.i - 1) j 0 (omega arith) low)
+    (place_done c.args.s h.row h.source (h.i - 1) d (omega arith) c.in_ok-d.ensures refl ∙ h.invariant)
 
 pub returns : goal.returns
 unfolding shuffled
-returns c = rw (le-zero c.loop-i-test.false) at c.loop-i.invariant.1
+returns c =
+    let none : c.loop-i.i - 1 ≡ 0 = omega arith in
+    rw none at c.loop-i.invariant

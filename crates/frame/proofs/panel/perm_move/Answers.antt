@@ -3,6 +3,7 @@ use Prim.Native.Nat.{ℕ, ◌≤◌}
 use mathlib.Core.Path.{◌≡◌, ◌∙◌}
 use lib.Ieee.{of_int, of_bits}
 use lib.ListN.{take, replicate, length-replicate}
+use Rattle.paper.specs.Answer.Cases.{answer_of}
 use Rattle.laws.specs.KeepsPlain.{keeps_none}
 use Rattle.lemmas.specs.Cells.{table}
 use Rattle.frame.specs.Back.{reversed_of}
@@ -22,5 +23,5 @@ returns c = record {
   members = _;
   found = _;
   grey_found = _;
-  answers = rw (none-pinned c.args.n c.requires.n_high) at (keeps_none _ _ _ _ c.overlap_step.result _ _ c.overlap_step.ensures).answers;
+  answers = rw (none-pinned c.args.n c.requires.n_high) at (keeps_none _ _ _ _ (answer_of c.overlap_step.result) _ _ c.overlap_step.ensures).answers;
 }

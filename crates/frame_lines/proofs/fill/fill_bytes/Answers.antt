@@ -1,4 +1,4 @@
--- `frame::fill::fill_bytes` meets its contract: what was passed is filled.
+-- `frame_lines::fill::fill_bytes` meets its contract: what was passed is filled.
 use Prim.Native.Nat.{ℕ, ◌+◌, ◌*◌, ◌≤◌}
 use mathlib.Core.Path.{◌≡◌, sym, ◌∙◌}
 use mathlib.Core.List.{List}

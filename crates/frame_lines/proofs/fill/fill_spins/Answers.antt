@@ -1,4 +1,4 @@
--- `frame::fill::fill_spins` meets its contract: what was passed is filled.
+-- `frame_lines::fill::fill_spins` meets its contract: what was passed is filled.
 use Prim.Native.Nat.{◌+◌, ◌*◌, ◌≤◌}
 use mathlib.Core.Path.{◌≡◌, ◌∙◌, ap}
 use mathlib.Core.List.{List, map}

@@ -1,5 +1,4 @@
--- `frame::fill::fill_spins` meets its contract: what was passed is filled.
-use Prim.Native.Nat.{◌-◌}
+-- `frame_lines::fill::fill_spins` meets its contract: what was passed is filled.
 use mathlib.Core.List.{map}
 use lib.ListN.{drop}
 use Rattle.paper.specs.Answer.Frame.{bytes, signed}
@@ -8,6 +7,3 @@ use Rattle.frame_lines.proofs.fill.fill_spins.Given as goal
 
 abbrev pub invariant-loop-k : goal.invariant-loop-k
 invariant-loop-k l = Filling (map signed (bytes (drop l.at l.text))) l.initial.spins l.count l.k l.spins
-
-abbrev pub decreases-loop-k : goal.decreases-loop-k
-decreases-loop-k l = l.count - l.k

@@ -1,4 +1,4 @@
--- `frame::fill::fill_words` meets its contract: what was passed is filled.
+-- `frame_lines::fill::fill_words` meets its contract: what was passed is filled.
 use Prim.Native.Nat.{ℕ}
 use mathlib.Core.Path.{◌≡◌, ◌∙◌}
 use mathlib.Core.List.{List}

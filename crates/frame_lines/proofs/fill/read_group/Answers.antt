@@ -1,4 +1,4 @@
--- `frame::fill::read_group` meets its contract: what was passed is filled, and the rest stays nought.
+-- `frame_lines::fill::read_group` meets its contract: what was passed is filled, and the rest stays nought.
 use Prim.Native.Nat.{ℕ, ◌+◌, ◌*◌, ◌≤◌}
 use mathlib.Core.Path.{◌≡◌, sym, ◌∙◌}
 use mathlib.Core.List.{List}
@@ -20,15 +20,15 @@ overflow_add-at-in-loop-k c =
     let fits : c.args.at + 2 * c.args.len + 3 ≤ length c.args.text.now = line_fits 0x13 _ _ _ (omega arith) c.requires.frame in
     omega (arith, fits)
 
-pub byte_at-b-requires : goal.byte_at-b-requires
-byte_at-b-requires c = line_two 0x13 _ _ _ (omega arith) c.requires.frame _ c.loop-k-test.true
+pub byte_at-requires : goal.byte_at-requires
+byte_at-requires c = line_two 0x13 _ _ _ (omega arith) c.requires.frame _ c.loop-k-test.true
 
 pub loop-k-preserved : goal.loop-k-preserved
 loop-k-preserved c =
     let X : List ℕ = bytes (drop c.args.at c.args.text.now) in
     let long : length X ≡ c.args.len = c.requires.frame.long in
-    let entry : c.byte_at-b.result ≡ get_or X c.loop-k.k 0 = c.byte_at-b.ensures ∙ sym (line_byte 0x13 c.args.len c.args.text.now c.args.at (omega arith) c.requires.frame _
-    c.loop-k-test.true) in
+    let entry : c.from.result ≡ get_or X c.loop-k.k 0 = c.from.ensures ∙ (c.byte_at.ensures ∙ sym (line_byte 0x13 c.args.len c.args.text.now c.args.at (omega arith) c.requires.frame _
+    c.loop-k-test.true)) in
     filling_more X _ _ long _ _ _ 0 c.loop-k.invariant c.loop-k-test.true c.requires.fits entry
 
 pub returns : goal.returns

@@ -1,4 +1,4 @@
--- `frame::lines::line_at` meets its contract: a line that is spelt ends where the digits do.
+-- `frame_lines::lines::line_at` meets its contract: a line that is spelt ends where the digits do.
 use mathlib.Core.Path.{sym, ◌∙◌}
 use native.Mathlib.Omega.{arith}
 use lib.ListN.{drop}

@@ -1,4 +1,4 @@
--- `frame::put::put_byte` meets its contract.
+-- `frame_lines::put::put_byte` meets its contract.
 use Rattle.frame_lines.specs.Writing.{two_digits}
 use Rattle.frame_lines.proofs.put.put_byte.Goals as goal
 

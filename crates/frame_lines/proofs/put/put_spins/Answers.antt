@@ -1,4 +1,4 @@
--- `frame::put::put_spins` meets its contract: a byte a turn.
+-- `frame_lines::put::put_spins` meets its contract: a byte a turn.
 use Prim.Native.Nat.{ℕ, ◌+◌, ◌*◌, ◌≤◌}
 use mathlib.Core.Path.{◌≡◌, sym, ◌∙◌, ap}
 use mathlib.Core.List.{List, [], ◌∷◌, map}

@@ -1,4 +1,4 @@
--- `frame::put::put_word` meets its contract.
+-- `frame_lines::put::put_word` meets its contract.
 use Prim.Native.Nat.{◌/◌, ◌%◌}
 use Rattle.frame_lines.specs.Writing.{four_digits}
 use Rattle.frame_lines.proofs.put.put_word.Goals as goal

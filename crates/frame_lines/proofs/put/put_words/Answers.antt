@@ -1,4 +1,4 @@
--- `frame::put::put_words` meets its contract: two bytes a turn.
+-- `frame_lines::put::put_words` meets its contract: two bytes a turn.
 use Prim.Native.Nat.{ℕ, ◌+◌, ◌*◌, ◌≤◌}
 use mathlib.Core.Path.{◌≡◌, sym, ◌∙◌, ap}
 use mathlib.Core.List.{List, [], ◌∷◌}

@@ -1,4 +1,4 @@
--- `frame::scan::sizes_in` meets its contract: the sizes stand at the places 2, 6 and 8.
+-- `frame_lines::scan::sizes_in` meets its contract: the sizes stand at the places 2, 6 and 8.
 use Prim.Native.Nat.{ℕ, ◌+◌, ◌*◌, ◌<◌}
 use mathlib.Core.Path.{◌≡◌, sym, ◌∙◌}
 use native.Mathlib.Omega.{arith}
@@ -25,7 +25,7 @@ byte_at-s-requires c =
 pub returns : goal.returns
 returns c =
     let byte : (k : ℕ) → k < 4 → byte_at c.args.text.now (0 + 2 * k + 2) ≡ get_or (bytes c.args.text.now) k 0 = λ k l. sym (line_byte 0x10 4 c.args.text.now 0 (omega arith) c.requires k l) in
-    let n = c.word_at-n.ensures ∙ (λ i. 256 * byte 0 (omega arith) i + byte 1 (omega arith) i) in
-    let d = c.byte_at-d.ensures ∙ byte 2 (omega arith) in
-    let e = c.byte_at-s.ensures ∙ byte 3 (omega arith) in
+    let n = c.wide.ensures ∙ (c.word_at-n.ensures ∙ (λ i. 256 * byte 0 (omega arith) i + byte 1 (omega arith) i)) in
+    let d = c.from.ensures ∙ (c.byte_at-d.ensures ∙ byte 2 (omega arith)) in
+    let e = c.from-2.ensures ∙ (c.byte_at-s.ensures ∙ byte 3 (omega arith)) in
     λ i. record { n = n i; d = d i; s = e i }

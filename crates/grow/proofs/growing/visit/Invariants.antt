@@ -1,5 +1,4 @@
 -- `visit` meets its contract.
-use Prim.Native.Nat.{◌-◌}
 use Rattle.grow.specs.Kept.{Keeping}
 use Rattle.grow.specs.Growth.{Visiting}
 use Rattle.grow.specs.Contract.{graph_for, ruled}
@@ -7,8 +6,6 @@ use Rattle.grow.proofs.growing.visit.Given as goal
 
 abbrev pub invariant-loop-e : goal.invariant-loop-e
 invariant-loop-e l = Keeping
-    (Visiting (graph_for l.rule.task l.fwd) (ruled l.rule l.fwd l.spins l.couplings l.cuts) l.rule.task.seed l.i l.initial.members l.initial.list l.start l.e l.members l.list l.len)
+    (Visiting (graph_for l.rule.task l.fwd) (ruled l.rule l.fwd l.spins l.couplings l.cuts) l.rule.task.seed l.i l.initial.members l.initial.list l.start
+    l.e l.members l.list l.len)
     l.rule.task l.spins l.members l.cols
-
-abbrev pub decreases-loop-e : goal.decreases-loop-e
-decreases-loop-e l = l.d - l.e

@@ -11,4 +11,4 @@ bring_listed-requires-clause-spun c = spun c.requires.writable c.write_listed.en
 pub returns-then-totals-clause-totals_after : goal.returns-then-totals-clause-totals_after
 returns-then-totals-clause-totals_after c =
     let keeps : keeps_by c.args.t.keeps c.args.t.form ≡ true = sym c.totals.ensures ∙ c.if-totals.true in
-    totals_kept c.requires.writable c.write_listed.ensures (c.requires.when_2 keeps) keeps c.bring_listed.ensures
+    totals_kept c.requires.writable c.write_listed.ensures (c.requires.olds_read keeps) keeps c.bring_listed.ensures

@@ -5,6 +5,7 @@ use native.Mathlib.Nat.{mul-le-mul}
 use lib.Seq.{length-take-le}
 use Rattle.paper.specs.Panel.Input.{Call, Choices}
 use Rattle.paper.specs.Panel.Made.{call_of, choices_of}
+use Rattle.paper.specs.Answer.Cases.{answer_by}
 use Rattle.packing.specs.Bytes.{rows_of}
 use Rattle.packed.specs.Grown.{room, written_is, grow_asks, after_long, grown_leaves}
 use Rattle.packed.proofs.grown.run_grown.Goals as goal
@@ -34,7 +35,7 @@ pack-requires c =
       few = s.ranged.size_high;
       inside = λ j h.
           room call_at choicesAt c.args.columns.now c.args.members.now k j h
-          (after_long call_at choicesAt c.args.columns.now c.args.members.now k _ stands c.run_grow-answer.result _ _
+          (after_long call_at choicesAt c.args.columns.now c.args.members.now k _ stands (answer_by c.run_grow-answer.result) _ _
           c.run_grow-answer.ensures.answers);
       long = k.long;
     }
@@ -46,5 +47,5 @@ returns c =
     let high : c.args.t.group.len * c.args.t.n ≤ 32768 = let r = c.requires.grown_asks.rows.valid.sound.ranged in mul-le-mul r.size_high r.lattice.n_high in
     let stands : c.write_rows.new.spins ≡ rows_of c.args.t.group.len c.args.columns.now = written_is call_at choicesAt c.args.columns.now c.args.members.now c.requires.grown_asks _ _
     (length-take-le (c.args.t.group.len * c.args.t.n) _ high) c.write_rows.ensures in
-    grown_leaves call_at choicesAt c.args.columns.now c.args.members.now c.requires.grown_asks _ stands c.run_grow-answer.result _ _
+    grown_leaves call_at choicesAt c.args.columns.now c.args.members.now c.requires.grown_asks _ stands (answer_by c.run_grow-answer.result) _ _
     c.run_grow-answer.ensures.answers _ c.pack.ensures _ _ _ c.run_grow-answer.ensures.totals_after

@@ -1,5 +1,4 @@
 -- `owners::own_rows_ok` meets its contract: after t turns the flag tells of the systems before t.
-use Prim.Native.Nat.{◌-◌}
 use mathlib.Core.Path.{◌≡◌}
 use mathlib.Core.Bool.{true}
 use Rattle.lemmas.specs.Tells.{Flagged}
@@ -10,6 +9,3 @@ use Rattle.systems.proofs.owners.own_rows_ok.Given as goal
 
 abbrev pub invariant-loop-t : goal.invariant-loop-t
 invariant-loop-t l = Flagged l.s (λ u. own (team_of l.team l.owners) u ≡ true → RowSpins l.n l.s l.spins u) l.t l.ok
-
-abbrev pub decreases-loop-t : goal.decreases-loop-t
-decreases-loop-t l = l.s - l.t

@@ -1,5 +1,5 @@
 -- `owners::read_order` meets its contract: after k turns the first k entries are written.
-use Prim.Native.Nat.{◌-◌, ◌≤◌}
+use Prim.Native.Nat.{◌≤◌}
 use lib.ListN.{get_or}
 use Rattle.lemmas.specs.Stores.{Filled}
 use Rattle.paper.specs.Answer.Team.{read}
@@ -8,6 +8,3 @@ use Rattle.systems.proofs.owners.read_order.Given as goal
 
 abbrev pub invariant-loop-k : goal.invariant-loop-k
 invariant-loop-k l = (l.k ≤ l.len) × Filled 0 (λ j. read (team_of l.team l.owners) l.s (get_or l.order j 0)) l.k l.initial.named l.named
-
-abbrev pub decreases-loop-k : goal.decreases-loop-k
-decreases-loop-k l = l.len - l.k

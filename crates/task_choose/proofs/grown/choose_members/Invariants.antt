@@ -1,5 +1,5 @@
--- `choose_members` meets its contract. The invariant: the members below `from` have their columns.
-use Prim.Native.Nat.{ℕ, ◌-◌}
+-- `choose_members` meets its contract. The invariant: the members below `from`, or below the end, have their columns.
+use Rattle.std.specs.Prelude.{ℕ, min}
 use mathlib.Core.Bool.{Bool, ◌&&◌}
 use mathlib.Core.List.{List}
 use lib.Dec.{eqb}
@@ -14,7 +14,4 @@ abbrev pub new : Task → ℕ → List ℤ → List ℕ → List ℕ → List �
 new t gauge rows choices greys takers free i = member_column t gauge rows choices greys (free && eqb (get_or takers i 0) 1) i
 
 abbrev pub invariant-loop-from : goal.invariant-loop-from
-invariant-loop-from l = Upto l.members (new l.t l.gauge l.rows l.choices l.greys l.takers l.free) 0 l.t.n l.from l.initial.area l.area
-
-abbrev pub decreases-loop-from : goal.decreases-loop-from
-decreases-loop-from l = l.n - l.from
+invariant-loop-from l = Upto l.members (new l.t l.gauge l.rows l.choices l.greys l.takers l.free) 0 l.t.n (min l.from l.t.n) l.initial.area l.area

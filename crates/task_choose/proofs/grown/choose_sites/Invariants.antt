@@ -1,5 +1,5 @@
 -- `choose_sites` meets its contract. The invariant: the members below i have their columns.
-use Prim.Native.Nat.{ℕ, ◌-◌}
+use Prim.Native.Nat.{ℕ}
 use mathlib.Core.Bool.{Bool, ◌&&◌}
 use mathlib.Core.List.{List}
 use lib.Dec.{eqb}
@@ -15,6 +15,3 @@ new t gauge rows choices greys takers free i = member_column t gauge rows choice
 
 abbrev pub invariant-loop-i : goal.invariant-loop-i
 invariant-loop-i l = Upto l.members (new l.t l.gauge l.rows l.choices l.greys l.takers l.free) l.from l.to l.i l.initial.area l.area
-
-abbrev pub decreases-loop-i : goal.decreases-loop-i
-decreases-loop-i l = l.to - l.i

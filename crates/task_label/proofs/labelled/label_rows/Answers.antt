@@ -1,5 +1,6 @@
 -- `label_rows` meets its contract: the rows are packed, and their columns labelled.
 use Rattle.paper.specs.Panel.Made.{call_of}
+use Rattle.paper.specs.Answer.Cases.{answer_by}
 use Rattle.moves.specs.Tested.{ready}
 use Rattle.moves.specs.Answered as answered
 use Rattle.task_label.specs.Labelled.{labelled_leaves}
@@ -12,7 +13,7 @@ label_task-requires c = let a = c.args in
 
 pub returns : goal.returns
 returns c = let a = c.args in
-    labelled_leaves a.t a.fwd.now a.pins.now a.couplings.now a.cuts.now a.rows.now c.label_task.result
+    labelled_leaves a.t a.fwd.now a.pins.now a.couplings.now a.cuts.now a.rows.now (answer_by c.label_task.result)
     c.label_task.ensures
     (ready (call_of a.t a.fwd.now c.requires.bwd a.pins.now a.couplings.now a.cuts.now) c.requires.choices _ c.requires.valid.sound)
     c.pack.ensures

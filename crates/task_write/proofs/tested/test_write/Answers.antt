@@ -10,7 +10,7 @@ use Rattle.paper.specs.Panel.Made.{call_of}
 use Rattle.paper.specs.Panel.Takes.{grows_by, keeps_by}
 use Rattle.paper.specs.Refusal.Rule.{Kept}
 use Rattle.paper.specs.Refusal.Rules.{When, group_names, Named, Spins, Inverse, SmallCouplings}
-use Rattle.paper.specs.Refusal.Verdict.{Verdict, verdict_kept, verdict_later}
+use Rattle.paper.specs.Refusal.Verdict.{Verdict, verdict_later}
 use Rattle.paper.specs.Answer.Totals.{SmallTotals}
 use Rattle.systems.specs.Rows.{small_named}
 use Rattle.task_steps.specs.Write.{Shape, shape_of, Writing, writing_of, Columned, write_rules}
@@ -24,8 +24,8 @@ returns-then-not-group_totals_fit c =
     let keepingAt : Bool = keeps_by c.args.t.keeps c.args.t.form in
     let shape_at : Shape = let a = c.args in shape_of (call_of a.t a.fwd.now a.bwd.now [] a.couplings.now []) in
     let lent_at : Writing = let a = c.args in writing_of a.rows.now a.members.now a.area.now a.totals.now in
-    let head : Verdict (head_rules keepingAt shape_at lent_at) c.test_lengths-lengths.result = head_of keepingAt shape_at lent_at c.test_lengths-lengths.result c.test_lengths-lengths.ensures in
-    let k1 : Kept (head_rules keepingAt shape_at lent_at) = verdict_kept (head_rules keepingAt shape_at lent_at) c.test_lengths-lengths.result c.if-lengths-ne0.false head in
+    let head : Verdict (head_rules keepingAt shape_at lent_at) 0 = head_of keepingAt shape_at lent_at 0 c.in_ok-test_lengths.ensures in
+    let k1 : Kept (head_rules keepingAt shape_at lent_at) = head in
     let past : (r : ℕ) → Verdict (tail_rules keepingAt shape_at lent_at) r → Verdict (write_rules keepingAt shape_at lent_at) r = λ r v. verdict_later (head_rules keepingAt shape_at lent_at) (tail_rules keepingAt shape_at lent_at) r k1 v in
     let k3 : Spins c.args.t.n (Named c.args.t.s (group_names c.args.t.group)) c.args.rows.now = passed c.group_rows_ok.result (ap not c.if-not-group_rows_ok.false) c.group_rows_ok.ensures in
     let k3-area : Columned shape_at lent_at = passed c.area_ok.result (ap not c.if-not-area_ok.false) c.area_ok.ensures in

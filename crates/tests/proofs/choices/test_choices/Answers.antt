@@ -1,4 +1,6 @@
 -- `test_choices` meets its contract: the seed is tested past the choices.
+use Rattle.std.specs.Prelude.{◌≡◌, Err}
+use Rattle.std.proofs.lemmas.Grind.{common_steps}
 use mathlib.Core.Path.{refl}
 use mathlib.Core.List.{[]}
 use mathlib.Core.Logic.{inl}
@@ -7,21 +9,25 @@ use native.Mathlib.Omega.{arith}
 use Rattle.lemmas.specs.Tells.{passed, refused}
 use Rattle.paper.specs.Panel.Made.{choices_of}
 use Rattle.paper.specs.Refusal.Rule.{Kept}
-use Rattle.paper.specs.Refusal.Verdict.{verdict_kept, verdict_later}
-use Rattle.tests.specs.Choices.{EveryCall, chosen_rules, seed_rules, chosen_broken}
+use Rattle.paper.specs.Refusal.Verdict.{verdict_later}
+use Rattle.paper.specs.Refusal.Numbers.{refused_first}
+use Rattle.tests.specs.Choices.{EveryCall, chosen_rules, seed_rules}
 use mathlib.Core.Bool.{not}
 use mathlib.Core.Path.{ap}
 use Rattle.tests.proofs.choices.test_choices.Goals as goal
 
-pub returns-then-chosen-ne0 : goal.returns-then-chosen-ne0
-returns-then-chosen-ne0 c = let a = c.args in
-    chosen_broken a.t a.cuts.now (choices_of a.choices.now a.greys.now) a.spins.now c.test_chosen-chosen.result c.if-chosen-ne0.true
-    c.test_chosen-chosen.ensures
+pub returns-in_err-test_chosen : goal.returns-in_err-test_chosen
+returns-in_err-test_chosen c =
+    let back : c.from_residual.result ≡ Err c.in_err-test_chosen.field-0.0 = grind (arith, common_steps) in
+    λ d s temperature fwd bwd pins couplings.
+    let a = c.args in
+    rw back
+    (refused_first (chosen_rules _ (choices_of a.choices.now a.greys.now)) (seed_rules _ a.spins.now) c.in_err-test_chosen.field-0.0
+    (c.in_err-test_chosen.ensures d s temperature fwd bwd pins couplings))
 
 pub seed_ok-requires : goal.seed_ok-requires
 seed_ok-requires c =
-    let k9 : let a = c.args in EveryCall a.t a.cuts.now (λ c. Kept (chosen_rules c (choices_of a.choices.now a.greys.now))) = λ d s temperature fwd bwd pins couplings. verdict_kept (chosen_rules _ (choices_of _ _)) c.test_chosen-chosen.result c.if-chosen-ne0.false
-    (c.test_chosen-chosen.ensures d s temperature fwd bwd pins couplings) in
+    let k9 : let a = c.args in EveryCall a.t a.cuts.now (λ c. Kept (chosen_rules c (choices_of a.choices.now a.greys.now))) = λ d s temperature fwd bwd pins couplings. c.in_ok-test_chosen.ensures d s temperature fwd bwd pins couplings in
     record {
       n_high = c.requires.n_high;
       size_low = omega (arith, c.requires.size_low);
@@ -33,8 +39,7 @@ seed_ok-requires c =
 
 pub returns-then-not-seed_ok : goal.returns-then-not-seed_ok
 returns-then-not-seed_ok c =
-    let k9 : let a = c.args in EveryCall a.t a.cuts.now (λ c. Kept (chosen_rules c (choices_of a.choices.now a.greys.now))) = λ d s temperature fwd bwd pins couplings. verdict_kept (chosen_rules _ (choices_of _ _)) c.test_chosen-chosen.result c.if-chosen-ne0.false
-    (c.test_chosen-chosen.ensures d s temperature fwd bwd pins couplings) in
+    let k9 : let a = c.args in EveryCall a.t a.cuts.now (λ c. Kept (chosen_rules c (choices_of a.choices.now a.greys.now))) = λ d s temperature fwd bwd pins couplings. c.in_ok-test_chosen.ensures d s temperature fwd bwd pins couplings in
     λ d s temperature fwd bwd pins couplings.
     let a = c.args in
     let t = c.seed_ok.ensures a.cuts.now d s temperature fwd bwd pins couplings in
@@ -43,8 +48,7 @@ returns-then-not-seed_ok c =
 
 pub returns : goal.returns
 returns c =
-    let k9 : let a = c.args in EveryCall a.t a.cuts.now (λ c. Kept (chosen_rules c (choices_of a.choices.now a.greys.now))) = λ d s temperature fwd bwd pins couplings. verdict_kept (chosen_rules _ (choices_of _ _)) c.test_chosen-chosen.result c.if-chosen-ne0.false
-    (c.test_chosen-chosen.ensures d s temperature fwd bwd pins couplings) in
+    let k9 : let a = c.args in EveryCall a.t a.cuts.now (λ c. Kept (chosen_rules c (choices_of a.choices.now a.greys.now))) = λ d s temperature fwd bwd pins couplings. c.in_ok-test_chosen.ensures d s temperature fwd bwd pins couplings in
     λ d s temperature fwd bwd pins couplings.
     let a = c.args in
     let t = c.seed_ok.ensures a.cuts.now d s temperature fwd bwd pins couplings in

@@ -12,5 +12,6 @@ pub returns : goal.returns
 returns c =
     let known : let a = c.args in Coded a.mode a.form 0 0 = passed c.codes_ok.result (ap not c.if-not-codes_ok.false) c.codes_ok.ensures in
     let a = c.args in
-    choose_known (same_call_at c.mode_of-m.ensures c.form_of.ensures one)
-    (same_choices a.flips.now a.perms.now c.taken.ensures c.mode_of-m.ensures) known c.task_choose.ensures
+    rw c.verdict_of.ensures
+    (choose_known (same_call_at c.mode_of-m.ensures c.form_of.ensures one)
+    (same_choices a.flips.now a.perms.now c.taken.ensures c.mode_of-m.ensures) known c.task_choose.ensures)

@@ -12,6 +12,7 @@ pub returns : goal.returns
 returns c =
     let known : let a = c.args in Coded a.mode a.form 0 a.keeps = passed c.codes_ok.result (ap not c.if-not-codes_ok.false) c.codes_ok.ensures in
     let a = c.args in
-    test_known (same_keeping c.keeps_of.ensures c.form_of.ensures)
+    rw c.verdict_of.ensures
+    (test_known (same_keeping c.keeps_of.ensures c.form_of.ensures)
     (same_sweep a.flips.now a.perms.now c.keeps_of.result (keeps_of a.keeps) c.mode_of-m.ensures c.form_of.ensures) known
-    (rw c.taken.ensures at c.test_sweep.ensures)
+    (rw c.taken.ensures at c.test_sweep.ensures))

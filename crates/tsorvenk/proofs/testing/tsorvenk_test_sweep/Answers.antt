@@ -4,13 +4,15 @@ use lib.ListN.{length-replicate}
 use Rattle.paper.specs.Panel.Input.{Buffers}
 use Rattle.paper.specs.Panel.Made.{buffers_of}
 use Rattle.paper.specs.Refusal.Verdict.{verdict_kept}
+use Rattle.paper.specs.Refusal.Numbers.{verdict_of}
+use mathlib.Core.Path.{◌≡◌}
 use Rattle.paper.specs.Answer.Task.{Sweep}
 use Rattle.paper.specs.Answer.Made.{sweep_of}
 use Rattle.paper.specs.Answer.Team.{Team, owner_rules}
 use Rattle.systems.specs.Owners.{team_of}
 use Rattle.tsorvenk.specs.Number.{mode_of, form_of, keeps_of, taken_of}
 use Rattle.tsorvenk.specs.Sweep.{plan_for}
-use Rattle.tsorvenk.proofs.Teams.{owner_told}
+use Rattle.tsorvenk.proofs.Teams.{not_refused, owner_told}
 use Rattle.tsorvenk.proofs.Tasks.{test_read}
 use Rattle.tsorvenk.proofs.testing.tsorvenk_test_sweep.Goals as goal
 
@@ -24,8 +26,9 @@ returns c =
     let B : Buffers = let a = c.args in
     buffers_of a.spins.now a.labels.now a.grey_labels.now a.counts.now a.sizes.now a.member_sites.now a.found.now
     a.grey_found.now in
+    let accepted : verdict_of c.test_owners.result ≡ 0 = not_refused c.test_owners.result c.in_default.not-Err in
     let a = c.args in
-    owner_told team a.s c.test_owners-fault.result c.test.result c.if-fault-ne0.false c.test_owners-fault.ensures
+    owner_told team a.s (verdict_of c.test_owners.result) c.test.result accepted c.test_owners.ensures
     (test_read team W a.mode a.form a.keeps B a.totals.now c.test.result c.own_count-systems.result c.read_order-len.result _ _
-    (verdict_kept (owner_rules team c.args.s) c.test_owners-fault.result c.if-fault-ne0.false c.test_owners-fault.ensures) c.own_count-systems.ensures (length-replicate {A = ℕ} 64 0)
+    (verdict_kept (owner_rules team c.args.s) (verdict_of c.test_owners.result) accepted c.test_owners.ensures) c.own_count-systems.ensures (length-replicate {A = ℕ} 64 0)
     c.read_order-len.ensures c.test.ensures)

@@ -1,2 +1,0 @@
--- What the buffers of a case have room for.
-pub mod Sizes
