@@ -1,5 +1,5 @@
 -- A promise allows one answer, one content of every buffer and one of the totals.
-use Rattle.std.specs.Prelude.{ℕ, ◌≡◌, refl, Bool, true, false, List, ℤ, Result}
+use Rattle.std.specs.Prelude.{ℕ, ◌≡◌, refl, Bool, true, false, List, [], ℤ, Result}
 use Rattle.paper.specs.declared.Refusal.{Refusal}
 use Rattle.paper.specs.declared.Outcome.{Outcome}
 use Rattle.paper.specs.declared.Counts.{Counts}
@@ -90,12 +90,26 @@ pub step_by_numbers_determined :
     → SameKept a y us a' z vs
 step_by_numbers_determined = overlap_step_by_determined true
 
+pub step_by_numbers_result_determined :
+    (keeping : Bool) (c : Call) (p : Choices) (b : Buffers) (ts : List ℤ) (y z : Buffers) (us vs : List ℤ) (a a' : Result Outcome Refusal)
+    → CodedAnswers true keeping c p b ts (answer_of a) y us
+    → CodedAnswers true keeping c p b ts (answer_of a') z vs
+    → a ≡ a'
+step_by_numbers_result_determined = overlap_step_by_result_determined true
+
 pub update_by_numbers_determined :
     (keeping : Bool) (w : Sweep) (b : Buffers) (ts : List ℤ) (y z : Buffers) (us vs : List ℤ) (a a' : SweepAnswer)
     → SweepCodedAnswers true keeping w b ts a y us
     → SweepCodedAnswers true keeping w b ts a' z vs
     → SameSweepKept a y us a' z vs
 update_by_numbers_determined = overlap_update_by_determined true
+
+pub update_by_numbers_result_determined :
+    (keeping : Bool) (w : Sweep) (b : Buffers) (ts : List ℤ) (y z : Buffers) (us vs : List ℤ) (a a' : Result Counts Refusal)
+    → SweepCodedAnswers true keeping w b ts (sweep_answer_of a) y us
+    → SweepCodedAnswers true keeping w b ts (sweep_answer_of a') z vs
+    → a ≡ a'
+update_by_numbers_result_determined = overlap_update_by_result_determined true
 
 -- on bytes
 module _
@@ -121,6 +135,18 @@ module _
           totals = u.totals_kept ∙ sym o.totals_kept;
         }
 
+pub packed_step_by_result_determined :
+    (coded keeping : Bool) (c : Call) (p : Choices) (xs ys zs l g q s e f h l₁ g₁ q₁ s₁ e₁ f₁ h₁ l₂ g₂ q₂ s₂ e₂ f₂ h₂ : List ℕ) (ts us vs : List ℤ)
+    (a a' : Result Outcome Refusal)
+    → PackedCoded coded keeping c p xs (lent_of l g q s e f h) ts (answer_of a) ys (lent_of l₁ g₁ q₁ s₁ e₁ f₁ h₁) us
+    → PackedCoded coded keeping c p xs (lent_of l g q s e f h) ts (answer_of a') zs (lent_of l₂ g₂ q₂ s₂ e₂ f₂ h₂) vs
+    → a ≡ a'
+packed_step_by_result_determined coded keeping c p xs ys zs l g q s e f h l₁ g₁ q₁ s₁ e₁ f₁ h₁ l₂ g₂ q₂ s₂ e₂ f₂ h₂ ts us vs a a' w v =
+    let same =
+    packed_step_by_determined coded keeping c p xs ys zs l g q s e f h l₁ g₁ q₁ s₁ e₁ f₁ h₁ l₂ g₂ q₂ s₂ e₂ f₂ h₂ ts us vs (answer_of a) (answer_of a') w
+    v [] in
+    answer_of_injective a a' same.answer
+
 pub packed_by_numbers_determined :
     (keeping : Bool) (c : Call) (p : Choices) (xs ys zs l g q s e f h l₁ g₁ q₁ s₁ e₁ f₁ h₁ l₂ g₂ q₂ s₂ e₂ f₂ h₂ : List ℕ) (ts us vs : List ℤ) (a a' : Answer)
     → PackedCoded true keeping c p xs (lent_of l g q s e f h) ts a ys (lent_of l₁ g₁ q₁ s₁ e₁ f₁ h₁) us
@@ -128,3 +154,11 @@ pub packed_by_numbers_determined :
     → (xs' : List ℤ)
     → SamePacked a ys (lent_of l₁ g₁ q₁ s₁ e₁ f₁ h₁ xs') us a' zs (lent_of l₂ g₂ q₂ s₂ e₂ f₂ h₂ xs') vs
 packed_by_numbers_determined = packed_step_by_determined true
+
+pub packed_by_numbers_result_determined :
+    (keeping : Bool) (c : Call) (p : Choices) (xs ys zs l g q s e f h l₁ g₁ q₁ s₁ e₁ f₁ h₁ l₂ g₂ q₂ s₂ e₂ f₂ h₂ : List ℕ) (ts us vs : List ℤ)
+    (a a' : Result Outcome Refusal)
+    → PackedCoded true keeping c p xs (lent_of l g q s e f h) ts (answer_of a) ys (lent_of l₁ g₁ q₁ s₁ e₁ f₁ h₁) us
+    → PackedCoded true keeping c p xs (lent_of l g q s e f h) ts (answer_of a') zs (lent_of l₂ g₂ q₂ s₂ e₂ f₂ h₂) vs
+    → a ≡ a'
+packed_by_numbers_result_determined = packed_step_by_result_determined true

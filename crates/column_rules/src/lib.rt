@@ -118,8 +118,9 @@ pub fn flip_group_site(column: u8, group: Group, mode: Mode) -> u8
     let len = group.len;
     match mode {
         Mode::Houd => joined(255 - column, column, 2 * (len / 2), len),
-        Mode::Pair | Mode::Jorg => joined(exchanged(column), column, 2 * (len / 2), len),
+        Mode::Pair => joined(exchanged(column), column, 2 * (len / 2), len),
         Mode::Perm | Mode::Gperm => low(column, len),
+        Mode::Jorg => joined(exchanged(column), column, 2 * (len / 2), len),
         Mode::Cmr => low(255 - column, len),
     }
 }

@@ -42,12 +42,14 @@ fn pack_row(row: &[i8], weight: u8, cols: &mut [u8])
     }
 }
 
-// Copies columns.
+// Copies columns, one by one: std's `copy_from_slice` has the archive need memmove from outside.
 pub fn copy(cols: &[u8], to: &mut [u8])
     requires { length cols.now ≡ length to.old }
     ensures { to.new ≡ cols.now }
 {
-    to.copy_from_slice(cols);
+    for (i, column) in to.iter_mut().enumerate() {
+        *column = cols[i];
+    }
 }
 
 // Reads the group's rows into columns: bit k is set where member k's spin is +1.
@@ -121,7 +123,8 @@ pub fn column_at(spins: &[i8], n: usize, group: Group, i: usize) -> u8
 }
 
 // The same, quicker for two members, the most common group: which places it has is not asked. Apart, so that each of the two stays small enough for
-// the compiler to make it a part of the code that asks.
+// the compiler to make it a part of the code that asks; a call for each member of a grown cluster costs a third of the step that chooses.
+#[inline(always)]
 pub fn quick_column_at(spins: &[i8], n: usize, group: Group, i: usize) -> u8
     requires { SiteIn n group spins.now i }
     ensures { result ≡ column_of group.len (pattern_of n group spins.now i) }

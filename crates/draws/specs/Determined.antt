@@ -1,16 +1,22 @@
 -- Each function has one result and leaves one content of what was lent.
-use Rattle.std.specs.Prelude.{◌≡◌, ℕ, zero, suc, ◌+◌, ◌/◌, Bool, true, false, List, length, ◌==◌}
-use Rattle.std.proofs.Common.{ap, ◌∙◌, arith, ext_get_or}
+use Rattle.std.specs.Prelude.{◌≡◌, ℕ, zero, suc, ◌+◌, ◌/◌, ◌<◌, Bool, true, false, List, [], ◌∷◌, length, ◌==◌, slice_index_or, Result}
+use Rattle.std.proofs.Common.{refl, ap, ◌∙◌, arith, ext_get_or}
 use Rattle.lemmas.specs.Determined.{one_value}
+use Rattle.paper.specs.declared.Refusal.{Refusal}
+use Rattle.paper.specs.Refusal.Numbers.{verdict_of, verdict_of_injective}
 use Rattle.paper.specs.Refusal.Rule.{Rule, broken_unique, broken_not_kept}
 use Rattle.paper.specs.Refusal.Verdict.{Verdict, verdict_unique}
 use Rattle.draws.specs.declared.Source.{Source}
-use Rattle.draws.specs.Answer.{Drawn, Row, Left}
+use Rattle.draws.specs.declared.Drawn as Drawing
+use Rattle.draws.specs.declared.Row as Rowing
+use Rattle.draws.specs.Answer.{Drawn, Row, Left, taken}
+use Rattle.draws.specs.Answer.{drawn_of, row_of, left_of, drawn_of_injective, row_of_injective, left_of_injective}
 use Rattle.draws.specs.Words.{source, stepped, is_blank}
 use Rattle.draws.specs.Draw.{left, number, flipped, within, new_of, word_of, coin_of, below_of}
 use Rattle.draws.specs.Rows.{refused_row, permuted, row_by, permutation_of}
 use Rattle.draws.specs.Promise.{WordDrawn, CoinDrawn, BelowDrawn, PermutationDrawn, FlipsFilled, BelowFilled, BytesFilled}
 use Rattle.draws.specs.Promise.{PermutationsFilled, WolffFilled, GreysFilled, NumbersFilled, WolffNumbersFilled}
+use Rattle.draws.specs.Writing.{DrawnInto}
 use Rattle.draws.specs.Fill.{Written, Fills, FillsBy, FillsRows, number_at, entry_at, stop, go_on, go_down, number_from_one, word_rules, number_rules, row_rules}
 
 pub new_determined : (a b c d : ℕ) (x y : Left) → x ≡ new_of (source a b c d) → y ≡ new_of (source a b c d) → x ≡ y
@@ -46,6 +52,9 @@ shuffle_determined n s x y = one_value
 pub row_by_determined : (moving : Bool) (n : ℕ) (s : Source) (x y : Row) → x ≡ row_by moving n s → y ≡ row_by moving n s → x ≡ y
 row_by_determined moving n s x y = one_value
 
+pub drawn_number_determined : (m : ℕ) (s : Source) (x y : Drawing.Drawn) → x ≡ taken (number m s) → y ≡ taken (number m s) → x ≡ y
+drawn_number_determined m s x y = one_value
+
 -- the tests
 pub word_verdict_determined : (fits : Bool) (s : Source) (x y : ℕ) → Verdict (word_rules fits s) x → Verdict (word_rules fits s) y → x ≡ y
 word_verdict_determined fits s = verdict_unique (word_rules fits s)
@@ -71,6 +80,7 @@ module _ {at : ℕ → ℕ} {t u v : Source} {xs ys zs : List ℕ} where
     buffer = ext_get_or 0 ys zs (one_value p.long q.long) (λ i l. one_value (p.each i (omega (arith, p.long))) (q.each i (omega (arith, p.long))));
   }
 
+-- what `write` leaves with the closures of the fills: coins, numbers below m, and these with `plus` added
 pub write_flips_determined :
     (s u v : Source) (xs ys zs : List ℕ) → Written (number_at flipped s) (stop (go_on flipped) (length xs) s) xs u ys
     → Written (number_at flipped s) (stop (go_on flipped) (length xs) s) xs v zs → Same u v ys zs
@@ -87,10 +97,56 @@ pub write_bytes_determined :
     → Written (λ j. number_at (number m) s j + plus) (stop (go_on (number m)) (length xs) s) xs v zs → Same u v ys zs
 write_bytes_determined plus m s u v xs ys zs = same_written
 
+-- what `write_rows` leaves
 pub write_rows_determined :
     (moving : Bool) (n k : ℕ) (s u v : Source) (xs ys zs : List ℕ) → Written (entry_at moving n s) (stop (go_down moving n) k s) xs u ys
     → Written (entry_at moving n s) (stop (go_down moving n) k s) xs v zs → Same u v ys zs
 write_rows_determined moving n k s u v xs ys zs = same_written
+
+-- what `write` leaves with any closure whose contract allows each source no pair but its `value` and `leaves`
+pub record SameDrawn {T : Type 0} (u v : Source) (ys zs : List T) : Type 0 where
+  pub source : u ≡ v
+  pub places : ys ≡ zs
+
+same_places : {T : Type 0} (ys zs : List T) → length ys ≡ length zs
+    → ((j : ℕ) (d : T) → j < length ys → slice_index_or ys j d ≡ slice_index_or zs j d) → ys ≡ zs
+same_places [] [] e h = refl
+same_places [] (z ∷ zs) e h = absurd (omega (arith, e))
+same_places (y ∷ ys) zs e h = ext_get_or y (y ∷ ys) zs e (λ j l. h j y l)
+
+pub write_determined :
+    {T : Type 0} (Draws : Source → T × Source → Type 0) (value : Source → T) (leaves : Source → Source)
+    → ((t : Source) (r : T × Source) → Draws t r → (r.0 ≡ value t) × (r.1 ≡ leaves t))
+    → (s u v : Source) (xs ys zs : List T) → DrawnInto Draws s xs u ys → DrawnInto Draws s xs v zs → SameDrawn u v ys zs
+write_determined Draws value leaves only s u v xs ys zs p q =
+    let a = p.drawn value leaves only in
+    let b = q.drawn value leaves only in
+    record {
+      source = one_value a.0 b.0;
+      places = same_places ys zs (one_value p.long q.long) (λ j d l. one_value (a.1 j d (omega (arith, p.long, l))) (b.1 j d (omega (arith, p.long, l))));
+    }
+
+-- with one whose contract allows each source one pair: some, and any two are equal
+pub record OneEach {T : Type 0} (Draws : Source → T × Source → Type 0) : Type 0 where
+  pub some : Source → T × Source
+  pub allowed : (t : Source) → Draws t (some t)
+  pub one : (t : Source) (r q : T × Source) → Draws t r → Draws t q → r ≡ q
+
+pub write_one_determined :
+    {T : Type 0} (Draws : Source → T × Source → Type 0) → OneEach Draws → (s u v : Source) (xs ys zs : List T) → DrawnInto Draws s xs u ys
+    → DrawnInto Draws s xs v zs → SameDrawn u v ys zs
+write_one_determined {T} Draws f = write_determined Draws (λ t. (f.some t).0) (λ t. (f.some t).1) only
+  where
+    only : (t : Source) (r : T × Source) → Draws t r → (r.0 ≡ (f.some t).0) × (r.1 ≡ (f.some t).1)
+    only t r k = let e = f.one t r (f.some t) k (f.allowed t) in (ap (λ (q : T × Source). q.0) e, ap (λ (q : T × Source). q.1) e)
+
+-- with one that gives what d draws
+abbrev pub Gives : (Source → Drawn) → Source → ℕ × Source → Type 0
+Gives d t r = (r.0 ≡ (d t).value) × (r.1 ≡ (d t).source)
+
+pub write_draws_determined :
+    (d : Source → Drawn) (s u v : Source) (xs ys zs : List ℕ) → DrawnInto (Gives d) s xs u ys → DrawnInto (Gives d) s xs v zs → SameDrawn u v ys zs
+write_draws_determined d = write_determined (Gives d) (λ t. (d t).value) (go_on d) (λ t r k. k)
 
 -- a fill has one number, one source and one content
 module _ (rs : List Rule) (at : ℕ → ℕ) (t s : Source) (xs : List ℕ) where
@@ -151,3 +207,87 @@ module _ (s : Source) (xs : List ℕ) (x y : Left) (ys zs : List ℕ) where
 
   pub wolff_permutations_determined : (m : ℕ) → WolffFilled m s xs x ys → WolffFilled m s xs y zs → Same x y ys zs
   wolff_permutations_determined m = by_rows true m (row_rules false true m (length xs) s)
+
+-- ---- and one result of each function
+pub new_result_determined :
+    (a b c d : ℕ) (x y : Result Source Refusal) → left_of (source a b c d) x ≡ new_of (source a b c d) → left_of (source a b c d) y ≡ new_of (source a b c d)
+    → x ≡ y
+new_result_determined a b c d x y p q = left_of_injective (source a b c d) x y (new_determined a b c d _ _ p q)
+
+module _ (s : Source) (x y : Result Drawing.Drawn Refusal) where
+  pub next_result_determined : drawn_of s x ≡ word_of s → drawn_of s y ≡ word_of s → x ≡ y
+  next_result_determined p q = drawn_of_injective s x y (next_determined s _ _ p q)
+
+  pub coin_result_determined : drawn_of s x ≡ coin_of s → drawn_of s y ≡ coin_of s → x ≡ y
+  coin_result_determined p q = drawn_of_injective s x y (coin_determined s _ _ p q)
+
+  pub below_within_result_determined : (k m : ℕ) → drawn_of s x ≡ below_of k m s → drawn_of s y ≡ below_of k m s → x ≡ y
+  below_within_result_determined k m p q = drawn_of_injective s x y (below_within_determined k m s _ _ p q)
+
+  pub below_result_determined : (m : ℕ) → drawn_of s x ≡ below_of 64 m s → drawn_of s y ≡ below_of 64 m s → x ≡ y
+  below_result_determined m p q = drawn_of_injective s x y (below_determined m s _ _ p q)
+
+module _ (s : Source) (x y : Result Rowing.Row Refusal) where
+  pub permutation_result_determined : (n : ℕ) → row_of s x ≡ permutation_of n s → row_of s y ≡ permutation_of n s → x ≡ y
+  permutation_result_determined n p q = row_of_injective s x y (permutation_determined n s _ _ p q)
+
+  pub shuffle_result_determined : (n : ℕ) → row_of s x ≡ permuted n s → row_of s y ≡ permuted n s → x ≡ y
+  shuffle_result_determined n p q = row_of_injective s x y (shuffle_determined n s _ _ p q)
+
+  pub row_by_result_determined : (moving : Bool) (n : ℕ) → row_of s x ≡ row_by moving n s → row_of s y ≡ row_by moving n s → x ≡ y
+  row_by_result_determined moving n p q = row_of_injective s x y (row_by_determined moving n s _ _ p q)
+
+-- of the tests
+module _ (s : Source) (x y : Result (Unit {0}) Refusal) where
+  pub word_verdict_result_determined : (fits : Bool) → Verdict (word_rules fits s) (verdict_of x) → Verdict (word_rules fits s) (verdict_of y) → x ≡ y
+  word_verdict_result_determined fits p q = verdict_of_injective x y (word_verdict_determined fits s _ _ p q)
+
+  pub number_verdict_result_determined :
+      (fits : Bool) (most m k : ℕ) → Verdict (number_rules fits most m k s) (verdict_of x) → Verdict (number_rules fits most m k s) (verdict_of y) → x ≡ y
+  number_verdict_result_determined fits most m k p q = verdict_of_injective x y (number_verdict_determined fits most m k s _ _ p q)
+
+  pub row_verdict_result_determined :
+      (single moving : Bool) (n len : ℕ) → Verdict (row_rules single moving n len s) (verdict_of x)
+      → Verdict (row_rules single moving n len s) (verdict_of y) → x ≡ y
+  row_verdict_result_determined single moving n len p q = verdict_of_injective x y (row_verdict_determined single moving n len s _ _ p q)
+
+-- of the fills, with one content of the buffer
+module _ (s : Source) (xs : List ℕ) (x y : Result Source Refusal) (ys zs : List ℕ) where
+  by_left : Same (left_of s x) (left_of s y) ys zs → Same x y ys zs
+  by_left w = record { answer = left_of_injective s x y w.answer; buffer = w.buffer }
+
+  pub one_word_result_determined : WordDrawn s xs (left_of s x) ys → WordDrawn s xs (left_of s y) zs → Same x y ys zs
+  one_word_result_determined p q = by_left (one_word_determined s xs _ _ ys zs p q)
+
+  pub one_coin_result_determined : CoinDrawn s xs (left_of s x) ys → CoinDrawn s xs (left_of s y) zs → Same x y ys zs
+  one_coin_result_determined p q = by_left (one_coin_determined s xs _ _ ys zs p q)
+
+  pub fill_flips_result_determined : FlipsFilled s xs (left_of s x) ys → FlipsFilled s xs (left_of s y) zs → Same x y ys zs
+  fill_flips_result_determined p q = by_left (fill_flips_determined s xs _ _ ys zs p q)
+
+  pub one_below_result_determined : (m : ℕ) → BelowDrawn m s xs (left_of s x) ys → BelowDrawn m s xs (left_of s y) zs → Same x y ys zs
+  one_below_result_determined m p q = by_left (one_below_determined s xs _ _ ys zs m p q)
+
+  pub fill_below_result_determined : (m : ℕ) → BelowFilled m s xs (left_of s x) ys → BelowFilled m s xs (left_of s y) zs → Same x y ys zs
+  fill_below_result_determined m p q = by_left (fill_below_determined s xs _ _ ys zs m p q)
+
+  pub fill_bytes_below_result_determined : (m : ℕ) → BytesFilled m s xs (left_of s x) ys → BytesFilled m s xs (left_of s y) zs → Same x y ys zs
+  fill_bytes_below_result_determined m p q = by_left (fill_bytes_below_determined s xs _ _ ys zs m p q)
+
+  pub wolff_greys_result_determined : GreysFilled s xs (left_of s x) ys → GreysFilled s xs (left_of s y) zs → Same x y ys zs
+  wolff_greys_result_determined p q = by_left (wolff_greys_determined s xs _ _ ys zs p q)
+
+  pub fill_numbers_result_determined : NumbersFilled s xs (left_of s x) ys → NumbersFilled s xs (left_of s y) zs → Same x y ys zs
+  fill_numbers_result_determined p q = by_left (fill_numbers_determined s xs _ _ ys zs p q)
+
+  pub wolff_numbers_result_determined : WolffNumbersFilled s xs (left_of s x) ys → WolffNumbersFilled s xs (left_of s y) zs → Same x y ys zs
+  wolff_numbers_result_determined p q = by_left (wolff_numbers_determined s xs _ _ ys zs p q)
+
+  pub one_permutation_result_determined : (m : ℕ) → PermutationDrawn m s xs (left_of s x) ys → PermutationDrawn m s xs (left_of s y) zs → Same x y ys zs
+  one_permutation_result_determined m p q = by_left (one_permutation_determined s xs _ _ ys zs m p q)
+
+  pub fill_permutations_result_determined : (m : ℕ) → PermutationsFilled m s xs (left_of s x) ys → PermutationsFilled m s xs (left_of s y) zs → Same x y ys zs
+  fill_permutations_result_determined m p q = by_left (fill_permutations_determined s xs _ _ ys zs m p q)
+
+  pub wolff_permutations_result_determined : (m : ℕ) → WolffFilled m s xs (left_of s x) ys → WolffFilled m s xs (left_of s y) zs → Same x y ys zs
+  wolff_permutations_result_determined m p q = by_left (wolff_permutations_determined s xs _ _ ys zs m p q)

@@ -56,7 +56,11 @@ pub fn shuffle(members: usize, s: Source) -> Result<Row, Refusal>
     for i in (1..members).rev() {
         let m = (i + 1) as u64;
         let d = number(64, m, small_limit(m), source)?;
-        row.swap(i, d.value as usize);
+        let j = d.value as usize;
+        // `swap` asks first whether the places differ, a jump that cannot be foreseen.
+        let x = row[i];
+        row[i] = row[j];
+        row[j] = x;
         source = d.source;
     }
     Ok(Row { row, source })

@@ -1,8 +1,10 @@
 -- What each public function's promise allows for one input is one answer and one content of the lent buffer.
-use Rattle.std.specs.Prelude.{ℕ, ◌≤◌, ◌≡◌, refl, List, ◌∷◌, ◌++◌, length, drop, ℤ}
+use Rattle.std.specs.Prelude.{ℕ, ◌≤◌, ◌≡◌, refl, List, ◌∷◌, ◌++◌, length, drop, ℤ, Option}
 use Rattle.std.proofs.Common.{sym, ◌∙◌, ap, arith, length-drop}
 use Rattle.edge_text.specs.declared.Edge.{Edge}
-use Rattle.edge_text.specs.Outcome.{Number}
+use Rattle.edge_text.specs.declared.Parsed.{Parsed}
+use Rattle.edge_text.specs.declared.ParsedLine.{ParsedLine}
+use Rattle.edge_text.specs.Outcome.{Number, number_found, number_found_injective, line_found, line_found_injective}
 use Rattle.edge_text.specs.Outcome.Number.{At, Bad}
 use Rattle.edge_text.specs.Outcome.{Line}
 use Rattle.edge_text.specs.Outcome.Line.{Good, None}
@@ -45,6 +47,14 @@ head_determined t n most (At m e) (At k f) p q = go (same_number refl (begins m 
 head_determined t n most (At m e) Bad p q = absurd (q m _ p.few p.is)
 head_determined t n most Bad (At k f) p q = absurd (p k _ q.few q.is)
 head_determined t n most Bad Bad p q = refl
+
+-- and one result of each function
+pub line_result_determined : (t : List ℕ) (a n : ℕ) (r r' : Option ParsedLine) → LineAs t a n (line_found r) → LineAs t a n (line_found r') → r ≡ r'
+line_result_determined t a n r r' p q = line_found_injective r r' (line_determined t a n (line_found r) (line_found r') p q)
+
+pub head_result_determined : (t : List ℕ) (n most : ℕ) (r r' : Option Parsed) → HeadAs t n most (number_found r) → HeadAs t n most (number_found r')
+    → r ≡ r'
+head_result_determined t n most r r' p q = number_found_injective r r' (head_determined t n most (number_found r) (number_found r') p q)
 
 -- ---- writing
 pub record SamePut (r r' : ℕ) (y y' : List ℕ) : Type 0 where

@@ -83,12 +83,16 @@ impl Neighbours<'_> {
     }
 }
 
-// No coupling is too large in size.
+// No coupling is too large in size. One pass without an exit, which the compiler makes vector code of.
 pub(crate) fn all_small(cells: &[u32], m: usize) -> bool
     requires { m ≤ length cells.now }
     ensures { Tells result (SmallCodes m cells.now) }
 {
-    cells[..m].iter().all(|&code| code < 2000002)
+    let mut ok = true;
+    for &code in &cells[..m] {
+        ok &= code < 2000002;
+    }
+    ok
 }
 
 fn decode(x: u32) -> i32

@@ -16,11 +16,20 @@ enum Verdict {
 }
 
 // A byte that is no digit reads as 0.
-fn number(digits: &[u8]) -> usize {
-    let value = |digit: u8| char::from(digit).to_digit(10).unwrap_or(0) as usize;
-    digits.iter().fold(0usize, |number, &digit| {
-        number.saturating_mul(10).saturating_add(value(digit))
-    })
+fn value(digit: u8) -> usize
+    ensures { result ≤ 9 }
+{
+    char::from(digit).to_digit(10).unwrap_or(0) as usize
+}
+
+fn number(digits: [u8; 5]) -> usize
+    ensures { result ≤ 99999 }
+{
+    let mut number = 0;
+    for &digit in &digits {
+        number = 10 * number + value(digit);
+    }
+    number
 }
 
 fn compare(text: &[u8], want: &[u8]) -> Verdict {
@@ -52,8 +61,9 @@ impl Room {
         if read_full(input, &mut head)? < head.len() {
             return Ok(None);
         }
-        let n = number(&head[..5]);
-        let m = number(&head[6..11]);
+        let [a, b, c, d, e, _, f, g, h, i, j, _] = head;
+        let n = number([a, b, c, d, e]);
+        let m = number([f, g, h, i, j]);
         if self.text.len() < n || self.want.len() < m {
             return Ok(Some(Verdict::Differs));
         }
@@ -65,7 +75,7 @@ impl Room {
     }
 }
 
-// Says which case differs, counted from 0. No input has more than a million cases.
+// Says which case differs, counted from 0. The count of turns makes the loop end, whatever the input.
 fn run_cases<R: Read>(rt: &impl Print, mut room: Room, input: &mut R) -> io::Result<()> {
     let mut agree = 0u32;
     let mut differ = 0u32;

@@ -1,15 +1,16 @@
 -- What each public function's promise allows for one input is one answer and one content of every lent buffer.
-use Rattle.std.specs.Prelude.{ℕ, ◌*◌, ◌≡◌, List, ◌++◌, map, drop}
+use Rattle.std.specs.Prelude.{ℕ, ◌*◌, ◌≡◌, List, ◌++◌, map, drop, Option, Result}
 use Rattle.std.proofs.Common.{sym, ◌∙◌, ap}
 use Rattle.paper.specs.declared.Group.{Group}
 use Rattle.paper.specs.Refusal.Rule.{broken_unique, broken_not_kept}
 use Rattle.paper.specs.Answer.Frame.{bytes, words, signed}
 use Rattle.frame_lines.specs.declared.Sizes.{Sizes}
+use Rattle.frame_lines.specs.declared.Shape.{Shape}
 use Rattle.frame_lines.specs.Outcome.{Found, Frames}
 use Rattle.frame_lines.specs.Outcome.Found.{Fault, Panel}
-use Rattle.frame_lines.specs.Outcome.{Written}
+use Rattle.frame_lines.specs.Outcome.{Written, written_of, written_of_injective}
 use Rattle.frame_lines.specs.Spelling.{line2, line3, line5, spelling_rules}
-use Rattle.frame_lines.specs.Reading.{Held, FoundAs, ReadAs}
+use Rattle.frame_lines.specs.Reading.{Held, FoundAs, ReadAs, frames_of, frames_of_injective}
 
 pub record SameRead (r r' : Frames) (a a' : Held) : Type 0 where
   pub answer : r ≡ r'
@@ -54,3 +55,17 @@ read_determined text b r r' a a' p q = read_same text b r.found r'.found r.group
 pub record SameWritten (w w' : Written) (a a' : List ℕ) : Type 0 where
   pub answer : w ≡ w'
   pub held : a ≡ a'
+
+-- and one result of each function
+pub record SameResult {A B : Type 0} (x y : A) (a a' : B) : Type 0 where
+  pub result : x ≡ y
+  pub held : a ≡ a'
+
+pub read_result_determined : (text : List ℕ) (b : Held) (x y : Result Shape ℕ) (a a' : Held) → ReadAs text b (frames_of x) a
+    → ReadAs text b (frames_of y) a' → SameResult x y a a'
+read_result_determined text b x y a a' p q =
+    let s = read_determined text b (frames_of x) (frames_of y) a a' p q in record { result = frames_of_injective x y s.answer; held = s.held }
+
+-- of those that write
+pub written_result : (x y : Option ℕ) (a a' : List ℕ) → SameWritten (written_of x) (written_of y) a a' → SameResult x y a a'
+written_result x y a a' s = record { result = written_of_injective x y s.answer; held = s.held }

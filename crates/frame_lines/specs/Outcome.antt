@@ -1,5 +1,6 @@
 -- What reading and its steps find and what becomes of an answer, as the promises tell it apart.
-use Rattle.std.specs.Prelude.{ℕ, Option, Some, None, Result, Ok, Err}
+use Rattle.std.specs.Prelude.{ℕ, ◌≡◌, refl, Option, Some, None, Result, Ok, Err}
+use Rattle.std.proofs.Common.{sym, ◌∙◌, ap}
 use Rattle.frame_lines.specs.declared.FrameLine.{FrameLine}
 use Rattle.frame_lines.specs.declared.Places.{Places}
 use Rattle.frame_lines.specs.declared.Sizes.{Sizes}
@@ -23,6 +24,18 @@ pub data Written : Type 0 where
 abbrev pub written_of : Option ℕ → Written
 written_of (Some m) = Wrote m
 written_of None = NoRoom
+
+-- each answer is of one result
+abbrev of_written : Written → Option ℕ
+of_written (Wrote m) = Some m
+of_written NoRoom = None
+
+written_again : (a : Option ℕ) → of_written (written_of a) ≡ a
+written_again (Some m) = refl
+written_again None = refl
+
+pub written_of_injective : (a b : Option ℕ) → written_of a ≡ written_of b → a ≡ b
+written_of_injective a b e = sym (written_again a) ∙ (ap of_written e ∙ written_again b)
 
 -- a text: refused with a number, or its lines have these places
 pub data Scanned : Type 0 where

@@ -1,5 +1,6 @@
 -- What reading a text answers and leaves in the lent buffers.
-use Rattle.std.specs.Prelude.{ℕ, ◌*◌, ◌≤◌, ◌≡◌, List, [], ◌++◌, map, drop, replicate, ℤ, Result, Ok, Err}
+use Rattle.std.specs.Prelude.{ℕ, ◌*◌, ◌≤◌, ◌≡◌, refl, List, [], ◌++◌, map, drop, replicate, ℤ, Result, Ok, Err}
+use Rattle.std.proofs.Common.{sym, ◌∙◌, ap}
 use Rattle.paper.specs.declared.Group.{Group}
 use Rattle.paper.specs.Refusal.Rule.{Broken}
 use Rattle.paper.specs.Refusal.Verdict.{Verdict}
@@ -38,6 +39,21 @@ no_group = record { len = 0; systems = replicate 8 0 }
 abbrev pub frames_of : Result Shape ℕ → Frames
 frames_of (Ok shape) = record { found = Panel shape.sizes; group = shape.group }
 frames_of (Err r) = record { found = Fault r; group = no_group }
+
+-- each answer is of one result
+abbrev of_found : Found → Group → Result Shape ℕ
+of_found (Panel z) g = Ok (record { sizes = z; group = g })
+of_found (Fault r) g = Err r
+
+abbrev of_frames : Frames → Result Shape ℕ
+of_frames f = of_found f.found f.group
+
+frames_again : (a : Result Shape ℕ) → of_frames (frames_of a) ≡ a
+frames_again (Ok shape) = refl
+frames_again (Err r) = refl
+
+pub frames_of_injective : (a b : Result Shape ℕ) → frames_of a ≡ frames_of b → a ≡ b
+frames_of_injective a b e = sym (frames_again a) ∙ (ap of_frames e ∙ frames_again b)
 
 -- the first broken rule has the number r, and nothing is written
 pub record Misread (text : List ℕ) (b : Held) (r : ℕ) (g : Group) (a : Held) : Type 0 where

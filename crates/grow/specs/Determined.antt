@@ -6,8 +6,9 @@ use Rattle.lemmas.specs.Bools.{never}
 use Rattle.lemmas.specs.Counts.{count_where}
 use Rattle.lemmas.specs.Determined.{clear_determined}
 use Rattle.lemmas.specs.Places.{Placed}
-use Rattle.paper.specs.Answer.Cases.{Answer, Answer.Refused, Answer.Idle, Answer.Held, Answer.Moved}
+use Rattle.paper.specs.Answer.Cases.{Answer, Answer.Refused, Answer.Idle, Answer.Held, Answer.Moved, answer_by, answer_by_injective}
 use Rattle.paper.specs.declared.Group.{Group}
+use Rattle.paper.specs.declared.Outcome.{Outcome}
 use Rattle.paper.specs.declared.Task.{Task}
 use Rattle.paper.specs.Panel.Input.{Lattice, Call, Choices, graph}
 use Rattle.paper.specs.Site.Bonds.{holds}
@@ -20,6 +21,7 @@ use Rattle.totals.specs.Contract.{Bringable}
 use Rattle.totals.specs.Determined.{brought_determined}
 use Rattle.turn.specs.Turned.{ListWritten}
 use Rattle.turn.specs.Determined.{write_listed_determined}
+use Rattle.grow.specs.declared.Found.{Found}
 use Rattle.grow.specs.Listed.{is_in, site_at, Listed}
 use Rattle.grow.specs.Kept.{Kept, Keeping}
 use Rattle.grow.specs.Contract.{Grew}
@@ -34,6 +36,15 @@ pub run_grow_determined :
     → Same a (with_outputs no_outputs ys m) a' (with_outputs no_outputs zs m')
 run_grow_determined c p xs ys zs members m m' a a' f g =
     determined c p (with_outputs no_outputs xs members) (with_outputs no_outputs ys m) (with_outputs no_outputs zs m') a a' (f no_outputs) (g no_outputs)
+
+-- and one result
+pub run_grow_result_determined :
+    (c : Call) (p : Choices) (xs ys zs : List ℤ) (members m m' : List ℕ) (a a' : Outcome)
+    → ((o : Outputs) → Answers c p (with_outputs o xs members) (answer_by a) (with_outputs o ys m))
+    → ((o : Outputs) → Answers c p (with_outputs o xs members) (answer_by a') (with_outputs o zs m'))
+    → a ≡ a'
+run_grow_result_determined c p xs ys zs members m m' a a' f g =
+    answer_by_injective a a' (run_grow_determined c p xs ys zs members m m' (answer_by a) (answer_by a') f g).answer
 
 pub run_grow_totals_determined :
     (keeping : Bool) (g : Lattice) (o : Group) (xs ts ys us vs : List ℤ)
@@ -133,3 +144,17 @@ module _ (t : Task) (c : Call) (xs : List ℤ) (m l cols : List ℕ) (blue len :
   find_determined Moved Held f g = absurd (f.grown.free g.grown.held)
   find_determined Held Held f g = same_grown refl f.grown.grew g.grown.grew f.kept g.kept
   find_determined Moved Moved f g = same_grown refl f.grown.grew g.grown.grew f.kept g.kept
+
+-- and one result
+pub find_result_determined :
+    (t : Task) (c : Call) (xs : List ℤ) (m l cols m' l' cols' : List ℕ) (a a' : Found)
+    → Keeping (Finds c xs m l (answer_by a.answer) a.blue a.len) t xs m cols
+    → Keeping (Finds c xs m' l' (answer_by a'.answer) a'.blue a'.len) t xs m' cols'
+    → a ≡ a'
+find_result_determined t c xs m l cols m' l' cols' a a' f g = λ i. record { answer = answer i; blue = same.blues i; len = same.number i }
+  where
+    same : SameFound m l cols (answer_by a.answer) a.blue a.len m' l' cols' (answer_by a'.answer) a'.blue a'.len
+    same = find_determined t c xs m l cols a.blue a.len m' l' cols' a'.blue a'.len (answer_by a.answer) (answer_by a'.answer) f g
+
+    answer : a.answer ≡ a'.answer
+    answer = answer_by_injective a.answer a'.answer same.answer

@@ -1,8 +1,11 @@
 -- What the public functions promise, they promise of one result.
 use Rattle.std.specs.Prelude.{ℕ, ◌<◌, ◌≡◌, refl, Bool, true, false, List, [], get_or, ℤ, Float}
 use Rattle.std.proofs.Common.{sym, ◌∙◌, ap, arith, ext_get_or}
+use Rattle.lemmas.specs.Determined.{one_value}
+use Rattle.paper.specs.declared.Form.{Form}
+use Rattle.paper.specs.declared.Outcome.{Outcome}
 use Rattle.paper.specs.declared.Task.{Task}
-use Rattle.paper.specs.Answer.Cases.{Answer, Answer.Refused, Answer.Idle, Answer.Held, Answer.Moved}
+use Rattle.paper.specs.Answer.Cases.{Answer, Answer.Refused, Answer.Idle, Answer.Held, Answer.Moved, answer_by, answer_by_injective}
 use Rattle.paper.specs.Panel.Input.{graph, Call, Choices, Buffers, pattern, size}
 use Rattle.paper.specs.Panel.Made.{call_of}
 use Rattle.paper.specs.Panel.Takes.{moves, takes_greys}
@@ -19,7 +22,7 @@ use Rattle.choose.specs.Determined.{becomes_determined, tally_free_determined}
 use Rattle.moves.specs.Tested.{ready}
 use Rattle.moves.specs.Rewritten.{rewritten, is_written}
 use Rattle.moves.specs.Steps.{ChooseAsks, ChooseLeaves}
-use Rattle.moves.specs.Leaves.{RunAsks, Beside, beside_of, RunLeaves}
+use Rattle.moves.specs.Leaves.{RunAsks, Beside, beside_of, changes, RunLeaves}
 use Rattle.moves.specs.Labelling.{TaskAsks, Foretells, TaskLeaves, TaskFor}
 
 -- ---- the label step
@@ -102,6 +105,24 @@ label_task_determined t fwd bwd pins couplings cuts cols _ _ _ _ _ _ _ _ _ _ _ k
     let w = k.label in
     task_same (u bwd w.rows w.tested w.columns) (u' bwd w.rows w.tested w.columns)
 
+-- and one result
+pub label_task_result_determined :
+    (t : Task) (fwd pins : List ℕ) (couplings : List ℤ) (cuts : List Float)
+    (cols flags₀ holding grey tally₀ greyTally₀ labels grey_labels counts sizes found grey_found : List ℕ)
+    → TaskAsks t fwd pins couplings cuts cols flags₀ holding grey tally₀ greyTally₀ labels grey_labels counts sizes found grey_found
+    → (a a' : Outcome) (flags tally greyTally l g q s f h flags' tally' greyTally' l' g' q' s' f' h' : List ℕ)
+    → TaskFor t fwd pins couplings cuts cols (beside_of labels grey_labels counts sizes found grey_found) flags tally greyTally (beside_of l g q s f h)
+    (answer_by a)
+    → TaskFor t fwd pins couplings cuts cols (beside_of labels grey_labels counts sizes found grey_found) flags' tally' greyTally'
+    (beside_of l' g' q' s' f' h') (answer_by a')
+    → a ≡ a'
+label_task_result_determined t fwd pins couplings cuts cols flags₀ holding grey tally₀ greyTally₀ labels grey_labels counts sizes found grey_found k a a'
+    flags tally greyTally l g q s f h flags' tally' greyTally' l' g' q' s' f' h' u u' =
+    let same =
+    label_task_determined t fwd [] pins couplings cuts cols flags₀ holding grey tally₀ greyTally₀ labels grey_labels counts sizes found grey_found k
+    (answer_by a) (answer_by a') flags tally greyTally l g q s f h flags' tally' greyTally' l' g' q' s' f' h' u u' in
+    answer_by_injective a a' same.answer
+
 -- ---- the choose step
 pub choose_task_determined :
     (t : Task) (choices greys flags labels tally grey_labels greyTally reached cols new new' : List ℕ)
@@ -111,6 +132,10 @@ pub choose_task_determined :
     → new ≡ new'
 choose_task_determined t choices greys flags labels tally grey_labels greyTally reached cols new new' k u u' =
     becomes_determined _ cols new new' (u k.pins k.tallied (λ e. (k.greyable e).tallied)) (u' k.pins k.tallied (λ e. (k.greyable e).tallied))
+
+-- ---- whether columns may have changed
+pub changed_determined : (f : Form) (o : Outcome) (a b : Bool) → a ≡ changes f (answer_by o) → b ≡ changes f (answer_by o) → a ≡ b
+changed_determined f o a b = one_value
 
 -- ---- the two as one
 
@@ -168,3 +193,17 @@ module _
         grey_found = z.grey_found;
       }) same.buffers;
     }
+
+-- and one result
+pub run_columns_result_determined :
+    (c : Call) (p : Choices) (cols news labels grey_labels counts sizes found grey_found : List ℕ)
+    → RunAsks c p cols news labels grey_labels counts sizes found grey_found
+    → (a a' : Outcome) (new l g q s f h new' l' g' q' s' f' h' : List ℕ)
+    → RunLeaves c p cols (beside_of labels grey_labels counts sizes found grey_found) (answer_by a) new (beside_of l g q s f h)
+    → RunLeaves c p cols (beside_of labels grey_labels counts sizes found grey_found) (answer_by a') new' (beside_of l' g' q' s' f' h')
+    → a ≡ a'
+run_columns_result_determined c p cols news labels grey_labels counts sizes found grey_found k a a' new l g q s f h new' l' g' q' s' f' h' u u' =
+    let same =
+    run_columns_determined c p cols news labels grey_labels counts sizes found grey_found k (answer_by a) (answer_by a') new l g q s f h new' l' g' q' s' f'
+    h' u u' [] [] in
+    answer_by_injective a a' same.answer

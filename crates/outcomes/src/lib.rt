@@ -2,10 +2,10 @@
 #![tactic(auto)]
 
 ghost use Rattle.std.specs.Prelude.{◌≡◌};
-ghost use Rattle.paper.specs.Answer.Cases.{SweepAnswer.Swept, answer_by, sweep_answer_by};
+ghost use Rattle.paper.specs.Answer.Cases.{SweepAnswer.Swept, answer_of, sweep_answer_by};
 ghost use Rattle.outcomes.specs.Adding.{Growable, Added};
 
-use paper::{Counts, Outcome};
+use paper::{Counts, Outcome, Refusal};
 
 // How many tasks were idle so far, how many moved, and how many were held.
 #[derive(Clone, Copy, PartialEq, Eq, Debug)]
@@ -15,20 +15,22 @@ pub struct Outcomes {
     pub held: u32,
 }
 
-pub fn add(outcomes: Outcomes, answer: Outcome) -> Outcomes
+// A refusal counts nowhere.
+pub fn add(outcomes: Outcomes, answer: Result<Outcome, Refusal>) -> Outcomes
     requires { Growable outcomes }
-    ensures { Added outcomes (answer_by answer) result }
+    ensures { Added outcomes (answer_of answer) result }
 {
     match answer {
-        Outcome::Idle => Outcomes {
+        Err(_) => outcomes,
+        Ok(Outcome::Idle) => Outcomes {
             idle: outcomes.idle + 1,
             ..outcomes
         },
-        Outcome::Held => Outcomes {
+        Ok(Outcome::Held) => Outcomes {
             held: outcomes.held + 1,
             ..outcomes
         },
-        Outcome::Moved => Outcomes {
+        Ok(Outcome::Moved) => Outcomes {
             moved: outcomes.moved + 1,
             ..outcomes
         },

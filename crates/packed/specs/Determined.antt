@@ -1,7 +1,9 @@
 -- A promise allows one answer, one content of the bytes, of every other buffer and of the totals.
-use Rattle.std.specs.Prelude.{ℕ, ◌≤◌, ◌≡◌, Bool, List, length, ℤ}
+use Rattle.std.specs.Prelude.{ℕ, ◌≤◌, ◌≡◌, Bool, List, [], length, Result, ℤ}
 use Rattle.std.proofs.Common.{sym, ◌∙◌, ap, subst, arith}
-use Rattle.paper.specs.Answer.Cases.{Answer, Answer.Refused, Answer.Idle, Answer.Held, Answer.Moved}
+use Rattle.paper.specs.declared.Refusal.{Refusal}
+use Rattle.paper.specs.declared.Outcome.{Outcome}
+use Rattle.paper.specs.Answer.Cases.{Answer, Answer.Refused, Answer.Idle, Answer.Held, Answer.Moved, answer_of, answer_of_injective}
 use Rattle.paper.specs.Panel.Input.{Call, Choices, Buffers, size}
 use Rattle.paper.specs.Answer.Move.{Accepted, Accepted.idle, Accepted.held, Accepted.moved}
 use Rattle.paper.specs.Answer.Totals.{KeepAnswers}
@@ -57,3 +59,15 @@ module _
       buffers = ap (λ (z : Buffers). with_spins z xs') same.buffers;
       totals = same.totals;
     }
+
+-- and one result
+pub packed_step_result_determined :
+    (keeping : Bool) (c : Call) (p : Choices) (xs ys zs l g q s e f h l₁ g₁ q₁ s₁ e₁ f₁ h₁ l₂ g₂ q₂ s₂ e₂ f₂ h₂ : List ℕ) (ts us vs : List ℤ)
+    (a a' : Result Outcome Refusal)
+    → PackedAnswers keeping c p xs (lent_of l g q s e f h) ts (answer_of a) ys (lent_of l₁ g₁ q₁ s₁ e₁ f₁ h₁) us
+    → PackedAnswers keeping c p xs (lent_of l g q s e f h) ts (answer_of a') zs (lent_of l₂ g₂ q₂ s₂ e₂ f₂ h₂) vs
+    → a ≡ a'
+packed_step_result_determined keeping c p xs ys zs l g q s e f h l₁ g₁ q₁ s₁ e₁ f₁ h₁ l₂ g₂ q₂ s₂ e₂ f₂ h₂ ts us vs a a' w v =
+    let same =
+    packed_step_determined keeping c p xs ys zs l g q s e f h l₁ g₁ q₁ s₁ e₁ f₁ h₁ l₂ g₂ q₂ s₂ e₂ f₂ h₂ ts us vs (answer_of a) (answer_of a') w v [] in
+    answer_of_injective a a' same.answer

@@ -4,9 +4,11 @@ use Rattle.lemmas.specs.Determined.{one_value}
 use Rattle.paper.specs.declared.Mode.{Mode}
 use Rattle.paper.specs.declared.Form.{Form}
 use Rattle.paper.specs.declared.Keeps.{Keeps}
+use Rattle.paper.specs.declared.Refusal.{Refusal}
 use Rattle.paper.specs.declared.Sampler.{Sampler}
 use Rattle.paper.specs.Panel.Takes.{is_houd, is_perm, is_gperm, is_cmr, is_drawn, is_sw, one_cluster, grows_by, labels_by, moves, flips_by, perms_by, choices_by, greys_by}
 use Rattle.paper.specs.Panel.Takes.{grey_labels_by, keeps_by, entries, choice_width}
+use Rattle.paper.specs.Refusal.Numbers.{number_of}
 use Rattle.paper.specs.Site.Bonds.{sampler_of}
 
 pub new_determined : (t : Float) (a b : Sampler) → a ≡ sampler_of t → b ≡ sampler_of t → a ≡ b
@@ -65,3 +67,6 @@ entries_determined f n a b = one_value
 
 pub totals_determined : (k : Keeps) (f : Form) (a b : Bool) → a ≡ keeps_by k f → b ≡ keeps_by k f → a ≡ b
 totals_determined k f a b = one_value
+
+pub number_determined : (e : Refusal) (a b : ℕ) → a ≡ number_of e → b ≡ number_of e → a ≡ b
+number_determined e a b = one_value

@@ -19,16 +19,14 @@ use outputs::Played;
 use reader::Reader;
 use std::alloc::Global;
 use std::io;
+use std::io::Read;
 use tally::Tally;
 
-// A text of so many bytes is too long for any list.
-const LONGEST: usize = 131072;
+// A text that fills two parts of so many bytes is too long for any list.
+const PART: usize = 65536;
 
 // Nothing may stand behind the last case.
 fn replay(alloc: Global, text: &[u8]) -> Result<Tally, BadList> {
-    if text.len() == LONGEST {
-        return Err(BadList::Long);
-    }
     let bytes = digits::decode(alloc, text)?;
     let mut list = Reader::new(&bytes);
     let mut tally = Tally::new();
@@ -45,11 +43,24 @@ fn replay(alloc: Global, text: &[u8]) -> Result<Tally, BadList> {
     }
 }
 
+// The whole text; none where it fills both parts. The second is read even where the first met an end: a terminal's input may go on behind it.
+fn read_text<R: Read>(alloc: Global, input: &mut R) -> io::Result<Option<Vec<u8>>> {
+    let mut part = vec![in alloc; 0u8; PART]?;
+    let mut text = Vec::with_capacity(alloc, 2 * PART)?;
+    let first = read_full(input, &mut part)?;
+    text.extend_from_slice(&part[..first])?;
+    let second = read_full(input, &mut part)?;
+    text.extend_from_slice(&part[..second])?;
+    Ok(if second == PART { None } else { Some(text) })
+}
+
 fn main(rt: HostRuntime) -> io::Result<()> {
     let alloc = rt.alloc();
-    let mut text = vec![in alloc; 0u8; LONGEST]?;
-    let length = read_full(&mut rt.stdin(), &mut text)?;
-    match replay(alloc, &text[..length]) {
+    let replayed = match read_text(alloc, &mut rt.stdin())? {
+        Some(text) => replay(alloc, &text),
+        None => Err(BadList::Long),
+    };
+    match replayed {
         Ok(tally) => print!(rt; "{tally}"),
         Err(BadList::Memory(error)) => Err(io::Error::from(error)),
         Err(error) => println!(rt; "bad list: {error}"),

@@ -88,7 +88,7 @@ fn step(
         &mut found[number.start..number.end],
         &mut grey_found[grey_number.start..grey_number.end],
     );
-    add(outcomes, answer)
+    add(outcomes, Ok(answer))
 }
 
 // All tasks of a sweep that has been tested.

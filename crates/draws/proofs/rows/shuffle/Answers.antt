@@ -1,8 +1,7 @@
 -- `shuffle` meets its contract. The invariant: the places below i, exchanged in the present row, make the permutation of the lent source.
 use Rattle.std.specs.Prelude.{Ok, Err}
-use Rattle.std.proofs.Common.{◌≡◌, ℕ, ◌+◌, ◌-◌, ◌<◌, [], ◌∷◌, length, sym, refl, ap, ◌∙◌, arith}
+use Rattle.std.proofs.Common.{◌≡◌, ℕ, ◌+◌, ◌-◌, [], ◌∷◌, sym, refl, ap, ◌∙◌, arith}
 use Rattle.std.proofs.lemmas.Grind.{common_steps}
-use Rattle.std.proofs.lemmas.List.Edits.{swap_is}
 use Rattle.paper.specs.declared.Refusal.{Refusal}
 use Rattle.draws.specs.Answer.{drawn_of}
 use Rattle.draws.specs.Rows.{drawn_row, shuffled}
@@ -19,17 +18,17 @@ returns-in_err-d c = let h = c.loop-i in
     (ap (λ (x : ℕ). drawn_row x (0 ∷ 0 ∷ 0 ∷ 0 ∷ 0 ∷ 0 ∷ 0 ∷ 0 ∷ []) c.args.s) (sym (number_twelve (h.i - 1 + 1) h.source e c.in_err-d.ensures))
     ∙ (place_refused c.args.s h.row h.source (h.i - 1) (drawn_of h.source (Err e)) (omega arith) c.in_err-d.ensures (not_zero e) ∙ h.invariant))
 
-pub swap-requires-clause-b_in_bounds : goal.swap-requires-clause-b_in_bounds
-swap-requires-clause-b_in_bounds c = let h = c.loop-i in
+pub bounds-row-j : goal.bounds-row-j
+bounds-row-j c = let h = c.loop-i in
+    omega (arith, drawn_below (h.i - 1 + 1) h.source (drawn_of h.source (Ok c.in_ok-d.d)) c.in_ok-d.ensures (omega arith))
+
+pub bounds-row-j-in-loop-i : goal.bounds-row-j-in-loop-i
+bounds-row-j-in-loop-i c = let h = c.loop-i in
     omega (arith, drawn_below (h.i - 1 + 1) h.source (drawn_of h.source (Ok c.in_ok-d.d)) c.in_ok-d.ensures (omega arith))
 
 pub loop-i-preserved : goal.loop-i-preserved
 loop-i-preserved c = let h = c.loop-i in
-    let j = c.in_ok-d.d.value in
-    let d = drawn_of h.source (Ok c.in_ok-d.d) in
-    let low : j < length h.row = omega (arith, drawn_below (h.i - 1 + 1) h.source d c.in_ok-d.ensures (omega arith)) in
-    rw (c.swap.ensures.after, ← swap_is h.row (h.i - 1) j 0 (omega arith) low)
-    (place_done c.args.s h.row h.source (h.i - 1) d (omega arith) c.in_ok-d.ensures refl ∙ h.invariant)
+    place_done c.args.s h.row h.source (h.i - 1) (drawn_of h.source (Ok c.in_ok-d.d)) (omega arith) c.in_ok-d.ensures refl ∙ h.invariant
 
 pub returns : goal.returns
 unfolding shuffled
