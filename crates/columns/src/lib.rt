@@ -123,7 +123,7 @@ pub fn column_at(spins: &[i8], n: usize, group: Group, i: usize) -> u8
 }
 
 // The same, quicker for two members, the most common group: which places it has is not asked. Apart, so that each of the two stays small enough for
-// the compiler to make it a part of the code that asks; a call for each member of a grown cluster costs a third of the step that chooses.
+// the compiler to make it a part of the code that asks; without the hint it may be called for each member of a grown cluster.
 #[inline(always)]
 pub fn quick_column_at(spins: &[i8], n: usize, group: Group, i: usize) -> u8
     requires { SiteIn n group spins.now i }

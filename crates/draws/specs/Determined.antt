@@ -144,9 +144,15 @@ write_one_determined {T} Draws f = write_determined Draws (λ t. (f.some t).0) (
 abbrev pub Gives : (Source → Drawn) → Source → ℕ × Source → Type 0
 Gives d t r = (r.0 ≡ (d t).value) × (r.1 ≡ (d t).source)
 
+pub gives_one_each : (d : Source → Drawn) → OneEach (Gives d)
+gives_one_each d = record { some = λ t. ((d t).value, (d t).source); allowed = λ t. (refl, refl); one = equal }
+  where
+    equal : (t : Source) (r q : ℕ × Source) → Gives d t r → Gives d t q → r ≡ q
+    equal t r q k l = ap (λ (x : ℕ). (x, r.1)) (one_value k.0 l.0) ∙ ap (λ (u : Source). (q.0, u)) (one_value k.1 l.1)
+
 pub write_draws_determined :
     (d : Source → Drawn) (s u v : Source) (xs ys zs : List ℕ) → DrawnInto (Gives d) s xs u ys → DrawnInto (Gives d) s xs v zs → SameDrawn u v ys zs
-write_draws_determined d = write_determined (Gives d) (λ t. (d t).value) (go_on d) (λ t r k. k)
+write_draws_determined d = write_one_determined (Gives d) (gives_one_each d)
 
 -- a fill has one number, one source and one content
 module _ (rs : List Rule) (at : ℕ → ℕ) (t s : Source) (xs : List ℕ) where

@@ -26,7 +26,8 @@ fn is_digit(a: u8) -> bool
     matches!(a, b'0'..=b'9' | b'a'..=b'f')
 }
 
-// Where the digits that begin at a place end.
+// Where the digits that begin at a place end. Kept a function: as a part of the code that asks, the loop would count up in memory all that is made of the end.
+#[inline(never)]
 pub fn digits_end(text: &[u8], at: usize) -> usize
     requires { at ≤ length text.now }
     ensures { DigitsEnd text.now at result }

@@ -9,6 +9,7 @@ use lemmas::wide;
 use paper::{Group, Task};
 
 // What the cluster's choice makes of a member's column.
+#[inline(always)]
 fn act_column(t: Task, gauge: u8, choices: &[u8], column: u8) -> u8
     requires { Chooses t choices.now }
     ensures { result ≡ choice_column t.mode t.form t.group.len gauge choices.now 0 column }
@@ -21,7 +22,9 @@ fn act_column(t: Task, gauge: u8, choices: &[u8], column: u8) -> u8
     column_rules::flip_group_site(column, group, mode)
 }
 
-// A member's new column: where it acts the cluster's choice is made, and in CMR then the grey flips.
+// A member's new column: where it acts the cluster's choice is made, and in CMR then the grey flips. Without the two hints it, or the choice, may be called
+// for each member of a grown cluster, with a copy of the task each time.
+#[inline(always)]
 pub fn turned_column(t: Task, gauge: u8, choices: &[u8], greys: &[u8], acts: bool, column: u8) -> u8
     requires { Turns t choices.now greys.now column }
     ensures { result ≡ turned_column t gauge choices.now greys.now acts column }
