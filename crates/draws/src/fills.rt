@@ -46,7 +46,7 @@ pub fn one_coin(source: Source, coin: &mut [u8]) -> Result<Source, Refusal>
     flips_if(coin.len() == 1, source, coin)
 }
 
-// A call of its own would cost a single draw a third of its time.
+// A call of its own would cost a single draw half of its instructions again.
 #[inline(always)]
 fn below_if(fits: bool, source: Source, m: u32, numbers: &mut [u32]) -> Result<Source, Refusal>
     ensures { FillsBy (number m)
